@@ -8,12 +8,12 @@ ghost use Rattle.answer.specs.Answer.{pick};
 ghost use Rattle.common.specs.Fields.{signedAt};
 ghost use Rattle.common.specs.Numbers.{unsignedAt, numberSaid, saidVariant, saidSize, numericAt, wideAt, sizeAt, prefixes};
 ghost use Rattle.answer.specs.Tables.{find};
-use answer::Refusal;
 use crate::field;
+use crate::field::Read8;
 use crate::field::Read16;
 use crate::field::Read32;
 use crate::field::Read64;
-use crate::field::Read8;
+use answer::Refusal;
 
 // A number from -2^63 to 2^64 - 1: n, or -1 - n. Each number has one form.
 pub enum Number {
