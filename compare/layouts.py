@@ -1,0 +1,262 @@
+"""Type records by the layouts of document 01, as lines of PROTOCOL.md, with the known reasons why the crate may differ.
+
+compare.py uses this to excuse a difference: the port's answer must be the line worked out here, and at least one reason must have been met on
+the way. A reason is the name of a line of docs/DIFFERENCES.md. This is a second reading of 01, written apart from the Rattle sources and from
+the Rust. It is a test tool and no definition: what is proved is proved of the definitions in specs/.
+"""
+
+
+class Refused(Exception):
+    """A refusal: document 01's number, then its details."""
+
+
+# The table. T type index, O optional one, N numeric leaf, V one that may be negative, S string, S2 second string where properties has 0x0200,
+# A field attributes, M u32 where the method property is 4 or 6; u8, u16, u32 plain. "_" in front of a name: read and not shown.
+CLASS = "count:u16 props:u16 fields:O derived:O shape:O size:N name:S unique:S2"
+RECORDS = {
+    0x1001: "t:T flags:u16",
+    0x1002: "t:T word:u32 class:C",
+    0x1008: "ret:O attrs:u16 count:u16 args:T",
+    0x1009: "ret:T class:T this:O attrs:u16 count:u16 args:T adjust:u32",
+    0x1205: "t:T len:u8 pos:u8",
+    0x1503: "elem:T idx:T size:N name:S",
+    0x1504: CLASS,
+    0x1505: CLASS,
+    0x1519: CLASS,
+    0x1609: "props:half fields:O derived:O shape:O count:u16 size:N name:S unique:S2",
+    0x1506: "count:u16 props:u16 fields:T size:N name:S unique:S2",
+    0x1507: "count:u16 props:u16 t:T fields:T name:S unique:S2",
+    0x000a: "count:u16 bytes:B",
+}
+MEMBERS = {
+    0x1400: "a:A t:T off:N",
+    0x1401: "a:A t:T p:T off:N voff:N",
+    0x1402: "a:A t:T p:T off:N voff:N",
+    0x1404: "_pad:u16 t:T",
+    0x1409: "_pad:u16 t:T",
+    0x1502: "a:A v:V name:S",
+    0x150d: "a:A t:T off:N name:S",
+    0x150e: "a:A t:T name:S",
+    0x150f: "count:u16 t:T name:S",
+    0x1510: "a:A t:T name:S",
+    0x1511: "a:A t:T voff:M name:S",
+}
+METHOD = "a:A _pad:u16 t:T voff:M"
+KINDS = {0x1504: "Class", 0x1505: "Struct", 0x1609: "Struct", 0x1519: "Interface"}
+SHOWN = {0x1609: "count props fields derived shape size name unique".split()}
+LISTS = (0x1201, 0x1203, 0x1206)
+
+# Leaves that the crate takes and 01 does not, or takes elsewhere.
+NEWER = (0x1512, 0x151a, 0x1516)
+LENGTH_BYTE = (0x0403, 0x1003, 0x1004, 0x1005, 0x1006, 0x1007, 0x1405, 0x1406, 0x1407, 0x1408, 0x140b, 0x140d)
+
+NUMBERS = {0x8000: (1, True), 0x8001: (2, True), 0x8002: (2, False), 0x8003: (4, True), 0x8004: (4, False), 0x8009: (8, True), 0x800a: (8, False)}
+
+
+class Reader:
+    """Bytes, a place in them, and the reasons met."""
+
+    def __init__(self, data, at=0):
+        self.data, self.at, self.why = data, at, set()
+
+    def take(self, n):
+        if len(self.data) - self.at < n:
+            raise Refused(1)
+        self.at += n
+        return self.data[self.at - n:self.at]
+
+    def u(self, n):
+        return int.from_bytes(self.take(n), "little")
+
+    def string(self):
+        end = self.data.find(0, self.at)
+        if end < 0:
+            raise Refused(1)
+        shown = f"{self.at}+{end - self.at}"
+        self.at = end + 1
+        return shown
+
+    def padding(self):
+        while self.at < len(self.data) and self.data[self.at] >= 0xf0:
+            self.take(max(1, self.data[self.at] % 16))
+
+    def number(self, may_be_negative):
+        prefix = self.u(2)
+        if prefix < 0x8000:
+            return prefix
+        if prefix not in NUMBERS:
+            raise Refused(11)
+        width, signed = NUMBERS[prefix]
+        if signed and prefix != 0x8000 and not may_be_negative:
+            self.why.add("signed-size")
+        value = int.from_bytes(self.take(width), "little", signed=signed)
+        if value < 0 and prefix == 0x8000:
+            self.why.add("byte-number")
+        if value < 0 and not may_be_negative:
+            raise Refused(11)
+        return value
+
+    def fields(self, leaf, layout):
+        """The named values in the order of the layout."""
+        got = {}
+        for part in layout.split():
+            name, kind = part.split(":")
+            if kind in ("u8", "u16", "u32"):
+                got[name] = self.u(int(kind[1:]) // 8)
+                if leaf == 0x1002 and name == "word":
+                    self.pointer_word(got[name])
+            elif kind == "half":
+                got[name] = self.u(4) % 65536
+            elif kind == "A":
+                got[name] = self.u(2)
+                if leaf == 0x1510 and got[name] != 0:
+                    self.why.add("nested-word")
+            elif kind == "T":
+                got[name] = self.u(4)
+            elif kind == "O":
+                index = self.u(4)
+                got[name] = "-" if index in (0, 0xffff) else index
+            elif kind == "C":
+                got[name] = "-"
+                if got["word"] // 32 % 8 in (2, 3):
+                    index = self.u(4)
+                    if index in (0, 0xffff):
+                        self.why.add("pointer-class")
+                    else:
+                        got[name] = index
+            elif kind in ("N", "V"):
+                got[name] = self.number(kind == "V")
+                if leaf in (0x1400, 0x1401, 0x1402) and got[name] >= 2 ** 32:
+                    self.why.add("base-offset")
+                if leaf == 0x1503:
+                    self.array(got[name])
+            elif kind == "S":
+                got[name] = self.string()
+            elif kind == "S2":
+                got[name] = self.string() if got["props"] // 0x200 % 2 else "-"
+            elif kind == "M":
+                got[name] = self.u(4) if got["a"] // 4 % 8 in (4, 6) else "-"
+            elif kind == "B":
+                n = (got["count"] + 1) // 2
+                self.take(n)
+                got[name] = f"{self.at - n}+{n}"
+        return got
+
+    def pointer_word(self, word):
+        bad = False
+        if word % 32 > 12:
+            self.why.add("pointer-kind")
+            bad = True
+        if word // 32 % 8 > 4:
+            self.why.add("pointer-mode")
+            bad = True
+        if bad:
+            raise Refused(12)
+
+    def array(self, size):
+        """Whether the crate's reading of an array, dimensions up to a zero byte and then padding to the end, can differ."""
+        if size >= 2 ** 32:
+            self.why.add("array-size")
+        rest = self.data[self.at:]
+        if rest[:1] not in (b"", b"\0"):
+            self.why.add("array-name")
+        elif rest:
+            after = Reader(rest, 1)
+            try:
+                after.padding()
+                if after.at != len(rest):
+                    self.why.add("array-after")
+            except Refused:
+                self.why.add("array-after")
+
+
+def shown(leaf, got):
+    """`name=value` for each field, in the order of the protocol."""
+    if leaf == 0x1001:
+        f = got["flags"]
+        return f"t={got['t']} const={f % 2} volatile={f // 2 % 2} unaligned={f // 4 % 2}"
+    names = SHOWN.get(leaf, [n for n in got if n[0] != "_"])
+    return " ".join(([f"kind={KINDS[leaf]}"] if leaf in KINDS else []) + [f"{n}={got[n]}" for n in names])
+
+
+def foreign_leaf(r, leaf, in_list):
+    """A leaf that 01 does not take here: note whether the crate does."""
+    if leaf in NEWER:
+        r.why.add("newer-leaf")
+    elif leaf in LENGTH_BYTE:
+        r.why.add("length-byte-leaf")
+    elif in_list and (leaf in LISTS or leaf in RECORDS) and leaf != 0x000a:
+        r.why.add("leaf-in-list")
+    elif not in_list and leaf in MEMBERS and leaf != 0x1404:
+        r.why.add("member-outside")
+    raise Refused(10, leaf)
+
+
+def members(r):
+    """The elements of a 0x1203 record, then the refusal that ends it."""
+    lines, first = [], True
+    while True:
+        try:
+            if not first:
+                r.padding()
+            first = False
+            if r.at >= len(r.data):
+                raise Refused(15)
+            leaf = r.u(2)
+            if leaf not in MEMBERS:
+                foreign_leaf(r, leaf, True)
+            if leaf == 0x1404:
+                r.why.add("continuation")
+            lines.append(f"{leaf:04x} {shown(leaf, r.fields(leaf, MEMBERS[leaf]))}")
+            if leaf == 0x1404:
+                raise Refused(15)
+        except Refused as end:
+            return lines, end
+
+
+def methods(r):
+    lines = []
+    while True:
+        try:
+            if r.at >= len(r.data):
+                raise Refused(15)
+            lines.append(shown(0x1206, r.fields(0x1206, METHOD)))
+        except Refused as end:
+            return lines, end
+
+
+def refusal(e):
+    return " ".join(str(n) for n in e.args)
+
+
+def type_record(data):
+    """(line, reasons) of a type record's bytes, by 01."""
+    r = Reader(data)
+    try:
+        leaf = r.u(2)
+        if leaf == 0x1201:
+            count = r.u(4)
+            if len(data) - r.at < 4 * count:
+                r.why.add("count-memory")
+                raise Refused(1)
+            return " ; ".join([f"0 1201 count={count}"] + [str(r.u(4)) for _ in range(count)] + ["end 15"]), r.why
+        if leaf in (0x1203, 0x1206):
+            lines, end = members(r) if leaf == 0x1203 else methods(r)
+            return " ; ".join([f"0 {leaf:04x}"] + lines + [f"end {refusal(end)}"]), r.why
+        if leaf not in RECORDS:
+            foreign_leaf(r, leaf, False)
+        if leaf == 0x000a:
+            r.why.add("vtable-shape")
+        return f"0 {leaf:04x} {shown(leaf, r.fields(leaf, RECORDS[leaf]))}", r.why
+    except Refused as e:
+        return refusal(e), r.why
+
+
+def number_line(data, may_be_negative):
+    """(line, reasons) of `unsigned` and `signed`."""
+    r = Reader(data)
+    try:
+        value = r.number(may_be_negative)
+        return f"0 {value} next={r.at}", r.why
+    except Refused as e:
+        return refusal(e), r.why
