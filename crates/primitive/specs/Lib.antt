@@ -1,0 +1,5 @@
+pub mod Kinds
+pub mod Primitive
+pub mod TableLaws
+pub mod OneOutcome
+pub mod Examples
