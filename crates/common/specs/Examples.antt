@@ -8,7 +8,7 @@ use Rattle.answer.specs.Answer.{Answer, answered, refused, got}
 use Rattle.answer.specs.Tables.{find, among}
 use Rattle.common.specs.Fields.{le, fixedAt, signedAt}
 use Rattle.common.specs.Indices.{optionalOf, noType, noId}
-use Rattle.common.specs.Texts.{pad, paddingAt, toZero, stringAt, countedStringAt, stringOf}
+use Rattle.common.specs.Texts.{pad, paddingAt, toZero, stringAt, bytesAt, countedStringAt, stringOf}
 use Rattle.common.specs.Numbers.{numericAt, sizeAt, prefixes, unsignedAt}
 
 -- padding f3 f2 f1 consumes 3; f0 41 consumes 1; f2 alone gives 1
@@ -66,5 +66,5 @@ unfolding stringOf stringAt toZero
 up-to-zero = refl
 
 pub by-length : stringOf 0x1500 (2 ∷ 0x61 ∷ 0x62 ∷ []) 0 ≡ got (record { place = 1; length = 2 }) 3
-unfolding stringOf countedStringAt fixedAt le
+unfolding stringOf countedStringAt bytesAt fixedAt le
 by-length = refl

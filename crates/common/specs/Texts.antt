@@ -31,12 +31,13 @@ partOr (some n) p = got (record { place = p; length = n }) (p + n + 1)
 unfoldable pub stringAt : List ℕ → ℕ → Read Part
 stringAt s p = partOr (toZero (drop p s) 0) p
 
+-- n bytes
+unfoldable pub bytesAt : ℕ → List ℕ → ℕ → Read Part
+bytesAt n s p = pick (leb (p + n) (length s)) (got (record { place = p; length = n }) (p + n)) ended
+
 -- a length byte and that many bytes
 unfoldable pub countedStringAt : List ℕ → ℕ → Read Part
-countedStringAt s p =
-    and-then (fixedAt 1 s p) (λ n q.
-    stop (ltb (length s) (q + n)) 1
-    (got (record { place = q; length = n }) (q + n)))
+countedStringAt s p = and-then (fixedAt 1 s p) (λ n q. bytesAt n s q)
 
 -- the helper takes a leaf: at or below 0x1500 it reads a length byte and that many bytes
 unfoldable pub stringOf : ℕ → List ℕ → ℕ → Read Part

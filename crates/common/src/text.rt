@@ -1,7 +1,7 @@
 // Strings and padding at a place of a slice of bytes.
 ghost use mathlib.Core.Path.{_≡_};
 ghost use Prim.Native.Nat.{_+_};
-ghost use Rattle.common.specs.Texts.{stringAt, countedStringAt, stringOf, saidString, more, paddingAt, saidPadded};
+ghost use Rattle.common.specs.Texts.{stringAt, bytesAt, countedStringAt, stringOf, saidString, more, paddingAt, saidPadded};
 use crate::field;
 use crate::field::Read8;
 
@@ -41,6 +41,25 @@ pub fn string_at(s: &[u8], p: usize) -> ReadString
     ReadString::Ended
 }
 
+// The n bytes at place p.
+pub fn bytes_at(s: &[u8], p: usize, n: usize) -> ReadString
+    ensures { λ r. ⌜ saidString r ≡ bytesAt n (now (s .entry)) p ⌝ }
+{
+    if s.len() < p {
+        return ReadString::Ended;
+    }
+    if s.len() - p < n {
+        return ReadString::Ended;
+    }
+    ReadString::Got(
+        RawString {
+            place: p,
+            length: n,
+        },
+        p + n,
+    )
+}
+
 // The string at place p that a length byte begins.
 pub fn counted_string_at(s: &[u8], p: usize) -> ReadString
     ensures { λ r. ⌜ saidString r ≡ countedStringAt (now (s .entry)) p ⌝ }
@@ -48,17 +67,7 @@ pub fn counted_string_at(s: &[u8], p: usize) -> ReadString
     let Read8::Got(n, q) = field::u8_at(s, p) else {
         return ReadString::Ended;
     };
-    let k = n as usize;
-    if s.len() - q < k {
-        return ReadString::Ended;
-    }
-    ReadString::Got(
-        RawString {
-            place: q,
-            length: k,
-        },
-        q + k,
-    )
+    bytes_at(s, q, n as usize)
 }
 
 // The string of a record of this leaf: up to 0x1500 by a length byte, above it up to a zero byte.
