@@ -120,16 +120,19 @@ pub struct PrimitiveType {
     pub indirection: Indirection,
 }
 
+// What `primitive` answers.
 pub enum PrimitiveAnswer {
     Answered(PrimitiveType),
     Refused(Refusal),
 }
 
+// What the list of kinds has for a low byte.
 enum KindFound {
     Known(PrimitiveKind),
     Unknown,
 }
 
+// What the list of indirections has for bits 8 to 11.
 enum IndirectionFound {
     Known(Indirection),
     Unknown,
