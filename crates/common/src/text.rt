@@ -1,7 +1,7 @@
 // Strings and padding at a place of a slice of bytes.
 ghost use mathlib.Core.Path.{_≡_};
 ghost use Prim.Native.Nat.{_+_};
-ghost use Rattle.common.specs.Texts.{stringAt, bytesAt, countedStringAt, stringOf, saidString, more, paddingAt, saidPadded};
+ghost use Rattle.common.specs.Texts.{stringAt, bytesAfter, countedStringAt, stringOf, saidString, more, paddingAfter, saidAfter};
 use crate::field;
 use crate::field::Read8;
 
@@ -16,7 +16,8 @@ pub enum ReadString {
     Ended,
 }
 
-pub enum Padded {
+// The place after some bytes.
+pub enum After {
     At(usize),
     Ended,
 }
@@ -41,23 +42,17 @@ pub fn string_at(s: &[u8], p: usize) -> ReadString
     ReadString::Ended
 }
 
-// The n bytes at place p.
-pub fn bytes_at(s: &[u8], p: usize, n: usize) -> ReadString
-    ensures { λ r. ⌜ saidString r ≡ bytesAt n (now (s .entry)) p ⌝ }
+// The place after the n bytes at place p.
+pub fn after_bytes(s: &[u8], p: usize, n: usize) -> After
+    ensures { λ r. ⌜ saidAfter r ≡ bytesAfter n (now (s .entry)) p ⌝ }
 {
     if s.len() < p {
-        return ReadString::Ended;
+        return After::Ended;
     }
     if s.len() - p < n {
-        return ReadString::Ended;
+        return After::Ended;
     }
-    ReadString::Got(
-        RawString {
-            place: p,
-            length: n,
-        },
-        p + n,
-    )
+    After::At(p + n)
 }
 
 // The string at place p that a length byte begins.
@@ -67,7 +62,17 @@ pub fn counted_string_at(s: &[u8], p: usize) -> ReadString
     let Read8::Got(n, q) = field::u8_at(s, p) else {
         return ReadString::Ended;
     };
-    bytes_at(s, q, n as usize)
+    let k = n as usize;
+    let After::At(e) = after_bytes(s, q, k) else {
+        return ReadString::Ended;
+    };
+    ReadString::Got(
+        RawString {
+            place: q,
+            length: k,
+        },
+        e,
+    )
 }
 
 // The string of a record of this leaf: up to 0x1500 by a length byte, above it up to a zero byte.
@@ -89,23 +94,23 @@ fn pad_width(b: u8) -> usize
 }
 
 // The place after the padding at place p.
-pub fn after_padding(s: &[u8], p: usize) -> Padded
-    ensures { λ r. ⌜ saidPadded r ≡ paddingAt (now (s .entry)) p ⌝ }
+pub fn after_padding(s: &[u8], p: usize) -> After
+    ensures { λ r. ⌜ saidAfter r ≡ paddingAfter (now (s .entry)) p ⌝ }
 {
     if s.len() < p {
-        return Padded::Ended;
+        return After::Ended;
     }
     let mut i = p;
     while i < s.len() {
         let b = s[i];
         if b < 0xf0 {
-            return Padded::At(i);
+            return After::At(i);
         }
         let n = pad_width(b);
         if s.len() - i < n {
-            return Padded::Ended;
+            return After::Ended;
         }
         i += n;
     }
-    Padded::At(i)
+    After::At(i)
 }

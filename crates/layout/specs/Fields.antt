@@ -7,10 +7,10 @@ use mathlib.Core.Bool.{Bool, true}
 use mathlib.Core.List.{List, [], _∷_}
 use mathlib.Core.Option.{Option, none, some}
 use lib.IntN.{ℤ}
-use Rattle.answer.specs.Answer.{Answer, refused, Read, got, pick, and-then}
+use Rattle.answer.specs.Answer.{Answer, refused, Read, got, pick, then, and-then}
 use Rattle.common.specs.Fields.{fixedAt}
 use Rattle.common.specs.Indices.{noType, noId, optionalAt}
-use Rattle.common.specs.Texts.{Part, stringAt, bytesAt}
+use Rattle.common.specs.Texts.{Part, stringAt, bytesAfter}
 use Rattle.common.specs.Numbers.{numericAt, sizeAt}
 
 -- The value of a field. `integer` is a numeric leaf that may be negative. `absent` is an index that reads as none, and a field that is not
@@ -69,7 +69,7 @@ readField (gap k) w s p = and-then (fixedAt k s p) (λ n q. got absent q)
 readField numeric w s p = and-then (numericAt s p) (λ z q. got (integer z) q)
 readField size w s p = and-then (sizeAt s p) (λ n q. got (number n) q)
 readField string w s p = and-then (stringAt s p) (λ x q. got (many x) q)
-readField (run e) w s p = and-then (bytesAt (bytesOf e w) s p) (λ x q. got (many x) q)
+readField (run e) w s p = then (bytesAfter (bytesOf e w) s p) (λ q. got (many (record { place = p; length = bytesOf e w })) q)
 readField (when there f) w s p = pick (there w) (readField f w s p) (got absent p)
 
 -- the word after a field that read as v
