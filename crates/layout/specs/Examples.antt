@@ -39,3 +39,8 @@ reads-pointer = refl
 pub refuses-kind : recordOf typeLeaves (0x02 ∷ 0x10 ∷ 0x00 ∷ 0x10 ∷ 0x00 ∷ 0x00 ∷ 0x0d ∷ 0x00 ∷ 0x01 ∷ 0x00 ∷ []) ≡ refused 12 []
 unfolding recordOf leafOf readLeaf le fixedAt find among readField readFields typeLeaves
 refuses-kind = refl
+
+-- a pointer to member of kind 13 whose class is cut off: 12 comes right after the word
+pub refuses-first : recordOf typeLeaves (0x02 ∷ 0x10 ∷ 0x00 ∷ 0x10 ∷ 0x00 ∷ 0x00 ∷ 0x4d ∷ 0x00 ∷ 0x01 ∷ 0x00 ∷ []) ≡ refused 12 []
+unfolding recordOf leafOf readLeaf le fixedAt find among readField readFields typeLeaves
+refuses-first = refl
