@@ -8,20 +8,20 @@ use Rattle.answer.specs.Answer.{Answer, answered, refused, got}
 use Rattle.answer.specs.Tables.{find, among}
 use Rattle.common.specs.Fields.{le, fixedAt, signedAt}
 use Rattle.common.specs.Indices.{optionalOf, noType, noId}
-use Rattle.common.specs.Texts.{pad, paddingAt, toZero, stringAt, countedStringAt, stringOf}
+use Rattle.common.specs.Texts.{pad, paddingAfter, toZero, stringAt, bytesAfter, countedStringAt, stringOf}
 use Rattle.common.specs.Numbers.{numericAt, sizeAt, prefixes, unsignedAt}
 
 -- padding f3 f2 f1 consumes 3; f0 41 consumes 1; f2 alone gives 1
-pub padding-three : paddingAt (0xf3 ∷ 0xf2 ∷ 0xf1 ∷ []) 0 ≡ answered 3
-unfolding paddingAt pad
+pub padding-three : paddingAfter (0xf3 ∷ 0xf2 ∷ 0xf1 ∷ []) 0 ≡ answered 3
+unfolding paddingAfter pad
 padding-three = refl
 
-pub padding-one : paddingAt (0xf0 ∷ 0x41 ∷ []) 0 ≡ answered 1
-unfolding paddingAt pad
+pub padding-one : paddingAfter (0xf0 ∷ 0x41 ∷ []) 0 ≡ answered 1
+unfolding paddingAfter pad
 padding-one = refl
 
-pub padding-cut : paddingAt (0xf2 ∷ []) 0 ≡ refused 1 []
-unfolding paddingAt pad
+pub padding-cut : paddingAfter (0xf2 ∷ []) 0 ≡ refused 1 []
+unfolding paddingAfter pad
 padding-cut = refl
 
 -- 0x8001 ff ff is -1 for an enumerator, and 11 where a size is wanted; cut, it is 1 before its sign is looked at
@@ -66,5 +66,5 @@ unfolding stringOf stringAt toZero
 up-to-zero = refl
 
 pub by-length : stringOf 0x1500 (2 ∷ 0x61 ∷ 0x62 ∷ []) 0 ≡ got (record { place = 1; length = 2 }) 3
-unfolding stringOf countedStringAt fixedAt le
+unfolding stringOf countedStringAt bytesAfter fixedAt le
 by-length = refl

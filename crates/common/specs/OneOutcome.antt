@@ -8,7 +8,7 @@ use Rattle.answer.specs.Answer.{Answer, answered, refused, Read, Got}
 use Rattle.answer.specs.OneOutcome.{one-of, refusal-back, refusalIn}
 use Rattle.common.specs.Fields.{said8, said16, said32, said64, saidI8, saidI16, saidI32, saidI64}
 use Rattle.common.specs.Indices.{saidType, saidId, saidStringRef, typeSaid, idSaid, saidOptType, saidOptId}
-use Rattle.common.specs.Texts.{Part, saidString, saidPadded}
+use Rattle.common.specs.Texts.{Part, saidString, saidAfter}
 use Rattle.common.specs.Numbers.{numberSaid, saidVariant, saidSize}
 use Rattle.common.specs.declared.field.Read8.{Read8}
 use Rattle.common.specs.declared.field.Read8.the-variants as r8
@@ -42,8 +42,8 @@ use Rattle.common.specs.declared.index.ReadOptId.{ReadOptId}
 use Rattle.common.specs.declared.index.ReadOptId.the-variants as rid
 use Rattle.common.specs.declared.text.ReadString.{ReadString}
 use Rattle.common.specs.declared.text.ReadString.the-variants as rstring
-use Rattle.common.specs.declared.text.Padded.{Padded}
-use Rattle.common.specs.declared.text.Padded.the-variants as padded
+use Rattle.common.specs.declared.text.After.{After}
+use Rattle.common.specs.declared.text.After.the-variants as after
 use Rattle.common.specs.declared.number.Number.{Number}
 use Rattle.common.specs.declared.number.Number.the-variants as number
 use Rattle.common.specs.declared.number.ReadVariant.{ReadVariant}
@@ -233,16 +233,16 @@ back-string rstring.Ended = refl
 pub one-string : (r q : ReadString) → saidString r ≡ saidString q → r ≡ q
 one-string = one-of saidString hear-string back-string
 
-abbrev hear-padded : Answer ℕ → Padded
-hear-padded (answered p) = padded.At p
-hear-padded (refused n d) = padded.Ended
+abbrev hear-after : Answer ℕ → After
+hear-after (answered p) = after.At p
+hear-after (refused n d) = after.Ended
 
-back-padded : (r : Padded) → hear-padded (saidPadded r) ≡ r
-back-padded (padded.At p) = refl
-back-padded padded.Ended = refl
+back-after : (r : After) → hear-after (saidAfter r) ≡ r
+back-after (after.At p) = refl
+back-after after.Ended = refl
 
-pub one-padded : (r q : Padded) → saidPadded r ≡ saidPadded q → r ≡ q
-one-padded = one-of saidPadded hear-padded back-padded
+pub one-after : (r q : After) → saidAfter r ≡ saidAfter q → r ≡ q
+one-after = one-of saidAfter hear-after back-after
 
 -- numeric leaves
 

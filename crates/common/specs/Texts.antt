@@ -4,13 +4,13 @@ use mathlib.Core.List.{List, [], _∷_}
 use mathlib.Core.Option.{Option, none, some}
 use lib.ListN.{length, drop}
 use lib.Dec.{leb, ltb}
-use Rattle.answer.specs.Answer.{Answer, answered, Read, got, ended, pick, stop, and-then}
+use Rattle.answer.specs.Answer.{Answer, answered, Read, got, ended, pick, stop, then, and-then}
 use Rattle.common.specs.Fields.{fixedAt}
 use Rattle.common.specs.declared.text.RawString.{RawString}
 use Rattle.common.specs.declared.text.ReadString.{ReadString}
 use Rattle.common.specs.declared.text.ReadString.the-variants as rstring
-use Rattle.common.specs.declared.text.Padded.{Padded}
-use Rattle.common.specs.declared.text.Padded.the-variants as padded
+use Rattle.common.specs.declared.text.After.{After}
+use Rattle.common.specs.declared.text.After.the-variants as after
 
 -- a part of the bytes: its place and its length
 pub record Part : Type 0 where
@@ -31,12 +31,16 @@ partOr (some n) p = got (record { place = p; length = n }) (p + n + 1)
 unfoldable pub stringAt : List ℕ → ℕ → Read Part
 stringAt s p = partOr (toZero (drop p s) 0) p
 
+-- the place after n bytes at p; 1 where they pass the end
+unfoldable pub bytesAfter : ℕ → List ℕ → ℕ → Answer ℕ
+bytesAfter n s p = stop (ltb (length s) (p + n)) 1 (answered (p + n))
+
 -- a length byte and that many bytes
 unfoldable pub countedStringAt : List ℕ → ℕ → Read Part
 countedStringAt s p =
     and-then (fixedAt 1 s p) (λ n q.
-    stop (ltb (length s) (q + n)) 1
-    (got (record { place = q; length = n }) (q + n)))
+    then (bytesAfter n s q) (λ e.
+    got (record { place = q; length = n }) e))
 
 -- the helper takes a leaf: at or below 0x1500 it reads a length byte and that many bytes
 unfoldable pub stringOf : ℕ → List ℕ → ℕ → Read Part
@@ -54,8 +58,8 @@ pad zero p (b ∷ bs) = pick (leb 0xf0 b) (pad (more b) (p + 1) bs) (answered p)
 pad (suc k) p (b ∷ bs) = pad k (p + 1) bs
 
 -- the place after the padding at p; 1 where it passes the end, or p is past the end
-unfoldable pub paddingAt : List ℕ → ℕ → Answer ℕ
-paddingAt s p = stop (ltb (length s) p) 1 (pad 0 p (drop p s))
+unfoldable pub paddingAfter : List ℕ → ℕ → Answer ℕ
+paddingAfter s p = stop (ltb (length s) p) 1 (pad 0 p (drop p s))
 
 -- what the answers say
 abbrev pub part : RawString → Part
@@ -65,6 +69,6 @@ abbrev pub saidString : ReadString → Read Part
 saidString (rstring.Got t p) = got (part t) p
 saidString rstring.Ended = ended
 
-abbrev pub saidPadded : Padded → Answer ℕ
-saidPadded (padded.At p) = answered p
-saidPadded padded.Ended = ended
+abbrev pub saidAfter : After → Answer ℕ
+saidAfter (after.At p) = answered p
+saidAfter after.Ended = ended

@@ -1,7 +1,7 @@
 // Strings and padding at a place of a slice of bytes.
 ghost use mathlib.Core.Path.{_≡_};
 ghost use Prim.Native.Nat.{_+_};
-ghost use Rattle.common.specs.Texts.{stringAt, countedStringAt, stringOf, saidString, more, paddingAt, saidPadded};
+ghost use Rattle.common.specs.Texts.{stringAt, bytesAfter, countedStringAt, stringOf, saidString, more, paddingAfter, saidAfter};
 use crate::field;
 use crate::field::Read8;
 
@@ -16,7 +16,8 @@ pub enum ReadString {
     Ended,
 }
 
-pub enum Padded {
+// The place after some bytes.
+pub enum After {
     At(usize),
     Ended,
 }
@@ -41,6 +42,19 @@ pub fn string_at(s: &[u8], p: usize) -> ReadString
     ReadString::Ended
 }
 
+// The place after the n bytes at place p.
+pub fn after_bytes(s: &[u8], p: usize, n: usize) -> After
+    ensures { λ r. ⌜ saidAfter r ≡ bytesAfter n (now (s .entry)) p ⌝ }
+{
+    if s.len() < p {
+        return After::Ended;
+    }
+    if s.len() - p < n {
+        return After::Ended;
+    }
+    After::At(p + n)
+}
+
 // The string at place p that a length byte begins.
 pub fn counted_string_at(s: &[u8], p: usize) -> ReadString
     ensures { λ r. ⌜ saidString r ≡ countedStringAt (now (s .entry)) p ⌝ }
@@ -49,15 +63,15 @@ pub fn counted_string_at(s: &[u8], p: usize) -> ReadString
         return ReadString::Ended;
     };
     let k = n as usize;
-    if s.len() - q < k {
+    let After::At(e) = after_bytes(s, q, k) else {
         return ReadString::Ended;
-    }
+    };
     ReadString::Got(
         RawString {
             place: q,
             length: k,
         },
-        q + k,
+        e,
     )
 }
 
@@ -80,23 +94,23 @@ fn pad_width(b: u8) -> usize
 }
 
 // The place after the padding at place p.
-pub fn after_padding(s: &[u8], p: usize) -> Padded
-    ensures { λ r. ⌜ saidPadded r ≡ paddingAt (now (s .entry)) p ⌝ }
+pub fn after_padding(s: &[u8], p: usize) -> After
+    ensures { λ r. ⌜ saidAfter r ≡ paddingAfter (now (s .entry)) p ⌝ }
 {
     if s.len() < p {
-        return Padded::Ended;
+        return After::Ended;
     }
     let mut i = p;
     while i < s.len() {
         let b = s[i];
         if b < 0xf0 {
-            return Padded::At(i);
+            return After::At(i);
         }
         let n = pad_width(b);
         if s.len() - i < n {
-            return Padded::Ended;
+            return After::Ended;
         }
         i += n;
     }
-    Padded::At(i)
+    After::At(i)
 }

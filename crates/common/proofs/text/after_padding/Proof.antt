@@ -4,24 +4,24 @@ use mathlib.Core.Path.{_≡_, refl, _∙_}
 use borrow.Author.Needs.{needs}
 use native.Mathlib.Omega.{arith}
 use lib.ListN.{length, drop}
-use Rattle.common.specs.Texts.{pad, paddingAt}
+use Rattle.common.specs.Texts.{pad, paddingAfter}
 use borrow.Author.Tests.{lt-ltb, le-ltb}
 use Rattle.common.proofs.PadLaws.{pad-end, pad-stop, pad-more, pad-cut}
 use Rattle.common.proofs.text.after_padding.Statement.{statement}
 use Rattle.common.proofs.text.after_padding.Tie as tie
 
 abbrev Inv-loop : tie.InvT-loop
-Inv-loop s p i₀ i = pad 0 i (drop i s) ≡ paddingAt s p
+Inv-loop s p i₀ i = pad 0 i (drop i s) ≡ paddingAfter s p
 
 abbrev μ-loop : tie.MeasureT-loop
 μ-loop s p i₀ i = length s - i
 
 returns : tie.Need-returns Inv-loop μ-loop
-unfolding paddingAt
+unfolding paddingAfter
 returns c = rw (lt-ltb _ _ (c .if1 .taken))
 
 loop-holds : tie.Need-loop-holds Inv-loop μ-loop
-unfolding paddingAt
+unfolding paddingAfter
 loop-holds c = rw (le-ltb _ _ (c .if1 .left))
 
 shared-slice-read-b : tie.Need-shared-slice-read-b Inv-loop μ-loop
