@@ -70,23 +70,24 @@ pub fn next(s: &[u8], c: ItemIter) -> NextAnswer
     if at > s.len() {
         return NextAnswer::Refused(Refusal::Ended);
     }
-    if at == s.len() {
+    let left = s.len() - at;
+    if left == 0 {
         return NextAnswer::Done;
     }
-    if s.len() - at < 2 {
+    if left < 2 {
         return NextAnswer::Refused(Refusal::Ended);
     }
     let n = length_at(s, at);
     if n < 2 {
         return NextAnswer::Refused(Refusal::TooShort);
     }
-    let place = at + 2;
-    if n > s.len() - place {
+    if n > left - 2 {
         return NextAnswer::Refused(Refusal::Ended);
     }
     if index == 4294967295 {
         return NextAnswer::Refused(Refusal::IndicesUsedUp);
     }
+    let place = at + 2;
     let named = stream.index(index);
     let after = place + n;
     let following = index + 1;

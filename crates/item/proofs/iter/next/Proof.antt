@@ -1,4 +1,4 @@
--- `item::iter::next` meets its contract: each way out is one of the cases of `nextOf`. Assumes nothing.
+-- `item::iter::next` meets its contract: each return is an outcome of `nextOf`. Assumes nothing.
 use borrow.Author.Needs.{needs}
 use native.Mathlib.Omega.{arith}
 use mathlib.Core.Path.{sym}
@@ -36,5 +36,5 @@ returns-8 c =
 pub next-spec : {M : Type 1} → statement M
 next-spec =
     tie.close (tie.spec
-    returns returns-2 returns-3 (λ c. search needs) returns-4 (λ c κs. search needs) returns-5 (λ c. search needs) (λ c. search needs) returns-6
-    returns-7 (λ c κs. search needs) (λ c. search needs) (λ c. search needs) returns-8)
+    returns returns-2 (λ c. search needs) returns-3 returns-4 (λ c κs. search needs) returns-5 returns-6 returns-7 (λ c. search needs)
+    (λ c κs. search needs) (λ c. search needs) (λ c. search needs) returns-8)
