@@ -10,7 +10,7 @@ use native.Mathlib.Omega.{arith}
 use lib.ListN.{length, getD, set, length-set}
 use lib.Seq.{getD-set-same}
 use lib.Dec.{leb, ltb, eqb}
-use borrow.Author.Tests.{eqb-true, eqb-false}
+use borrow.Author.Tests.{eqb-true, eqb-false, leb-true, leb-false}
 use Rattle.answer.specs.Answer.{Answer, answered, refused, pick}
 use Rattle.header.specs.Header.{longest, headerOf}
 use Rattle.header.specs.declared.Header.{Header}
@@ -29,7 +29,7 @@ use Rattle.finder.specs.Finder.{State, state, holding, begunBy, createBy
 use Rattle.finder.specs.Places.{Placed, OnChain}
 use Rattle.finder.specs.Demand.{Walked, none, more, gives, looked, Premises, Demand3By, Demand3, numberOf, NotIndexedBy, NotIndexed}
 use Rattle.finder.specs.declared.ItemFinder.{ItemFinder}
-use Rattle.finder.proofs.FinderLaws.{begun-some, create-is, Open, update-keeps, update-stores, due-yes, due-mod, Ready}
+use Rattle.finder.proofs.FinderLaws.{begun-full, begun-some, create-is, Open, update-keeps, update-full, update-stores, due-yes, due-mod, Ready}
 use Rattle.finder.proofs.Accepted.{Accepted, accepted}
 use Rattle.finder.proofs.PlaceLaws.{update-ind, placed-update, on-start, on-next, find-placed}
 
@@ -81,7 +81,7 @@ module _ (b shift : ℕ) (z : 0 < b) (s : List ℕ) (h : Header) (t : List ℕ) 
       ap (chain s (h .«header_size»)) (ap (λ (x : ℕ). x * b) e ∙ zero-mul b) ∙ chain-none s (h .«header_size»)
       ∙ ap reached (sym (ap (λ (x : ℕ). getD (set t 0 (h .«header_size»)) x 0) e ∙ getD-set-same t 0 (h .«header_size») 0 l))
 
-  stage-none : (tag : Stream) → 0 < length t → Stage b shift s h t 0 (start tag h) (state (holding h shift 1) (set t 0 (h .«header_size»)))
+  pub stage-none : (tag : Stream) → 0 < length t → Stage b shift s h t 0 (start tag h) (state (holding h shift 1) (set t 0 (h .«header_size»)))
   stage-none tag l = record {
     finder = ap (holding h shift) (omega (arith, zero-div b));
     room = length-set t 0 (h .«header_size»);
@@ -90,57 +90,80 @@ module _ (b shift : ℕ) (z : 0 < b) (s : List ℕ) (h : Header) (t : List ℕ) 
     index = omega arith;
   }
 
-  turn : (n : ℕ) (d : ItemIter) (τ : State) (i : Item) (d′ : ItemIter) → 1 + suc n / b ≤ length t → Stage b shift s h t n d τ → nextOf s d ≡ answered (yielded i d′)
+  -- what a turn starts from, where the places before it had room
+  record Turning (n : ℕ) (τ : State) (d : ItemIter) : Type 0 where
+    pub minimum : τ .finder .«minimum_index» ≡ h .«minimum_index»
+    pub held : τ .finder .held ≡ 1 + n / b
+    pub index : d .index ≡ h .«minimum_index» + suc n
+    pub distance : d .index - τ .finder .«minimum_index» ≡ suc n
+    pub free : Open τ d
+
+  turning : (n : ℕ) (d : ItemIter) (τ : State) (i : Item) (d′ : ItemIter) → 1 + n / b ≤ length t → Stage b shift s h t n d τ → nextOf s d ≡ answered (yielded i d′)
+      → Turning n τ d′
+  turning n d τ i d′ fits g e =
+      let y : Yields s d i d′ = yields s d i d′ e in
+      let mi : τ .finder .«minimum_index» ≡ h .«minimum_index» = ap (λ (f : ItemFinder). f .«minimum_index») (g .finder) in
+      let he : τ .finder .held ≡ 1 + n / b = ap (λ (f : ItemFinder). f .held) (g .finder) in
+      record {
+        minimum = mi;
+        held = he;
+        index = omega (arith, y .index, g .index);
+        distance = omega (arith, y .index, g .index);
+        free = record { at = omega (arith, y .inside, y .short); held = omega (arith, g .room); index = omega (arith, y .index, g .index) };
+      }
+
+  -- at the start of a block a place is due
+  now-due : (n : ℕ) (τ : State) (d : ItemIter) → Turning n τ d → suc n % b ≡ 0 → due b (τ .finder) (d .index) ≡ true
+  now-due n τ d k q =
+      due-yes b (τ .finder) (d .index)
+      (ap (λ (x : ℕ). x % b) (k .distance) ∙ q)
+      (ap (λ (x : ℕ). x / b) (k .distance) ∙ omega (arith, next-block b n z q, k .held))
+
+  pub turn : (n : ℕ) (d : ItemIter) (τ : State) (i : Item) (d′ : ItemIter) → 1 + suc n / b ≤ length t → Stage b shift s h t n d τ → nextOf s d ≡ answered (yielded i d′)
       → Stage b shift s h t (suc n) d′ (after τ (updateBy b τ d′))
   turn n d τ i d′ enough g e =
       record {
         finder = go (eqb (suc n % b) 0) refl;
         room = update-ind b τ d′ (λ (ρ : State). length (ρ .table) ≡ length t) (g .room) (λ st. length-set (τ .table) (τ .finder .held) (d′ .at) ∙ g .room);
-        placed = placed-update b s (h .«header_size») τ d′ (g .placed) (subst (λ (m : ℕ). OnChain s (h .«header_size») m d′) (sym mi) on′);
+        placed = placed-update b s (h .«header_size») τ d′ (g .placed) (subst (λ (m : ℕ). OnChain s (h .«header_size») m d′) (sym (k .minimum)) on′);
         cursor = on′;
-        index = ix;
+        index = k .index;
       }
     where
-      y : Yields s d i d′
-      y = yields s d i d′ e
+      k : Turning n τ d′
+      k = turning n d τ i d′ (omega (arith, up-block b n z, enough)) g e
 
       on′ : OnChain s (h .«header_size») (h .«minimum_index») d′
       on′ = on-next s (h .«header_size») (h .«minimum_index») d i d′ (g .cursor) e
 
-      mi : τ .finder .«minimum_index» ≡ h .«minimum_index»
-      mi = ap (λ (f : ItemFinder). f .«minimum_index») (g .finder)
-
-      he : τ .finder .held ≡ 1 + n / b
-      he = ap (λ (f : ItemFinder). f .held) (g .finder)
-
-      ix : d′ .index ≡ h .«minimum_index» + suc n
-      ix = omega (arith, y .index, g .index)
-
-      dist : d′ .index - τ .finder .«minimum_index» ≡ suc n
-      dist = omega (arith, ix, mi)
-
-      op : Open τ d′
-      op = record {
-        at = omega (arith, y .inside, y .short);
-        held = omega (arith, he, up-block b n z, enough, g .room);
-        index = omega (arith, ix, mi);
-      }
-
       go : (x : Bool) → eqb (suc n % b) 0 ≡ x → after τ (updateBy b τ d′) .finder ≡ holding h shift (1 + suc n / b)
       go true q =
           let nb : suc n / b ≡ n / b + 1 = next-block b n z (eqb-true _ _ q) in
-          let du : due b (τ .finder) (d′ .index) ≡ true =
-          due-yes b (τ .finder) (d′ .index)
-          (ap (λ (x : ℕ). x % b) dist ∙ eqb-true _ _ q)
-          (ap (λ (x : ℕ). x / b) dist ∙ omega (arith, nb, he)) in
-          ap (λ (a : Answer State). after τ a .finder) (update-stores b τ d′ op du (omega (arith, nb, he, enough, g .room)))
+          ap (λ (a : Answer State). after τ a .finder)
+          (update-stores b τ d′ (k .free) (now-due n τ d′ k (eqb-true _ _ q)) (omega (arith, nb, k .held, enough, g .room)))
           ∙ ap (λ (f : ItemFinder). record { «minimum_index» = f .«minimum_index»; «maximum_index» = f .«maximum_index»; held = f .held + 1; shift = f .shift }) (g .finder)
           ∙ ap (holding h shift) (omega (arith, nb))
       go false q =
           let sb : suc n / b ≡ n / b = same-block b n z (eqb-false _ _ q) in
           let du : due b (τ .finder) (d′ .index) ≡ false =
-          due-mod b (τ .finder) (d′ .index) (λ p. eqb-false _ _ q (sym (ap (λ (x : ℕ). x % b) dist) ∙ p)) in
-          ap (λ (a : Answer State). after τ a .finder) (update-keeps b τ d′ op du) ∙ g .finder ∙ ap (holding h shift) (omega (arith, sb))
+          due-mod b (τ .finder) (d′ .index) (λ p. eqb-false _ _ q (sym (ap (λ (x : ℕ). x % b) (k .distance)) ∙ p)) in
+          ap (λ (a : Answer State). after τ a .finder) (update-keeps b τ d′ (k .free) du) ∙ g .finder ∙ ap (holding h shift) (omega (arith, sb))
+
+  -- an update that is answered had room
+  pub turn-room : (n : ℕ) (d : ItemIter) (τ : State) (i : Item) (d′ : ItemIter) (τ′ : State) → 1 + n / b ≤ length t → Stage b shift s h t n d τ
+      → nextOf s d ≡ answered (yielded i d′) → updateBy b τ d′ ≡ answered τ′ → 1 + suc n / b ≤ length t
+  turn-room n d τ i d′ τ′ fits g e a = go (eqb (suc n % b) 0) refl (leb (length (τ .table)) (τ .finder .held)) refl
+    where
+      k : Turning n τ d′
+      k = turning n d τ i d′ fits g e
+
+      go : (x : Bool) → eqb (suc n % b) 0 ≡ x → (y : Bool) → leb (length (τ .table)) (τ .finder .held) ≡ y → 1 + suc n / b ≤ length t
+      go false q y p = omega (arith, same-block b n z (eqb-false _ _ q), fits)
+      go true q true p =
+          let full : updateBy b τ d′ ≡ refused 13 [] = update-full b τ d′ (k .free) (now-due n τ d′ k (eqb-true _ _ q)) (leb-true _ _ p) in
+          let w : _≡_ {A = ℕ} 0 1 = cc in
+          absurd (omega arith)
+      go true q false p = omega (arith, next-block b n z (eqb-true _ _ q), leb-false (length (τ .table)) (τ .finder .held) p, k .held, g .room)
 
   stages : (c₀ : ItemIter) (σ : State) (n : ℕ) (c : ItemIter) (τ : State) → Stage b shift s h t 0 c₀ σ → 1 + n / b ≤ length t → Walked b s c₀ σ n c τ → Stage b shift s h t n c τ
   stages c₀ σ zero c τ g l none = g
@@ -154,6 +177,19 @@ pub fresh-finder : (shift : ℕ) (s : List ℕ) (h : Header) (t : List ℕ) (σ 
 fresh-finder shift s h t σ e l r c =
     let a : createBy shift s t ≡ begunBy shift t h = create-is shift s t (answered h) e in
     cc (begun-some shift t h l r)
+
+-- a creation that was answered had room
+pub fresh-room : (shift : ℕ) (s : List ℕ) (h : Header) (t : List ℕ) (σ : State) → headerOf s ≡ answered h → h .«minimum_index» < h .«maximum_index»
+    → createBy shift s t ≡ answered σ → 0 < length t
+fresh-room shift s h t σ e l c = go (leb (length t) 0) refl
+  where
+    go : (x : Bool) → leb (length t) 0 ≡ x → 0 < length t
+    go true q =
+        let a : createBy shift s t ≡ begunBy shift t h = create-is shift s t (answered h) e in
+        let full : begunBy shift t h ≡ refused 13 [] = begun-full shift t h l (leb-true _ _ q) in
+        let z : _≡_ {A = ℕ} 0 1 = cc in
+        absurd (omega arith)
+    go false q = leb-false _ _ q
 
 pub fresh-iter : (tag : Stream) (s : List ℕ) (h : Header) (c : ItemIter) → headerOf s ≡ answered h → iterOf tag s ≡ answered c → start tag h ≡ c
 fresh-iter tag s h c e i = cc (iter-is tag s h e)

@@ -3,11 +3,11 @@ use Prim.Native.Nat.{ℕ, _+_, _-_, _*_, _/_, _%_, _≤_, _<_, min}
 use mathlib.Core.Path.{_≡_, refl, sym, ap, _∙_}
 use mathlib.Core.List.{List, [], _∷_}
 use mathlib.Core.Bool.{Bool, true, false}
-use native.Mathlib.Nat.{min-eq-left, min-eq-right}
+use native.Mathlib.Nat.{min-eq-left, min-eq-right, div-add-mod', mul-comm}
 use native.Mathlib.Omega.{arith}
 use lib.ListN.{length, getD, set}
 use lib.Dec.{leb, ltb, eqb}
-use borrow.Author.Tests.{le-leb, lt-leb, le-ltb, lt-ltb, eq-eqb, ne-eqb}
+use borrow.Author.Tests.{le-leb, lt-leb, le-ltb, lt-ltb, eq-eqb, ne-eqb, eqb-true}
 use Rattle.answer.specs.Answer.{Answer, answered, refused, pick, stop, both, then}
 use Rattle.header.specs.Header.{longest, headerOf}
 use Rattle.header.specs.declared.Header.{Header}
@@ -87,12 +87,19 @@ module _ (b : ℕ) (f : ItemFinder) (i : ℕ) where
   pub due-mod : ((i - f .«minimum_index») % b ≡ 0 → ⊥) → due b f i ≡ false
   due-mod p = simp (ne-eqb _ _ p)
 
-  both-no : (x : Bool) → both x false ≡ false
-  both-no true = refl
-  both-no false = refl
-
-  pub due-div : ((i - f .«minimum_index») / b ≡ f .held → ⊥) → due b f i ≡ false
-  due-div q = simp (ne-eqb _ _ q) (both-no (eqb ((i - f .«minimum_index») % b) 0))
+  -- both at once, as the code has it
+  pub due-not : (i - f .«minimum_index» ≡ b * f .held → ⊥) → due b f i ≡ false
+  due-not n = go (eqb ((i - f .«minimum_index») % b) 0) (eqb ((i - f .«minimum_index») / b) (f .held)) refl refl
+    where
+      go : (x y : Bool) → eqb ((i - f .«minimum_index») % b) 0 ≡ x → eqb ((i - f .«minimum_index») / b) (f .held) ≡ y → both x y ≡ false
+      go false y p q = refl
+      go true false p q = refl
+      go true true p q =
+          let d : ℕ = i - f .«minimum_index» in
+          let m : d % b ≡ 0 = eqb-true _ _ p in
+          let e : d / b * b ≡ f .held * b = ap (λ (x : ℕ). x * b) (eqb-true _ _ q) in
+          let a : d / b * b + d % b ≡ d = div-add-mod' d b in
+          absurd (n (omega (arith, mul-comm (f .held) b)))
 
 -- ---- the highest index
 module _ (b : ℕ) (f : ItemFinder) where

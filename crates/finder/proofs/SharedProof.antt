@@ -1,27 +1,24 @@
 -- Cursors that share a finder: the invariant is that of demand 3 without the count. Assumes nothing.
 use Prim.Native.Nat.{ℕ, _+_, _≤_, _<_}
 use mathlib.Core.Path.{_≡_, refl, sym, ap, _∙_, subst}
-use mathlib.Core.List.{List, []}
-use mathlib.Core.Bool.{Bool, true, false}
+use mathlib.Core.List.{List}
 use native.Mathlib.Omega.{arith}
 use lib.ListN.{length, set, length-set}
-use lib.Dec.{leb}
-use borrow.Author.Tests.{leb-true, leb-false}
-use Rattle.answer.specs.Answer.{Answer, answered, refused}
+use Rattle.answer.specs.Answer.{answered}
 use Rattle.header.specs.Header.{headerOf}
 use Rattle.header.specs.declared.Header.{Header}
 use Rattle.item.specs.Items.{indexIn}
 use Rattle.item.specs.Iterator.{iterOf}
 use Rattle.item.specs.declared.Stream.{Stream}
 use Rattle.item.specs.declared.iter.ItemIter.{ItemIter}
-use Rattle.finder.specs.Finder.{State, state, holding, begunBy, createBy, updateBy, after, findBy}
+use Rattle.finder.specs.Finder.{State, createBy, updateBy, after, findBy}
 use Rattle.finder.specs.Places.{Placed, OnChain}
 use Rattle.finder.specs.Demand.{looked}
 use Rattle.finder.specs.Shared.{Roamed, begun, moved, Updated, untouched, by, SharedBy, Shared}
-use Rattle.finder.proofs.FinderLaws.{begun-full, create-is, Ready}
+use Rattle.finder.proofs.FinderLaws.{Ready}
 use Rattle.finder.proofs.Accepted.{Accepted, accepted}
 use Rattle.finder.proofs.PlaceLaws.{update-ind, placed-update, on-start, on-next, find-placed}
-use Rattle.finder.proofs.DemandProof.{begun-placed, fresh-finder, fresh-iter}
+use Rattle.finder.proofs.DemandProof.{begun-placed, fresh-finder, fresh-room, fresh-iter}
 
 roamed : (s : List ℕ) (p m : ℕ) (c d : ItemIter) → OnChain s p m c → Roamed s c d → OnChain s p m d
 roamed s p m c d on begun = on
@@ -60,21 +57,17 @@ shared-by b shift z tag s h t σ c τ e l new it w = (
     ok : Accepted s h
     ok = accepted s h e l
 
-    made : (x : Bool) → leb (length t) 0 ≡ x → Kept b s h σ
-    made true q =
-        let a : createBy shift s t ≡ begunBy shift t h = create-is shift s t (answered h) e in
-        let full : begunBy shift t h ≡ refused 13 [] = begun-full shift t h l (leb-true _ _ q) in
-        let z : _≡_ {A = ℕ} 0 1 = cc in
-        absurd (omega arith)
-    made false q =
-        let room : 0 < length t = leb-false _ _ q in
-        subst (λ (ρ : State). Kept b s h ρ) (fresh-finder shift s h t σ e l room new)
+    room : 0 < length t
+    room = fresh-room shift s h t σ e l new
+
+    made : Kept b s h σ
+    made = subst (λ (ρ : State). Kept b s h ρ) (fresh-finder shift s h t σ e l room new)
         (record { minimum = refl; maximum = refl; held = simp length-set room; placed = begun-placed b shift z s h t ok room })
 
     k : Kept b s h τ
     k = updated b s h c σ τ
         (subst (λ (x : ItemIter). OnChain s (h .«header_size») (h .«minimum_index») x) (fresh-iter tag s h c e it) (on-start tag s (h .«header_size») (h .«minimum_index»)))
-        (made (leb (length t) 0) refl) w
+        made w
 
 pub shared : Shared
 unfolding Shared

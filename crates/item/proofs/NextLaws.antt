@@ -13,7 +13,7 @@ use Rattle.header.specs.Header.{longest, headerOf}
 use Rattle.header.specs.declared.Header.{Header}
 use Rattle.item.specs.Items.{indexIn}
 use Rattle.item.specs.Links.{linkAt}
-use Rattle.item.specs.Iterator.{iterOf, Next, done, yielded, itemAt, nextOf}
+use Rattle.item.specs.Iterator.{iterOf, Next, done, yielded, overRecord, nextOf}
 use Rattle.item.proofs.LinkLaws.{link-whole}
 use Rattle.item.specs.declared.Stream.{Stream}
 use Rattle.item.specs.declared.Item.{Item}
@@ -63,10 +63,7 @@ module _ (s : List ℕ) (c : ItemIter) where
       simp (le-ltb _ _ a, le-ltb _ _ b′, lt-leb _ _ b″, le-ltb _ _ b, le-ltb _ _ l, le-ltb _ _ h, le-leb _ _ u)
 
   pub next-yields : length s ≤ longest → 2 ≤ le 2 s (c .at) → c .at + 2 + le 2 s (c .at) ≤ length s → c .index < 4294967295
-      → nextOf s c
-      ≡ answered
-      (yielded (itemAt (c .stream) (c .index) (c .at + 2) (le 2 s (c .at)))
-      (record { stream = c .stream; at = c .at + 2 + le 2 s (c .at); index = c .index + 1 }))
+      → nextOf s c ≡ answered (overRecord c (le 2 s (c .at)))
   unfolding nextOf
   next-yields a l h u =
       let b : c .at + 2 ≤ length s = omega arith in
