@@ -7,7 +7,7 @@
 //
 // The places live in a table that the caller lends; the finder itself is a few numbers, and comes and goes by value.
 ghost use mathlib.Core.Path.{_≡_};
-ghost use Rattle.item.specs.Items.{indexIn, numberIn};
+ghost use Rattle.item.specs.Items.{indexIn};
 ghost use Rattle.item.specs.declared.ItemIndex.the-variants as index;
 ghost use Rattle.finder.specs.Finder.{state, begunOf, createOf, updateOf, Leaves, maxIndexOf, findOf, saidFind};
 use answer::Refusal;
