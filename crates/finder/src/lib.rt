@@ -1,13 +1,13 @@
 // The finder: it holds where every eighth record of a stream starts, so that a record is found by its index. Document 01, "Finder".
 //
-// Its time and space: one place of 4 bytes for 8 records is 4 bits a record, and a lookup starts at the place before its record and passes
-// 0 to 7 links, 3.5 on average, each one load of a u16 and a few instructions. One place a record would be 32 bits for no link passed,
-// blocks of 16 would be 2 bits for 7.5 links. Records are short, so that a block mostly lies in one or two cache lines. 500,000 records
-// take 250 KB of table.
+// Its time and space: one place of 4 bytes for 8 records is 4 bits a record, and a lookup starts at its block's place and passes 0 to 7
+// links, 3.5 on average, each a load of a u16 and a dozen instructions. A place for each record would be 32 bits for no link passed, blocks
+// of 16 would be 2 bits for 7.5 links. Records are short (84% have at most 32 bytes), so that a block mostly lies in a few cache lines.
+// 500,000 records take 250 KB of table.
 //
 // The places live in a table that the caller lends; the finder itself is a few numbers, and comes and goes by value.
 ghost use mathlib.Core.Path.{_≡_};
-ghost use Rattle.item.specs.Items.{indexIn, numberIn};
+ghost use Rattle.item.specs.Items.{indexIn};
 ghost use Rattle.item.specs.declared.ItemIndex.the-variants as index;
 ghost use Rattle.finder.specs.Finder.{state, begunOf, createOf, updateOf, Leaves, maxIndexOf, findOf, saidFind};
 use answer::Refusal;

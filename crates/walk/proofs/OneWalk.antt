@@ -9,15 +9,15 @@ use native.Mathlib.Nat.{eq-or-lt-of-le}
 use native.Mathlib.Omega.{arith}
 use lib.Dec.{ltb}
 use borrow.Author.Tests.{ltb-true, ltb-false}
-use Rattle.answer.specs.Answer.{Answer, answered, refused}
+use Rattle.answer.specs.Answer.{Answer, answered}
 use Rattle.answer.specs.Refusals.{no}
 use Rattle.answer.specs.OneOutcome.{one-refusal}
 use Rattle.answer.specs.declared.Refusal.{Refusal}
 use Rattle.item.specs.declared.Stream.{Stream}
 use Rattle.item.specs.declared.iter.ItemIter.{ItemIter}
-use Rattle.finder.specs.Finder.{State, state, createOf}
+use Rattle.finder.specs.Finder.{State, state}
 use Rattle.finder.specs.declared.ItemFinder.{ItemFinder}
-use Rattle.walk.specs.Walk.{Turn, over, moved, turnBy, Turns, none, more, saidEnd, Walks, Whole, Indexes}
+use Rattle.walk.specs.Walk.{moved, turnBy, Turns, none, more, saidEnd, Walks, Indexes}
 use Rattle.walk.specs.OneOutcome.{one-end}
 use Rattle.walk.specs.declared.End.{End}
 use Rattle.walk.specs.declared.End.the-variants as end

@@ -1,31 +1,30 @@
 -- The outcomes of a turn, a law for each, and how far a turn goes. Assumes nothing.
-use Prim.Native.Nat.{ℕ, suc, _+_, _≤_, _<_}
+use Prim.Native.Nat.{ℕ, _+_, _≤_, _<_}
 use mathlib.Core.Path.{_≡_, refl, sym, ap, _∙_, subst}
 use mathlib.Core.List.{List}
 use native.Mathlib.Numerals.{add-one}
 use native.Mathlib.Omega.{arith}
 use lib.ListN.{length}
 use Rattle.answer.specs.Answer.{Answer, answered, refused, then}
-use Rattle.answer.specs.Refusals.{no, numberOf, detailsOf}
+use Rattle.answer.specs.Refusals.{no}
 use Rattle.answer.specs.declared.Refusal.{Refusal}
 use Rattle.header.specs.Header.{headerOf}
 use Rattle.header.specs.declared.Header.{Header}
-use Rattle.item.specs.Iterator.{iterOf, Next, done, yielded, saidNext, nextOf}
+use Rattle.item.specs.Iterator.{iterOf, Next, done, yielded, nextOf}
 use Rattle.item.proofs.LinkLaws.{WholeAt, whole-is}
 use Rattle.item.proofs.NextLaws.{Yields, yields}
 use Rattle.item.specs.declared.Stream.{Stream}
 use Rattle.item.specs.declared.Item.{Item}
 use Rattle.item.specs.declared.iter.ItemIter.{ItemIter}
-use Rattle.finder.specs.Finder.{State, state, createBy, begunBy, updateBy, saidFinder, finderOf, tableAfter, Leaves}
+use Rattle.finder.specs.Finder.{State, state, createBy, updateBy, saidFinder, finderOf, tableAfter, Leaves}
 use Rattle.finder.proofs.FinderLaws.{create-is}
 use Rattle.finder.specs.declared.ItemFinder.{ItemFinder}
 use Rattle.finder.specs.declared.FinderAnswer.{FinderAnswer}
 use Rattle.finder.specs.declared.FinderAnswer.the-variants as finder
-use Rattle.walk.specs.Walk.{Turn, over, moved, updating, turnBy, saidTurn, turnTable, Leads, Turns, none, more, saidEnd, Walks}
+use Rattle.walk.specs.Walk.{Turn, over, moved, updating, turnBy, saidTurn, turnTable, Leads, Turns, more, saidEnd, Walks}
 use Rattle.walk.specs.declared.TurnAnswer.{TurnAnswer}
 use Rattle.walk.specs.declared.TurnAnswer.the-variants as turn
 use Rattle.walk.specs.declared.End.{End}
-use Rattle.walk.specs.declared.Tour.{Tour}
 
 -- ---- what a function that is lent the table has told of its definition
 pub leaves-answered : (t : List ℕ) (a : Answer State) (r : FinderAnswer) (t′ : List ℕ) (g : ItemFinder) → Leaves t a r t′ → r ≡ finder.Answered g → a ≡ answered (state g t′)

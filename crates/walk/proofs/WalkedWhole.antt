@@ -1,12 +1,12 @@
 -- What a walk leaves is what demand 3 speaks of: each turn is a record yielded and the finder updated, and none was answered without room. So after
 -- any walk, however it ended, demand 3 says what each lookup answers. Assumes nothing.
 use Prim.Native.Nat.{ℕ, zero, suc, _+_, _/_, _≤_, _<_}
-use mathlib.Core.Path.{_≡_, refl, sym, ap, _∙_, subst}
+use mathlib.Core.Path.{_≡_, ap, subst}
 use mathlib.Core.List.{List}
 use native.Mathlib.Nat.{zero-div}
 use native.Mathlib.Omega.{arith}
-use lib.ListN.{length, set}
-use Rattle.answer.specs.Answer.{Answer, answered}
+use lib.ListN.{length}
+use Rattle.answer.specs.Answer.{answered}
 use Rattle.header.specs.Header.{headerOf}
 use Rattle.header.specs.declared.Header.{Header}
 use Rattle.item.specs.declared.Stream.{Stream}

@@ -1,15 +1,14 @@
 -- Stream E walked whole: two turns, and then it is over; with a table that is full, the walk stops at the turn that needs a place.
-use Prim.Native.Nat.{ℕ}
 use mathlib.Core.Path.{_≡_, refl}
-use mathlib.Core.List.{List, [], _∷_, map}
-use Rattle.answer.specs.Answer.{Answer, answered, refused}
+use mathlib.Core.List.{[], _∷_}
+use Rattle.answer.specs.Answer.{answered, refused}
 use Rattle.common.specs.Fields.{le}
 use Rattle.header.specs.Examples.{streamE}
 use Rattle.item.specs.Iterator.{nextOf}
 use Rattle.item.specs.Examples.{cursor}
 use Rattle.finder.specs.Finder.{State, state, updateBy}
 use Rattle.finder.specs.Examples.{finderTo}
-use Rattle.walk.specs.Walk.{Turn, over, moved, turnBy, turnOf, Turns, none, more}
+use Rattle.walk.specs.Walk.{over, turnBy, turnOf, Turns, none, more}
 
 abbrev fresh : State
 fresh = state (finderTo 4098 1) (56 ∷ [])

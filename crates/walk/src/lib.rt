@@ -1,6 +1,5 @@
 // Indexing a whole stream: the loop that every user of a finder writes. Each turn takes the iterator one record on and updates the finder
 // with the cursor behind it; the walk ends where the iterator is done, or at the first refusal of either, such as a table that is full.
-ghost use mathlib.Core.Path.{_≡_};
 ghost use Rattle.finder.specs.Finder.{state};
 ghost use Rattle.walk.specs.Walk.{turnOf, Leads, Walks, Indexes};
 use answer::Refusal;

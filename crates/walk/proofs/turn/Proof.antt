@@ -1,6 +1,6 @@
 -- `walk::turn` meets its contract: the iterator's answer, then the finder's. Assumes nothing.
 use borrow.Author.Needs.{needs}
-use mathlib.Core.Path.{refl, ap}
+use mathlib.Core.Path.{refl}
 use Rattle.answer.proofs.Told.{told}
 use Rattle.item.specs.Iterator.{saidNext}
 use Rattle.walk.proofs.WalkLaws.{leaves-answered, leaves-refused, turn-next, turn-updates, leads}
