@@ -1,7 +1,10 @@
 pub mod Rust
 pub mod ParseBuffer
 pub mod TpiHeader
+pub mod TpiPrimitive
 pub mod Equal
 pub mod Shown
 pub mod BufferLaws
+pub mod Agree
 pub mod HeaderEqual
+pub mod PrimitiveEqual

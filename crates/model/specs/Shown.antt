@@ -1,9 +1,14 @@
 -- The port's values as the crate's: where the port gives a place and a length, the crate gives the bytes there.
 use Prim.Native.Nat.{ℕ}
 use mathlib.Core.List.{List}
+use mathlib.Core.Option.{Option, none, some}
 use Rattle.header.specs.declared.Slice.{Slice as PortSlice}
 use Rattle.header.specs.declared.Header.{Header as PortHeader}
+use Rattle.primitive.specs.declared.PrimitiveType.{PrimitiveType as PortPrimitive}
+use Rattle.primitive.specs.declared.Indirection.{Indirection}
+use Rattle.primitive.specs.declared.Indirection.the-variants.{Direct, Near16, Far16, Huge16, Near32, Far32, Near64, Near128}
 use Rattle.model.specs.TpiHeader.{Slice, Header, ItemInformation}
+use Rattle.model.specs.TpiPrimitive.{PrimitiveType}
 
 abbrev pub sliceShown : PortSlice → Slice
 sliceShown x = record { offset = x .offset; size = x .size }
@@ -26,3 +31,17 @@ headerShown h = record {
 
 abbrev pub information : List ℕ → PortHeader → ItemInformation
 information s h = record { stream = s; header = headerShown h }
+
+-- the port's Direct is the crate's None
+abbrev pub pointed : Indirection → Option Indirection
+pointed Direct = none
+pointed Near16 = some Near16
+pointed Far16 = some Far16
+pointed Huge16 = some Huge16
+pointed Near32 = some Near32
+pointed Far32 = some Far32
+pointed Near64 = some Near64
+pointed Near128 = some Near128
+
+abbrev pub primitiveShown : PortPrimitive → PrimitiveType
+primitiveShown p = record { kind = p .kind; indirection = pointed (p .indirection) }
