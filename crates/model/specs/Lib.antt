@@ -2,9 +2,11 @@ pub mod Rust
 pub mod ParseBuffer
 pub mod TpiHeader
 pub mod TpiPrimitive
+pub mod TpiWords
 pub mod Equal
 pub mod Shown
 pub mod BufferLaws
 pub mod Agree
 pub mod HeaderEqual
 pub mod PrimitiveEqual
+pub mod WordsEqual
