@@ -1,0 +1,6 @@
+pub mod FinderLaws
+pub mod Accepted
+pub mod PlaceLaws
+pub mod DemandProof
+pub mod SharedProof
+pub mod Witnesses

@@ -1,0 +1,3 @@
+pub mod LinkLaws
+pub mod NextLaws
+pub mod ViewLaws

@@ -1,0 +1,42 @@
+-- The outcomes of a part of some bytes and of the kind that it starts with, a law for each. Assumes nothing.
+use Prim.Native.Nat.{ℕ, _+_, _≤_, _<_}
+use mathlib.Core.Path.{_≡_, refl, ap}
+use mathlib.Core.List.{List, []}
+use native.Mathlib.Omega.{arith}
+use lib.ListN.{length, take, drop}
+use borrow.Author.Tests.{le-ltb, lt-ltb}
+use Rattle.answer.specs.Answer.{Answer, answered, refused}
+use Rattle.common.specs.Fields.{le, orZero}
+use Rattle.common.proofs.FieldLaws.{or-zero-there}
+use Rattle.item.specs.Views.{Part, partOf, within, kindAt}
+
+module _ (s : List ℕ) (p n : ℕ) where
+  pub part-past : length s < p + n → partOf s p n ≡ refused 1 []
+  unfolding partOf
+  part-past h = simp (lt-ltb _ _ h)
+
+  pub part-there : p + n ≤ length s → partOf s p n ≡ answered (record { place = p; size = n })
+  unfolding partOf
+  part-there h = simp (le-ltb _ _ h)
+
+  pub kind-past : length s < p + n → kindAt s p n ≡ refused 1 []
+  unfolding kindAt
+  kind-past h = simp (lt-ltb _ _ h)
+
+  pub kind-small : p + n ≤ length s → n < 2 → kindAt s p n ≡ refused 1 []
+  unfolding kindAt
+  kind-small a h = simp (le-ltb _ _ a, lt-ltb _ _ h)
+
+  pub kind-there : p + n ≤ length s → 2 ≤ n → kindAt s p n ≡ answered (orZero 2 s p)
+  unfolding kindAt
+  kind-there a h =
+      let w : p + 2 ≤ length s = omega arith in
+      simp (le-ltb _ _ a, le-ltb _ _ h, or-zero-there 2 s p w)
+
+-- the bytes of a part
+module _ (s : List ℕ) (p n : ℕ) where
+  pub within-past : length s < p + n → within s (partOf s p n) ≡ []
+  within-past h = ap (within s) (part-past s p n h)
+
+  pub within-there : p + n ≤ length s → within s (partOf s p n) ≡ take n (drop p s)
+  within-there h = ap (within s) (part-there s p n h)

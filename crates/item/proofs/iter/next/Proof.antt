@@ -1,0 +1,40 @@
+-- `item::iter::next` meets its contract: each way out is one of the cases of `nextOf`. Assumes nothing.
+use borrow.Author.Needs.{needs}
+use native.Mathlib.Omega.{arith}
+use mathlib.Core.Path.{sym}
+use denote.Ref.{now}
+use Rattle.item.proofs.NextLaws.{next-long, next-past, next-done, next-length, next-short, next-payload, next-used, next-yields}
+use Rattle.item.proofs.iter.next.Statement.{statement}
+use Rattle.item.proofs.iter.next.Tie as tie
+
+returns : tie.Need-returns
+returns c = sym (next-long _ _ (omega arith))
+
+returns-2 : tie.Need-returns-2
+returns-2 c = sym (next-past _ _ (omega arith) (omega arith))
+
+returns-3 : tie.Need-returns-3
+returns-3 c = sym (next-done _ _ (omega arith) (omega arith) (omega arith))
+
+returns-4 : tie.Need-returns-4
+returns-4 c = sym (next-length _ _ (omega arith) (omega arith) (omega arith))
+
+returns-5 : tie.Need-returns-5
+returns-5 c = sym (next-short _ _ (omega arith) (omega arith) (omega arith))
+
+returns-6 : tie.Need-returns-6
+returns-6 c = sym (next-payload _ _ (omega arith) (omega arith) (omega arith) (omega arith))
+
+returns-7 : tie.Need-returns-7
+returns-7 c = sym (next-used _ _ (omega arith) (omega arith) (omega arith) (omega arith))
+
+returns-8 : tie.Need-returns-8
+returns-8 c =
+    let a = c .before .before .before .before .before .before .before .before .before .before .args in
+    cc (next-yields (now (a .s)) (a .c) (omega arith) (omega arith) (omega arith) (omega arith))
+
+pub next-spec : {M : Type 1} → statement M
+next-spec =
+    tie.close (tie.spec
+    returns returns-2 returns-3 (λ c. search needs) returns-4 (λ c κs. search needs) returns-5 (λ c. search needs) (λ c. search needs) returns-6
+    returns-7 (λ c κs. search needs) (λ c. search needs) (λ c. search needs) returns-8)

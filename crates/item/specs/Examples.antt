@@ -1,0 +1,55 @@
+-- Document 01, "Examples": stream E iterated, and its items viewed.
+use Prim.Native.Nat.{ℕ}
+use mathlib.Core.Path.{_≡_, refl}
+use mathlib.Core.List.{List, [], _∷_, map}
+use mathlib.Core.Bool.{Bool, true, false}
+use Rattle.answer.specs.Answer.{Answer, answered, refused}
+use Rattle.common.specs.Fields.{le}
+use Rattle.header.specs.Header.{headerOf}
+use Rattle.header.specs.Examples.{streamE}
+use Rattle.item.specs.Items.{indexIn}
+use Rattle.item.specs.Iterator.{iterOf, Next, done, yielded, itemAt, nextOf}
+use Rattle.item.specs.Views.{partOf, viewOf, kindAt, rawKindOf}
+use Rattle.item.specs.Information.{lenOf, isEmptyOf}
+use Rattle.item.specs.declared.Stream.{Stream}
+use Rattle.item.specs.declared.Stream.the-variants.{Types, Ids}
+use Rattle.item.specs.declared.Entry.{Entry}
+use Rattle.item.specs.declared.Entry.the-variants.{Record, Marker}
+use Rattle.item.specs.declared.iter.ItemIter.{ItemIter}
+
+abbrev pub cursor : ℕ → ℕ → ItemIter
+cursor p i = record { stream = Types; at = p; index = i }
+
+pub starts : iterOf Types streamE ≡ answered (cursor 56 4096)
+unfolding iterOf headerOf le
+starts = refl
+
+-- 4096 (payload 58 to 66) and 4097 (68 to 78), then done
+pub steps : map (nextOf streamE) (cursor 56 4096 ∷ cursor 66 4097 ∷ cursor 78 4098 ∷ [])
+    ≡ answered (yielded (itemAt Types 4096 58 8) (cursor 66 4097)) ∷ answered (yielded (itemAt Types 4097 68 10) (cursor 78 4098)) ∷ answered done ∷ []
+unfolding nextOf le
+steps = refl
+
+-- past the end; one byte left; a length below 2 (the byte pair at place 60 is 0x74, 0; at 61 it is 0, 0); a payload cut; the last index
+pub refusals : map (nextOf streamE) (cursor 79 4096 ∷ cursor 77 4096 ∷ cursor 61 4096 ∷ cursor 60 4096 ∷ cursor 56 4294967295 ∷ [])
+    ≡ refused 1 [] ∷ refused 1 [] ∷ refused 6 [] ∷ refused 1 [] ∷ refused 7 [] ∷ []
+unfolding nextOf le
+refusals = refl
+
+pub counts : lenOf streamE ≡ answered 2
+unfolding lenOf headerOf le
+counts = refl
+
+pub empties : isEmptyOf [] ≡ answered true
+unfolding isEmptyOf lenOf headerOf
+empties = refl
+
+pub views : map (viewOf streamE []) (Record (itemAt Types 4096 58 8) ∷ Record (itemAt Types 4096 58 21) ∷ Record (itemAt Ids 4096 58 8) ∷ Marker (indexIn Types 4095) ∷ [])
+    ≡ answered (record { place = 58; size = 8 }) ∷ refused 1 [] ∷ refused 1 [] ∷ refused 8 (4095 ∷ []) ∷ []
+unfolding partOf
+views = refl
+
+pub kinds : map (rawKindOf streamE []) (Record (itemAt Types 4096 58 8) ∷ Record (itemAt Types 4097 68 10) ∷ Record (itemAt Types 4096 58 1) ∷ Marker (indexIn Types 4095) ∷ [])
+    ≡ answered 0x1001 ∷ answered 0x1002 ∷ refused 1 [] ∷ answered 0xffff ∷ []
+unfolding kindAt le
+kinds = refl

@@ -1,0 +1,71 @@
+-- What each answer of this crate says fixes the answer. Assumes nothing.
+use Prim.Native.Nat.{ℕ}
+use mathlib.Core.Path.{_≡_, refl}
+use mathlib.Core.Bool.{Bool}
+use Rattle.answer.specs.Answer.{Answer}
+use Rattle.answer.specs.OneOutcome.{one-of, heard, heard-no}
+use Rattle.item.specs.Iterator.{Next, done, yielded, saidIter, saidNext}
+use Rattle.item.specs.Views.{Part, saidView, saidKind}
+use Rattle.item.specs.Information.{saidLen, saidEmpty}
+use Rattle.item.specs.declared.iter.IterAnswer.{IterAnswer}
+use Rattle.item.specs.declared.iter.IterAnswer.the-variants as iter
+use Rattle.item.specs.declared.iter.NextAnswer.{NextAnswer}
+use Rattle.item.specs.declared.iter.NextAnswer.the-variants as next
+use Rattle.item.specs.declared.view.ViewAnswer.{ViewAnswer}
+use Rattle.item.specs.declared.view.ViewAnswer.the-variants as view
+use Rattle.item.specs.declared.view.KindAnswer.{KindAnswer}
+use Rattle.item.specs.declared.view.KindAnswer.the-variants as kind
+use Rattle.item.specs.declared.information.LenAnswer.{LenAnswer}
+use Rattle.item.specs.declared.information.LenAnswer.the-variants as len
+use Rattle.item.specs.declared.information.EmptyAnswer.{EmptyAnswer}
+use Rattle.item.specs.declared.information.EmptyAnswer.the-variants as empty
+
+iter-back : (r : IterAnswer) → heard iter.Answered iter.Refused (saidIter r) ≡ r
+iter-back (iter.Answered c) = refl
+iter-back (iter.Refused e) = heard-no iter.Answered iter.Refused e
+
+pub one-iter : (r q : IterAnswer) → saidIter r ≡ saidIter q → r ≡ q
+one-iter = one-of saidIter (heard iter.Answered iter.Refused) iter-back
+
+abbrev nextIn : Next → NextAnswer
+nextIn done = next.Done
+nextIn (yielded i c) = next.Yielded i c
+
+next-back : (r : NextAnswer) → heard nextIn next.Refused (saidNext r) ≡ r
+next-back next.Done = refl
+next-back (next.Yielded i c) = refl
+next-back (next.Refused e) = heard-no nextIn next.Refused e
+
+pub one-next : (r q : NextAnswer) → saidNext r ≡ saidNext q → r ≡ q
+one-next = one-of saidNext (heard nextIn next.Refused) next-back
+
+abbrev viewIn : Part → ViewAnswer
+viewIn a = view.Answered (a .place) (a .size)
+
+view-back : (r : ViewAnswer) → heard viewIn view.Refused (saidView r) ≡ r
+view-back (view.Answered p n) = refl
+view-back (view.Refused e) = heard-no viewIn view.Refused e
+
+pub one-view : (r q : ViewAnswer) → saidView r ≡ saidView q → r ≡ q
+one-view = one-of saidView (heard viewIn view.Refused) view-back
+
+kind-back : (r : KindAnswer) → heard kind.Answered kind.Refused (saidKind r) ≡ r
+kind-back (kind.Answered k) = refl
+kind-back (kind.Refused e) = heard-no kind.Answered kind.Refused e
+
+pub one-kind : (r q : KindAnswer) → saidKind r ≡ saidKind q → r ≡ q
+one-kind = one-of saidKind (heard kind.Answered kind.Refused) kind-back
+
+len-back : (r : LenAnswer) → heard len.Answered len.Refused (saidLen r) ≡ r
+len-back (len.Answered n) = refl
+len-back (len.Refused e) = heard-no len.Answered len.Refused e
+
+pub one-len : (r q : LenAnswer) → saidLen r ≡ saidLen q → r ≡ q
+one-len = one-of saidLen (heard len.Answered len.Refused) len-back
+
+empty-back : (r : EmptyAnswer) → heard empty.Answered empty.Refused (saidEmpty r) ≡ r
+empty-back (empty.Answered b) = refl
+empty-back (empty.Refused e) = heard-no empty.Answered empty.Refused e
+
+pub one-empty : (r q : EmptyAnswer) → saidEmpty r ≡ saidEmpty q → r ≡ q
+one-empty = one-of saidEmpty (heard empty.Answered empty.Refused) empty-back

@@ -1,0 +1,105 @@
+// The iterator over a stream's records: document 01, "Links and the iterator". It comes and goes by value.
+ghost use mathlib.Core.Path.{_≡_};
+ghost use Rattle.item.specs.declared.Stream.the-variants as stream;
+ghost use Rattle.item.specs.Iterator.{iterOf, saidIter, nextOf, saidNext};
+use crate::Item;
+use crate::Stream;
+use crate::length_at;
+use answer::Refusal;
+use header::Header;
+use header::HeaderAnswer;
+use header::LONGEST;
+
+// The cursor: where the next record starts, and the index it will have. Any cursor may be given; `index` is the count that `next` goes
+// on from, and the item that it yields has it as an ItemIndex.
+pub struct ItemIter {
+    pub stream: Stream,
+    pub at: usize,
+    pub index: u32,
+}
+
+pub enum IterAnswer {
+    Answered(ItemIter),
+    Refused(Refusal),
+}
+
+pub enum NextAnswer {
+    Done,
+    Yielded(Item, ItemIter),
+    Refused(Refusal),
+}
+
+// A fresh iterator over the TPI stream.
+pub fn types(s: &[u8]) -> IterAnswer
+    ensures { λ r. ⌜ saidIter r ≡ iterOf stream.Types (now (s .entry)) ⌝ }
+{
+    iter(Stream::Types, s)
+}
+
+// A fresh iterator over the IPI stream.
+pub fn ids(s: &[u8]) -> IterAnswer
+    ensures { λ r. ⌜ saidIter r ≡ iterOf stream.Ids (now (s .entry)) ⌝ }
+{
+    iter(Stream::Ids, s)
+}
+
+// A fresh iterator over a stream: it stands behind the header, at the minimum index.
+pub fn iter(stream: Stream, s: &[u8]) -> IterAnswer
+    ensures { λ r. ⌜ saidIter r ≡ iterOf stream (now (s .entry)) ⌝ }
+{
+    match Header::parse(s) {
+        HeaderAnswer::Answered(h) => IterAnswer::Answered(ItemIter {
+            stream: stream,
+            at: h.header_size as usize,
+            index: h.minimum_index,
+        }),
+        HeaderAnswer::Refused(e) => IterAnswer::Refused(e),
+    }
+}
+
+// The record at the cursor, and the cursor behind it.
+pub fn next(s: &[u8], c: ItemIter) -> NextAnswer
+    ensures { λ r. ⌜ saidNext r ≡ nextOf (now (s .entry)) c ⌝ }
+{
+    let stream = c.stream;
+    let at = c.at;
+    let index = c.index;
+    if s.len() > LONGEST {
+        return NextAnswer::Refused(Refusal::TooLong);
+    }
+    if at > s.len() {
+        return NextAnswer::Refused(Refusal::Ended);
+    }
+    if at == s.len() {
+        return NextAnswer::Done;
+    }
+    if s.len() - at < 2 {
+        return NextAnswer::Refused(Refusal::Ended);
+    }
+    let n = length_at(s, at);
+    if n < 2 {
+        return NextAnswer::Refused(Refusal::TooShort);
+    }
+    let place = at + 2;
+    if n > s.len() - place {
+        return NextAnswer::Refused(Refusal::Ended);
+    }
+    if index == 4294967295 {
+        return NextAnswer::Refused(Refusal::IndicesUsedUp);
+    }
+    let named = stream.index(index);
+    let after = place + n;
+    let following = index + 1;
+    NextAnswer::Yielded(
+        Item {
+            index: named,
+            place: place,
+            length: n,
+        },
+        ItemIter {
+            stream: stream,
+            at: after,
+            index: following,
+        },
+    )
+}
