@@ -3,6 +3,8 @@ pub mod ParseBuffer
 pub mod TpiHeader
 pub mod TpiPrimitive
 pub mod TpiWords
+pub mod TpiHelpers
+pub mod TpiId
 pub mod Equal
 pub mod Shown
 pub mod BufferLaws
@@ -10,3 +12,4 @@ pub mod Agree
 pub mod HeaderEqual
 pub mod PrimitiveEqual
 pub mod WordsEqual
+pub mod HelpersEqual

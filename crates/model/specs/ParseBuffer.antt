@@ -55,14 +55,15 @@ take buf n = do
     pos ← fits usize (buf .pos + n)  -- 816
     gives (front n input, at (buf .bytes) pos)) (errs UnexpectedEof)  -- 817, 819
 
+-- one place further on
+abbrev pub beyond : Option ℕ → Option ℕ
+beyond none = none
+beyond (some n) = some (suc n)
+
 -- .iter().position(|ch| *ch == 0)
 unfoldable pub position : List ℕ → Option ℕ
 position [] = none
 position (b ∷ bs) = if (eqb b 0) (some 0) (beyond (position bs))
-  where
-    beyond : Option ℕ → Option ℕ
-    beyond none = none
-    beyond (some n) = some (suc n)
 
 -- `if let Some(..)`
 abbrev pub if-some : {A B : Type 0} → Option A → (A → B) → B → B
