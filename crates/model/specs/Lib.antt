@@ -13,3 +13,4 @@ pub mod HeaderEqual
 pub mod PrimitiveEqual
 pub mod WordsEqual
 pub mod HelpersEqual
+pub mod IdEqual
