@@ -1,6 +1,7 @@
 pub mod Rust
 pub mod ParseBuffer
 pub mod TpiHeader
+pub mod TpiItems
 pub mod TpiPrimitive
 pub mod TpiWords
 pub mod TpiHelpers
@@ -8,9 +9,11 @@ pub mod TpiId
 pub mod Equal
 pub mod Shown
 pub mod BufferLaws
+pub mod Compose
 pub mod Agree
 pub mod HeaderEqual
 pub mod PrimitiveEqual
 pub mod WordsEqual
 pub mod HelpersEqual
 pub mod IdEqual
+pub mod NextEqual

@@ -1,14 +1,23 @@
 -- The port's values as the crate's: where the port gives a place and a length, the crate gives the bytes there.
-use Prim.Native.Nat.{ℕ, zero, suc, _+_}
+use Prim.Native.Nat.{ℕ, zero, suc, _+_, _≤_}
 use mathlib.Core.List.{List, [], _∷_}
+use mathlib.Core.Path.{_≡_}
 use mathlib.Core.Option.{Option, none, some}
-use lib.ListN.{take as front, drop}
+use lib.ListN.{length, take as front, drop}
 use lib.Dec.{eqb}
-use Rattle.answer.specs.Answer.{Got, pick}
+use Rattle.answer.specs.Answer.{Answer, answered, refused, Got, pick}
 use Rattle.common.specs.Fields.{le}
 use Rattle.common.specs.Texts.{Part}
+use Rattle.item.specs.Items.{numberIn as indexShown}
+use Rattle.item.specs.Iterator.{Next, done, yielded}
+use Rattle.item.specs.declared.Item.{Item as PortItem}
+use Rattle.item.specs.declared.Entry.{Entry}
+use Rattle.item.specs.declared.Entry.the-variants.{Record, Marker}
+use Rattle.item.specs.declared.iter.ItemIter.{ItemIter as PortIter}
+use Rattle.finder.specs.Finder.{State, Found}
 use Rattle.layout.specs.Fields.{Value}
 use Rattle.layout.specs.OneOutcome.{nth, numberIn, optionIn, stringIn}
+use Rattle.header.specs.Header.{longest}
 use Rattle.header.specs.declared.Slice.{Slice as PortSlice}
 use Rattle.header.specs.declared.Header.{Header as PortHeader}
 use Rattle.primitive.specs.declared.PrimitiveType.{PrimitiveType as PortPrimitive}
@@ -16,6 +25,7 @@ use Rattle.primitive.specs.declared.Indirection.{Indirection}
 use Rattle.primitive.specs.declared.Indirection.the-variants.{Direct, Near16, Far16, Huge16, Near32, Far32, Near64, Near128}
 use Rattle.model.specs.ParseBuffer.{ParseBuffer, at}
 use Rattle.model.specs.TpiHeader.{Slice, Header, ItemInformation}
+use Rattle.model.specs.TpiItems.{Item, ItemIter, ItemFinder, PRIMITIVE-TYPE}
 use Rattle.model.specs.TpiPrimitive.{PrimitiveType}
 use Rattle.model.specs.TpiId.{IdData, Function, MemberFunction, BuildInfo, StringList, String, UserDefinedTypeSource, Local, Remote}
 
@@ -51,6 +61,47 @@ headerShown h = record {
 abbrev pub information : List ℕ → PortHeader → ItemInformation
 information s h = record { stream = s; header = headerShown h }
 
+-- ---- items, iterators, finders over the stream s
+abbrev pub itemShown : List ℕ → PortItem → Item
+itemShown s i = record { index = indexShown (i .index); bytes = front (i .length) (drop (i .place) s) }
+
+abbrev pub entryShown : List ℕ → Entry → Item
+entryShown s (Record i) = itemShown s i
+entryShown s (Marker i) = record { index = indexShown i; bytes = PRIMITIVE-TYPE }
+
+abbrev pub iterShown : List ℕ → PortIter → ItemIter
+iterShown s c = record { buf = at s (c .at); index = c .index }
+
+abbrev pub nextShown : List ℕ → PortIter → Next → Option Item × ItemIter
+nextShown s c done = (none, iterShown s c)
+nextShown s c (yielded i d) = (some (itemShown s i), iterShown s d)
+
+-- where the port lends a table and says how many of its places are held, the crate has a `Vec` of them; the port's blocks are the crate's of this shift
+abbrev pub finderShown : ℕ → List ℕ → State → ItemFinder
+finderShown shift s σ = record {
+  buffer = at s 0;
+  minimum-index = σ .finder .«minimum_index»;
+  maximum-index = σ .finder .«maximum_index»;
+  positions = front (σ .finder .held) (σ .table);
+  shift = shift;
+}
+
+-- what `find` answers, without the links passed, which the crate does not report
+abbrev pub unlinked : List ℕ → Answer Found → Answer Item
+unlinked s (answered x) = answered (entryShown s (x .entry))
+unlinked s (refused n d) = refused n (pick (eqb n 1) [] d)
+
+-- the domain: the lent table never lacked room
+abbrev pub Roomy : {A : Type 0} → Answer A → Type 0
+Roomy a = (d : List ℕ) → a ≡ refused 13 d → ⊥
+
+-- where an iterator that has not refused can stand: not past the end of a stream that is not over-long, its index a u32
+pub record CanStand (s : List ℕ) (c : PortIter) : Type 0 where
+  pub short : length s ≤ longest
+  pub inside : c .at ≤ length s
+  pub index : c .index ≤ 4294967295
+
+-- ---- primitives
 -- the port's Direct is the crate's None
 abbrev pub pointed : Indirection → Option Indirection
 pointed Direct = none
@@ -65,6 +116,7 @@ pointed Near128 = some Near128
 abbrev pub primitiveShown : PortPrimitive → PrimitiveType
 primitiveShown p = record { kind = p .kind; indirection = pointed (p .indirection) }
 
+-- ---- ids
 -- the n numbers of four bytes each at a place
 unfoldable pub elements : ℕ → List ℕ → ℕ → List ℕ
 elements zero s p = []
