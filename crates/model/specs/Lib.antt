@@ -17,3 +17,6 @@ pub mod WordsEqual
 pub mod HelpersEqual
 pub mod IdEqual
 pub mod NextEqual
+pub mod CreateEqual
+pub mod UpdateEqual
+pub mod LinkEqual
