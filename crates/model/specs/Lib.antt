@@ -20,3 +20,4 @@ pub mod NextEqual
 pub mod CreateEqual
 pub mod UpdateEqual
 pub mod LinkEqual
+pub mod FindEqual
