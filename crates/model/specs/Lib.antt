@@ -21,3 +21,5 @@ pub mod CreateEqual
 pub mod UpdateEqual
 pub mod LinkEqual
 pub mod FindEqual
+pub mod Run
+pub mod RunEqual
