@@ -23,3 +23,4 @@ pub mod LinkEqual
 pub mod FindEqual
 pub mod Run
 pub mod RunEqual
+pub mod RunStays
