@@ -24,3 +24,4 @@ pub mod FindEqual
 pub mod Run
 pub mod RunEqual
 pub mod RunStays
+pub mod ItemsEqual
