@@ -8,21 +8,27 @@ use native.Mathlib.Omega.{arith}
 use lib.ListN.{length}
 use lib.Dec.{eqb}
 use borrow.Author.Tests.{le-ltb, lt-ltb, eqb-true}
-use Rattle.answer.specs.Answer.{Answer, answered}
+use Rattle.answer.specs.Answer.{answered}
 use Rattle.answer.specs.Tables.{find}
-use Rattle.answer.specs.Refusals.{no}
 use Rattle.common.specs.Fields.{le}
 use Rattle.common.specs.Indices.{noId, optionalOf, idSaid}
 use Rattle.common.specs.Texts.{bytesAfter}
 use Rattle.layout.specs.Fields.{readField, readFields}
 use Rattle.layout.specs.Layouts.{idLeaves, readLeaf, leafOf, recordOf}
 use Rattle.layout.specs.OneOutcome.{option-back}
+use Rattle.id.specs.Said.{sourceValues, idValues, saidIdData}
+use Rattle.id.specs.declared.UserDefinedTypeSourceFileRef.{UserDefinedTypeSourceFileRef}
+use Rattle.id.specs.declared.UserDefinedTypeSourceFileRef.the-variants as file
+use Rattle.id.specs.declared.IdData.{IdData}
+use Rattle.id.specs.declared.IdData.the-variants as id
+use Rattle.id.specs.declared.IdAnswer.{IdAnswer}
+use Rattle.id.specs.declared.IdAnswer.the-variants as answer
 use Rattle.model.specs.Rust.{Rust, gives, errs, _>>=_, match, UnexpectedEof, usize}
 use Rattle.model.specs.ParseBuffer.{at}
 use Rattle.model.specs.TpiHelpers.{parse-string}
-use Rattle.model.specs.TpiId.{function-id, member-function-id, pushed, build-info, string-list, string-id, source-line, by-leaf, try-from-ctx, parse-id}
+use Rattle.model.specs.TpiId.{UserDefinedTypeSource, function-id, member-function-id, pushed, build-info, string-list, string-id, source-line, by-leaf, try-from-ctx, parse-id}
 use Rattle.model.specs.Equal.{Same, shownBy}
-use Rattle.model.specs.Shown.{elements, idShown}
+use Rattle.model.specs.Shown.{elements, idShown, fileShown, idDataShown, idAnswerShown}
 use Rattle.model.specs.BufferLaws.{parse-in, parse-out, fixed-in, fixed-out, same, same-end, by-order}
 use Rattle.model.specs.HelpersEqual.{id-in, id-out, optional-in, optional-out, by-text}
 
@@ -157,3 +163,25 @@ module _ (s : List ℕ) where
         by-order 2 (length s)
         (λ h. rw (parse-in s 0 2 h, fixed-in s 0 2 h) (each (le 2 s 0)))
         (λ h. rw (parse-out s 0 2 h, fixed-out s 0 2 h) same-end)
+
+-- ---- what the port's `id_data` answers, by its contract
+module _ (s : List ℕ) where
+  source-is : (udt : ℕ) (f : UserDefinedTypeSourceFileRef) (line : ℕ)
+      → idShown s (sourceValues udt f line) ≡ UserDefinedTypeSource (record { udt = udt; source-file = fileShown f; line = line })
+  source-is udt (file.Local f) line = refl
+  source-is udt (file.Remote m f) line = refl
+
+  data-is : (d : IdData) → idShown s (idValues d) ≡ idDataShown s d
+  data-is (id.Function r) = rw (option-back (idSaid (r .scope)))
+  data-is (id.MemberFunction r) = refl
+  data-is (id.BuildInfo r) = refl
+  data-is (id.StringList r) = refl
+  data-is (id.String r) = rw (option-back (idSaid (r .substrings)))
+  data-is (id.UserDefinedTypeSource r) = source-is (r .udt .0) (r .«source_file») (r .line)
+
+  answer-is : (r : IdAnswer) → shownBy (idShown s) (saidIdData r) ≡ idAnswerShown s r
+  answer-is (answer.Answered d) = ap answered (data-is d)
+  answer-is (answer.Refused e) = refl
+
+  pub id-answers : length s < usize → (r : IdAnswer) → saidIdData r ≡ recordOf idLeaves s → Same (parse-id s) (idAnswerShown s r)
+  id-answers l r e = subst (λ a. Same (parse-id s) a) (ap (shownBy (idShown s)) (sym e) ∙ answer-is r) (id-same s l)

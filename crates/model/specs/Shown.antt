@@ -15,11 +15,20 @@ use Rattle.item.specs.declared.Entry.{Entry}
 use Rattle.item.specs.declared.Entry.the-variants.{Record, Marker}
 use Rattle.item.specs.declared.iter.ItemIter.{ItemIter as PortIter}
 use Rattle.finder.specs.Finder.{State, Found}
+use Rattle.common.specs.Indices.{idSaid}
+use Rattle.common.specs.declared.text.RawString.{RawString}
+use Rattle.answer.specs.Refusals.{no}
 use Rattle.layout.specs.Fields.{Value}
 use Rattle.layout.specs.OneOutcome.{nth, numberIn, optionIn, stringIn}
 use Rattle.header.specs.Header.{longest}
 use Rattle.header.specs.declared.Slice.{Slice as PortSlice}
 use Rattle.header.specs.declared.Header.{Header as PortHeader}
+use Rattle.id.specs.declared.UserDefinedTypeSourceFileRef.{UserDefinedTypeSourceFileRef as PortFile}
+use Rattle.id.specs.declared.UserDefinedTypeSourceFileRef.the-variants as file
+use Rattle.id.specs.declared.IdData.{IdData as PortId}
+use Rattle.id.specs.declared.IdData.the-variants as id
+use Rattle.id.specs.declared.IdAnswer.{IdAnswer}
+use Rattle.id.specs.declared.IdAnswer.the-variants as answer
 use Rattle.primitive.specs.declared.PrimitiveType.{PrimitiveType as PortPrimitive}
 use Rattle.primitive.specs.declared.Indirection.{Indirection}
 use Rattle.primitive.specs.declared.Indirection.the-variants.{Direct, Near16, Far16, Huge16, Near32, Far32, Near64, Near128}
@@ -27,7 +36,7 @@ use Rattle.model.specs.ParseBuffer.{ParseBuffer, at}
 use Rattle.model.specs.TpiHeader.{Slice, Header, ItemInformation}
 use Rattle.model.specs.TpiItems.{Item, ItemIter, ItemFinder, PRIMITIVE-TYPE}
 use Rattle.model.specs.TpiPrimitive.{PrimitiveType}
-use Rattle.model.specs.TpiId.{IdData, Function, MemberFunction, BuildInfo, StringList, String, UserDefinedTypeSource, Local, Remote}
+use Rattle.model.specs.TpiId.{IdData, Function, MemberFunction, BuildInfo, StringList, String, UserDefinedTypeSource, UserDefinedTypeSourceFileRef, Local, Remote}
 
 -- a value and the place after it; a string is the bytes of its part
 abbrev pub readShown : {A : Type 0} → List ℕ → Got A → A × ParseBuffer
@@ -142,3 +151,23 @@ idShown s vs =
     (pick (eqb leaf 0x1605) (String (record { substrings = optionIn a; name = textIn s b }))
     (pick (eqb leaf 0x1606) (UserDefinedTypeSource (record { udt = numberIn a; source-file = Local (numberIn b); line = numberIn c }))
     (UserDefinedTypeSource (record { udt = numberIn a; source-file = Remote (numberIn (nth 4 vs)) (numberIn b); line = numberIn c })))))))
+
+-- and as the port's function `id_data` answers
+abbrev pub nameShown : List ℕ → RawString → List ℕ
+nameShown s x = front (x .length) (drop (x .place) s)
+
+abbrev pub fileShown : PortFile → UserDefinedTypeSourceFileRef
+fileShown (file.Local f) = Local (f .0)
+fileShown (file.Remote m f) = Remote m (f .0)
+
+abbrev pub idDataShown : List ℕ → PortId → IdData
+idDataShown s (id.Function r) = Function (record { scope = idSaid (r .scope); function-type = r .«function_type» .0; name = nameShown s (r .name) })
+idDataShown s (id.MemberFunction r) = MemberFunction (record { parent = r .parent .0; function-type = r .«function_type» .0; name = nameShown s (r .name) })
+idDataShown s (id.BuildInfo r) = BuildInfo (elements (r .count) s (r .place))
+idDataShown s (id.StringList r) = StringList (elements (r .count) s (r .place))
+idDataShown s (id.String r) = String (record { substrings = idSaid (r .substrings); name = nameShown s (r .name) })
+idDataShown s (id.UserDefinedTypeSource r) = UserDefinedTypeSource (record { udt = r .udt .0; source-file = fileShown (r .«source_file»); line = r .line })
+
+abbrev pub idAnswerShown : List ℕ → IdAnswer → Answer IdData
+idAnswerShown s (answer.Answered d) = answered (idDataShown s d)
+idAnswerShown s (answer.Refused e) = no e
