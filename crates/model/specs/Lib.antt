@@ -25,3 +25,4 @@ pub mod Run
 pub mod RunEqual
 pub mod RunStays
 pub mod ItemsEqual
+pub mod Demand2
