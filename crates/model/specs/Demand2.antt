@@ -64,7 +64,6 @@ pub record Demand2 : Type 0 where
   -- "The record count is maximum minus minimum"
   pub counts : (s : List ℕ) → Lent s → Same (_>>=_ (parse-information s) information-len) (lenOf s)
   pub empties : (s : List ℕ) → Lent s → Same (_>>=_ (parse-information s) information-is-empty) (isEmptyOf s)
-
   -- "Links and the iterator": a fresh iterator, and a step wherever one that has not refused can stand; where the crate's index wraps, 7
   pub starts : (tag : Stream) (s : List ℕ) (h : Header) → length s ≤ longest → Equal (iter (information s h)) (answered (iterShown s (first tag h)))
   pub steps : (s : List ℕ) (c : ItemIter) → CanStand s c → Stepwise (nextShown s c) (next (iterShown s c)) (nextOf s c)
@@ -73,7 +72,6 @@ pub record Demand2 : Type 0 where
   pub none-long : (s : List ℕ) (e : Entry) → Within s e → item-is-empty (entryShown s e) ≡ eqb (lengthOf e) 0
   pub raw-kinds : (t p : List ℕ) → Lent t → Lent p → (e : Entry) → Within (named t p (indexOf e)) e
       → Equal (raw-kind (entryShown (named t p (indexOf e)) e)) (rawKindOf t p e)
-
   -- "Finder": creation, `update`, `find` and `max_index`, for any places held in a table that does not lack room; the places fit a u32 times 8
   pub creations : (s t : List ℕ) (h : Header) → Roomy (begunOf t h) → Equal (finder (information s h)) (shownBy (finderShown 3 s) (begunOf t h))
   pub updates : (s : List ℕ) (σ : State) (c : ItemIter) → c .at ≤ longest → σ .finder .held ≤ length (σ .table) → Roomy (updateOf σ c)
@@ -82,11 +80,9 @@ pub record Demand2 : Type 0 where
       → Equal (find (finderShown 3 s σ) (numberIn i)) (unlinked s (findOf s σ i))
   pub highest : (s : List ℕ) (σ : State) → σ .finder .held ≤ length (σ .table) → σ .finder .held * 8 < 4294967296
       → Equal (max-index (finderShown 3 s σ)) (answered (maxIndexOf (σ .finder)))
-
   -- from the header to a lookup, n turns of `next` and `update` between; and how far the domain reaches: minimum + 8 (n + 1) below 2 ^ 32
   pub runs : RunsEqual
   pub reach : RunsSame
-
   -- "Indices and primitives": every index below 0x1000; from there up the crate panics
   pub primitives : (i : ℕ) → i < 0x1000 → Same (type-data-for-primitive i) (shownBy primitiveShown (primitiveOf i))
   pub every-primitive : (i : ℕ) → Equal (type-data-for-primitive i) (shownBy primitiveShown (primitiveOf i))
@@ -94,7 +90,6 @@ pub record Demand2 : Type 0 where
   pub optional-types : (s : List ℕ) (p : ℕ) → Same (parse-optional-type-index (at s p)) (shownBy (readShown s) (optionalAt noType s p))
   pub optional-ids : (s : List ℕ) (p : ℕ) → Same (parse-optional-id-index (at s p)) (shownBy (readShown s) (optionalAt noId s p))
   pub cross-modules : (i : ℕ) → i < 4294967296 → is-cross-module i ≡ leb 0x80000000 i
-
   -- "Attribute words": every method of the four words, for every word; "12 replaces `unreachable!()`"
   pub type-flags : Flags
       (packed ∷ constructors ∷ overloaded-operators ∷ is-nested-type ∷ contains-nested-types ∷ overloaded-assignment ∷ overloaded-casting ∷ forward-reference ∷ scoped-definition ∷ has-unique-name ∷ sealed ∷ intrinsic-type ∷ [])
@@ -114,11 +109,9 @@ pub record Demand2 : Type 0 where
   pub members : (w : ℕ) → Replaced (pointer-to-member w) (toMemberOf w)
   pub references : (w : ℕ) → Replaced (is-reference w) (referenceOf w)
   pub pointer-sizes : (w : ℕ) → Replaced (pointer-size w) (sizeOf w)
-
   -- "Strings, padding": a string by its leaf and padding, at any place within the bytes
   pub strings : (s : List ℕ) → length s < usize → (p : ℕ) → p ≤ length s → (leaf : ℕ) → Same (parse-string leaf (at s p)) (shownBy (textShown s) (stringOf leaf s p))
   pub paddings : (s : List ℕ) → Bytes s → (p : ℕ) → p ≤ length s → Same (parse-padding (at s p)) (shownBy (at s) (paddingAfter s p))
-
   -- "Ids": all bytes of an id record, all seven leaves, and 10 with the leaf for every other; and what the port's `id_data` answers by its contract
   pub ids : (s : List ℕ) → length s < usize → Same (parse-id s) (shownBy (idShown s) (recordOf idLeaves s))
   pub id-data : (s : List ℕ) → length s < usize → (r : IdAnswer) → saidIdData r ≡ recordOf idLeaves s → Same (parse-id s) (idAnswerShown s r)

@@ -8,6 +8,9 @@ pub mod TpiHelpers
 pub mod TpiId
 pub mod Equal
 pub mod Shown
+pub mod Run
+pub mod Demand2
+pub mod Examples
 pub mod BufferLaws
 pub mod Compose
 pub mod Agree
@@ -21,8 +24,6 @@ pub mod CreateEqual
 pub mod UpdateEqual
 pub mod LinkEqual
 pub mod FindEqual
-pub mod Run
 pub mod RunEqual
 pub mod RunStays
 pub mod ItemsEqual
-pub mod Demand2
