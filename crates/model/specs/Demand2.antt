@@ -56,7 +56,7 @@ use Rattle.model.specs.WordsEqual.{properties, hfa-is, mocom-is, access-
 use Rattle.model.specs.HelpersEqual.{optional-type, optional-id, string, padding, cross-module}
 use Rattle.model.specs.IdEqual.{id-same, id-answers}
 
--- a field of a word, a method's answer, as a function of the word
+-- these methods of a word give these bits of it, for every word
 abbrev Flags : List (ℕ → Bool) → List ℕ → Type 0
 Flags methods places = (w : ℕ) → map (λ (f : ℕ → Bool). f w) methods ≡ map (λ k. bit k w) places
 
