@@ -50,7 +50,7 @@ classIn k vs = type.Class (record {
   «unique_name» = optIn (nth 8 vs);
 })
 
-abbrev dataIn : List (Value Part) → TypeData
+abbrev pub dataIn : List (Value Part) → TypeData
 dataIn vs =
     let leaf = numberIn (nth 0 vs) in
     let n1 = numberIn (nth 1 vs) in
@@ -112,7 +112,7 @@ class-back kind.Struct r = rw (type-back (r .fields), type-back (r .«derived_fr
 class-back kind.Interface r = rw (type-back (r .fields), type-back (r .«derived_from»), type-back (r .«vtable_shape»), opt-back (r .«unique_name»))
 class-back kind.Struct19 r = rw (type-back (r .fields), type-back (r .«derived_from»), type-back (r .«vtable_shape»), opt-back (r .«unique_name»))
 
-data-back : (d : TypeData) → dataIn (typeValues d) ≡ d
+pub data-back : (d : TypeData) → dataIn (typeValues d) ≡ d
 data-back (type.Class r) = class-back (r .kind) r
 data-back (type.MemberFunction r) = rw (type-back (r .«this_pointer_type»))
 data-back (type.Procedure r) = rw (type-back (r .«return_type»))

@@ -1,13 +1,13 @@
 // The finder: it holds where every eighth record of a stream starts, so that a record is found by its index. Document 01, "Finder".
 //
-// Its time and space: one place of 4 bytes for 8 records is 4 bits a record, and a lookup starts at the place before its record and passes
-// 0 to 7 links, 3.5 on average, each one load of a u16 and a few instructions. One place a record would be 32 bits for no link passed,
-// blocks of 16 would be 2 bits for 7.5 links. Records are short, so that a block mostly lies in one or two cache lines. 500,000 records
-// take 250 KB of table.
+// Its time and space: one place of 4 bytes for 8 records is 4 bits a record, and a lookup starts at its block's place and passes 0 to 7
+// links, 3.5 on average, each a load of a u16 and a dozen instructions. A place for each record would be 32 bits for no link passed, blocks
+// of 16 would be 2 bits for 7.5 links. Records are short (84% have at most 32 bytes), so that a block mostly lies in a few cache lines.
+// 500,000 records take 250 KB of table.
 //
 // The places live in a table that the caller lends; the finder itself is a few numbers, and comes and goes by value.
 ghost use mathlib.Core.Path.{_≡_};
-ghost use Rattle.item.specs.Items.{indexIn, numberIn};
+ghost use Rattle.item.specs.Items.{indexIn};
 ghost use Rattle.item.specs.declared.ItemIndex.the-variants as index;
 ghost use Rattle.finder.specs.Finder.{state, begunOf, createOf, updateOf, Leaves, maxIndexOf, findOf, saidFind};
 use answer::Refusal;
@@ -24,7 +24,7 @@ use item::iter::ItemIter;
 use item::link::Hit;
 
 // The links of a block.
-const BLOCK: u32 = 8;
+const BLOCK: usize = 8;
 
 // What a fresh finder has in `shift`: a block is 2 to that power. No code reads it yet.
 const SHIFT: u32 = 3;
@@ -101,11 +101,9 @@ pub fn update(t: &mut [u32], f: ItemFinder, c: ItemIter) -> FinderAnswer
     if index < minimum {
         return FinderAnswer::Refused(Refusal::ForeignCursor);
     }
+    // d mod 8 is 0 and d / 8 is the number of places held, as one test: d is 8 times that number
     let d = index - minimum;
-    if d % BLOCK != 0 {
-        return FinderAnswer::Answered(f);
-    }
-    if (d / BLOCK) as usize != held {
+    if (d as usize) != BLOCK * held {
         return FinderAnswer::Answered(f);
     }
     if held == t.len() {
@@ -135,7 +133,7 @@ impl ItemFinder {
         if held > 4294967295 {
             return 4294967295;
         }
-        let top = 8 * held + (minimum as usize) - 1;
+        let top = BLOCK * held + (minimum as usize) - 1;
         if top > 4294967295 {
             return 4294967295;
         }
@@ -196,12 +194,12 @@ pub fn find(s: &[u8], t: &[u32], f: ItemFinder, i: ItemIndex) -> FindAnswer
     if n > maximum {
         return FindAnswer::Refused(Refusal::NotFound(n));
     }
-    let d = n - minimum;
-    let block = (d / BLOCK) as usize;
+    let d = (n - minimum) as usize;
+    let block = d / BLOCK;
     if block >= held {
         return FindAnswer::Refused(Refusal::NotIndexed(n, f.highest()));
     }
-    let k = d % BLOCK;
+    let k = (d % BLOCK) as u32;
     let p = t[block] as usize;
     match item::link::link_of(s, p, k) {
         Hit::Landed(place, length) => FindAnswer::Found(

@@ -18,7 +18,7 @@ use Rattle.id.specs.declared.IdData.the-variants as id
 use Rattle.id.specs.declared.IdAnswer.{IdAnswer}
 use Rattle.id.specs.declared.IdAnswer.the-variants as answer
 
-abbrev idIn : List (Value Part) → IdData
+abbrev pub idIn : List (Value Part) → IdData
 idIn vs =
     let leaf = numberIn (nth 0 vs) in
     let n1 = numberIn (nth 1 vs) in
@@ -36,7 +36,7 @@ source-back : (udt : ℕ) (f : UserDefinedTypeSourceFileRef) (line : ℕ) → id
 source-back udt (file.Local f) line = refl
 source-back udt (file.Remote m f) line = refl
 
-id-data-back : (d : IdData) → idIn (idValues d) ≡ d
+pub id-data-back : (d : IdData) → idIn (idValues d) ≡ d
 id-data-back (id.Function r) = rw (id-back (r .scope))
 id-data-back (id.MemberFunction r) = refl
 id-data-back (id.BuildInfo r) = refl

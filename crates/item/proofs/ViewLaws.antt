@@ -1,14 +1,14 @@
 -- The outcomes of a part of some bytes and of the kind that it starts with, a law for each. Assumes nothing.
 use Prim.Native.Nat.{ℕ, _+_, _≤_, _<_}
-use mathlib.Core.Path.{_≡_, refl, ap}
+use mathlib.Core.Path.{_≡_, ap}
 use mathlib.Core.List.{List, []}
 use native.Mathlib.Omega.{arith}
 use lib.ListN.{length, take, drop}
 use borrow.Author.Tests.{le-ltb, lt-ltb}
-use Rattle.answer.specs.Answer.{Answer, answered, refused}
-use Rattle.common.specs.Fields.{le, orZero}
+use Rattle.answer.specs.Answer.{answered, refused}
+use Rattle.common.specs.Fields.{orZero}
 use Rattle.common.proofs.FieldLaws.{or-zero-there}
-use Rattle.item.specs.Views.{Part, partOf, within, kindAt}
+use Rattle.item.specs.Views.{partOf, within, kindAt}
 
 module _ (s : List ℕ) (p n : ℕ) where
   pub part-past : length s < p + n → partOf s p n ≡ refused 1 []

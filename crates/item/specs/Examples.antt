@@ -1,19 +1,17 @@
 -- Document 01, "Examples": stream E iterated, and its items viewed.
 use Prim.Native.Nat.{ℕ}
 use mathlib.Core.Path.{_≡_, refl}
-use mathlib.Core.List.{List, [], _∷_, map}
-use mathlib.Core.Bool.{Bool, true, false}
-use Rattle.answer.specs.Answer.{Answer, answered, refused}
+use mathlib.Core.List.{[], _∷_, map}
+use mathlib.Core.Bool.{true}
+use Rattle.answer.specs.Answer.{answered, refused}
 use Rattle.common.specs.Fields.{le}
 use Rattle.header.specs.Header.{headerOf}
 use Rattle.header.specs.Examples.{streamE}
 use Rattle.item.specs.Items.{indexIn}
-use Rattle.item.specs.Iterator.{iterOf, Next, done, yielded, itemAt, nextOf}
+use Rattle.item.specs.Iterator.{iterOf, done, yielded, itemAt, nextOf}
 use Rattle.item.specs.Views.{partOf, viewOf, kindAt, rawKindOf}
 use Rattle.item.specs.Information.{lenOf, isEmptyOf}
-use Rattle.item.specs.declared.Stream.{Stream}
 use Rattle.item.specs.declared.Stream.the-variants.{Types, Ids}
-use Rattle.item.specs.declared.Entry.{Entry}
 use Rattle.item.specs.declared.Entry.the-variants.{Record, Marker}
 use Rattle.item.specs.declared.iter.ItemIter.{ItemIter}
 

@@ -1,8 +1,5 @@
 -- What each answer of this crate says fixes the answer. Assumes nothing.
-use Prim.Native.Nat.{ℕ}
 use mathlib.Core.Path.{_≡_, refl}
-use mathlib.Core.Bool.{Bool}
-use Rattle.answer.specs.Answer.{Answer}
 use Rattle.answer.specs.OneOutcome.{one-of, heard, heard-no}
 use Rattle.item.specs.Iterator.{Next, done, yielded, saidIter, saidNext}
 use Rattle.item.specs.Views.{Part, saidView, saidKind}

@@ -3,7 +3,7 @@ use Prim.Native.Nat.{ℕ, _+_}
 use mathlib.Core.List.{List, [], _∷_}
 use lib.ListN.{length, take, drop}
 use lib.Dec.{ltb}
-use Rattle.answer.specs.Answer.{Answer, answered, refused, stop, then}
+use Rattle.answer.specs.Answer.{Answer, answered, refused, stop}
 use Rattle.answer.specs.Refusals.{no}
 use Rattle.common.specs.Fields.{le}
 use Rattle.header.specs.Header.{longest}

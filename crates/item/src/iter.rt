@@ -1,7 +1,9 @@
 // The iterator over a stream's records: document 01, "Links and the iterator". It comes and goes by value.
 ghost use mathlib.Core.Path.{_≡_};
+ghost use Prim.Native.Nat.{_+_, _≤_, _<_};
+ghost use Rattle.answer.specs.Answer.{answered};
 ghost use Rattle.item.specs.declared.Stream.the-variants as stream;
-ghost use Rattle.item.specs.Iterator.{iterOf, saidIter, nextOf, saidNext};
+ghost use Rattle.item.specs.Iterator.{iterOf, saidIter, overRecord, nextOf, saidNext};
 use crate::Item;
 use crate::Stream;
 use crate::length_at;
@@ -61,7 +63,6 @@ pub fn iter(stream: Stream, s: &[u8]) -> IterAnswer
 pub fn next(s: &[u8], c: ItemIter) -> NextAnswer
     ensures { λ r. ⌜ saidNext r ≡ nextOf (now (s .entry)) c ⌝ }
 {
-    let stream = c.stream;
     let at = c.at;
     let index = c.index;
     if s.len() > LONGEST {
@@ -70,23 +71,34 @@ pub fn next(s: &[u8], c: ItemIter) -> NextAnswer
     if at > s.len() {
         return NextAnswer::Refused(Refusal::Ended);
     }
-    if at == s.len() {
-        return NextAnswer::Done;
-    }
-    if s.len() - at < 2 {
+    let left = s.len() - at;
+    if left < 2 {
+        if left == 0 {
+            return NextAnswer::Done;
+        }
         return NextAnswer::Refused(Refusal::Ended);
     }
     let n = length_at(s, at);
     if n < 2 {
         return NextAnswer::Refused(Refusal::TooShort);
     }
-    let place = at + 2;
-    if n > s.len() - place {
+    if n > left - 2 {
         return NextAnswer::Refused(Refusal::Ended);
     }
     if index == 4294967295 {
         return NextAnswer::Refused(Refusal::IndicesUsedUp);
     }
+    stepped(c, n)
+}
+
+// The step over a record of n bytes that is all there.
+fn stepped(c: ItemIter, n: usize) -> NextAnswer
+    requires { ⌜ (c .at + 2 + n ≤ 4294967294) × (c .index < 4294967295) ⌝ }
+    ensures { λ r. ⌜ saidNext r ≡ answered (overRecord c n) ⌝ }
+{
+    let stream = c.stream;
+    let index = c.index;
+    let place = c.at + 2;
     let named = stream.index(index);
     let after = place + n;
     let following = index + 1;

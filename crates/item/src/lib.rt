@@ -75,6 +75,27 @@ impl ItemIndex {
     }
 }
 
+impl Item {
+    pub fn index(self) -> ItemIndex
+        ensures { λ r. ⌜ r ≡ self .index ⌝ }
+    {
+        self.index
+    }
+
+    // The payload's length, without the two bytes of the length itself.
+    pub fn len(self) -> usize
+        ensures { λ r. ⌜ r ≡ self .length ⌝ }
+    {
+        self.length
+    }
+
+    pub fn is_empty(self) -> bool
+        ensures { λ r. ⌜ r ≡ eqb (self .length) 0 ⌝ }
+    {
+        self.length == 0
+    }
+}
+
 impl Entry {
     // The index that the entry was named by.
     pub fn index(self) -> ItemIndex
@@ -86,7 +107,7 @@ impl Entry {
         }
     }
 
-    // The payload's length, without the two bytes of the length itself; the marker has 2.
+    // The payload's length; the marker has 2.
     pub fn len(self) -> usize
         ensures { λ r. ⌜ r ≡ lengthOf self ⌝ }
     {

@@ -1,8 +1,11 @@
--- `item::iter::next` meets its contract: each way out is one of the cases of `nextOf`. Assumes nothing.
+-- `item::iter::next` meets its contract: each return is an outcome of `nextOf`. Assumes nothing.
 use borrow.Author.Needs.{needs}
 use native.Mathlib.Omega.{arith}
-use mathlib.Core.Path.{sym}
+use Prim.Native.Nat.{ℕ}
+use mathlib.Core.Path.{sym, ap, _∙_}
 use denote.Ref.{now}
+use Rattle.answer.specs.Answer.{answered}
+use Rattle.item.specs.Iterator.{overRecord}
 use Rattle.item.proofs.NextLaws.{next-long, next-past, next-done, next-length, next-short, next-payload, next-used, next-yields}
 use Rattle.item.proofs.iter.next.Statement.{statement}
 use Rattle.item.proofs.iter.next.Tie as tie
@@ -30,11 +33,12 @@ returns-7 c = sym (next-used _ _ (omega arith) (omega arith) (omega arith) (omeg
 
 returns-8 : tie.Need-returns-8
 returns-8 c =
-    let a = c .before .before .before .before .before .before .before .before .before .before .args in
-    cc (next-yields (now (a .s)) (a .c) (omega arith) (omega arith) (omega arith) (omega arith))
+    let a = c .before .before .before .before .before .before .before .before .before .args in
+    c .stepped .ensures
+    ∙ ap (λ (n : ℕ). answered (overRecord (a .c) n)) (c .before .before .before .before .length-at .ensures .0)
+    ∙ sym (next-yields (now (a .s)) (a .c) (omega arith) (omega arith) (omega arith) (omega arith))
 
 pub next-spec : {M : Type 1} → statement M
 next-spec =
     tie.close (tie.spec
-    returns returns-2 returns-3 (λ c. search needs) returns-4 (λ c κs. search needs) returns-5 (λ c. search needs) (λ c. search needs) returns-6
-    returns-7 (λ c κs. search needs) (λ c. search needs) (λ c. search needs) returns-8)
+    returns returns-2 (λ c. search needs) returns-3 returns-4 (λ c κs. search needs) returns-5 returns-6 returns-7 (λ c κs. search needs) returns-8)
