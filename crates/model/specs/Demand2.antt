@@ -9,6 +9,8 @@ use mathlib.Core.Path.{_≡_}
 use lib.ListN.{length}
 use lib.Dec.{leb, eqb}
 use Rattle.answer.specs.Answer.{answered}
+use Rattle.common.specs.declared.index.TypeIndex.{TypeIndex}
+use Rattle.common.specs.declared.index.IdIndex.{IdIndex}
 use Rattle.common.specs.Indices.{noType, noId, optionalAt}
 use Rattle.common.specs.Texts.{stringOf, paddingAfter}
 use Rattle.primitive.specs.Primitive.{primitiveOf}
@@ -23,12 +25,14 @@ use Rattle.item.specs.Views.{named, rawKindOf}
 use Rattle.item.specs.Information.{lenOf, isEmptyOf}
 use Rattle.item.specs.declared.Stream.{Stream}
 use Rattle.item.specs.declared.ItemIndex.{ItemIndex}
+use Rattle.item.specs.declared.ItemIndex.the-variants as index
 use Rattle.item.specs.declared.Entry.{Entry}
 use Rattle.item.specs.declared.iter.ItemIter.{ItemIter}
 use Rattle.finder.specs.Finder.{State, begunOf, updateOf, maxIndexOf, findOf}
 use Rattle.finder.proofs.FinderLaws.{Ready}
 use Rattle.layout.specs.Layouts.{idLeaves, recordOf}
 use Rattle.id.specs.Said.{saidIdData}
+use Rattle.record.specs.Record.{parseOf}
 use Rattle.id.specs.declared.IdAnswer.{IdAnswer}
 use Rattle.model.specs.Rust.{_>>=_, usize}
 use Rattle.model.specs.ParseBuffer.{at, Bytes}
@@ -55,6 +59,7 @@ use Rattle.model.specs.PrimitiveEqual.{primitive-same, primitive-equal}
 use Rattle.model.specs.WordsEqual.{properties, hfa-is, mocom-is, access-is, method-properties-is, methods, calling-convention-is, functions, pointers, kind-is, mode-is, to-member-is, reference-is, size-is}
 use Rattle.model.specs.HelpersEqual.{optional-type, optional-id, string, padding, cross-module}
 use Rattle.model.specs.IdEqual.{id-same, id-answers}
+use Rattle.model.specs.ParseEqual.{asId, asPrimitive, id-items, type-items}
 
 -- these methods of a word give these bits of it, for every word
 abbrev Flags : List (ℕ → Bool) → List ℕ → Type 0
@@ -119,6 +124,11 @@ pub record Demand2 : Type 0 where
   -- "Ids": all bytes of an id record, all seven leaves, and 10 with the leaf for every other; and what the port's `id_data` answers by its contract
   pub ids : (s : List ℕ) → length s < usize → Same (parse-id s) (shownBy (idShown s) (recordOf idLeaves s))
   pub id-data : (s : List ℕ) → length s < usize → (r : IdAnswer) → saidIdData r ≡ recordOf idLeaves s → Same (parse-id s) (idAnswerShown s r)
+  -- "A type item below 0x1000 is read as a primitive; .. every id item by its bytes, the marker's giving 10 with 0xffff"
+  pub type-items : (t p : List ℕ) → Lent t → Lent p → (e : Entry) (j : TypeIndex) → indexOf e ≡ index.Types j → j .0 < 0x1000
+      → Same (type-data-for-primitive (j .0)) (asPrimitive (parseOf t p e))
+  pub id-items : (t p : List ℕ) → Lent t → Lent p → (e : Entry) (j : IdIndex) → indexOf e ≡ index.Ids j → Within p e
+      → Same (parse-id (entryShown p e .bytes)) (asId (entryShown p e .bytes) (parseOf t p e))
 
 pub demand2 : Demand2
 demand2 = record {
@@ -160,4 +170,6 @@ demand2 = record {
   paddings = padding;
   ids = id-same;
   id-data = id-answers;
+  type-items = type-items;
+  id-items = id-items;
 }

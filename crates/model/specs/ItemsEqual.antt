@@ -58,7 +58,7 @@ Within s (Record i) = i .place + i .length ≤ length s
 Within s (Marker i) = Unit
 
 -- its payload's length is the bytes' own
-part-length : (s : List ℕ) (p n : ℕ) → p + n ≤ length s → length (front n (drop p s)) ≡ n
+pub part-length : (s : List ℕ) (p n : ℕ) → p + n ≤ length s → length (front n (drop p s)) ≡ n
 part-length s p n h = length-take-le n (drop p s) (rw length-drop (omega arith))
 
 pub item-len-is : (s : List ℕ) (e : Entry) → Within s e → item-len (entryShown s e) ≡ lengthOf e

@@ -29,3 +29,4 @@ pub mod RunEqual
 pub mod RunStays
 pub mod SessionEqual
 pub mod ItemsEqual
+pub mod ParseEqual
