@@ -6,11 +6,12 @@ use Prim.Native.Nat.{ℕ, _*_, _≤_, _<_}
 use mathlib.Core.Bool.{Bool}
 use mathlib.Core.List.{List, [], _∷_, map}
 use mathlib.Core.Path.{_≡_}
-use lib.ListN.{length}
+use lib.ListN.{length, getElem?}
 use lib.Dec.{leb, eqb}
 use Rattle.answer.specs.Answer.{answered}
 use Rattle.common.specs.declared.index.TypeIndex.{TypeIndex}
 use Rattle.common.specs.declared.index.IdIndex.{IdIndex}
+use Rattle.common.specs.Fields.{le}
 use Rattle.common.specs.Indices.{noType, noId, optionalAt}
 use Rattle.common.specs.Texts.{stringOf, paddingAfter}
 use Rattle.primitive.specs.Primitive.{primitiveOf}
@@ -33,8 +34,9 @@ use Rattle.finder.proofs.FinderLaws.{Ready}
 use Rattle.layout.specs.Layouts.{idLeaves, recordOf}
 use Rattle.id.specs.Said.{saidIdData}
 use Rattle.record.specs.Record.{parseOf}
+use Rattle.lists.specs.Lists.{elementIdsOf}
 use Rattle.id.specs.declared.IdAnswer.{IdAnswer}
-use Rattle.model.specs.Rust.{_>>=_, usize}
+use Rattle.model.specs.Rust.{gives, _>>=_, usize}
 use Rattle.model.specs.ParseBuffer.{at, Bytes}
 use Rattle.model.specs.TpiHeader.{parse-information}
 use Rattle.model.specs.TpiItems.{iter, finder, next, update, max-index, find, item-len, item-is-empty, raw-kind, information-len, information-is-empty}
@@ -59,6 +61,7 @@ use Rattle.model.specs.PrimitiveEqual.{primitive-same, primitive-equal}
 use Rattle.model.specs.WordsEqual.{properties, hfa-is, mocom-is, access-is, method-properties-is, methods, calling-convention-is, functions, pointers, kind-is, mode-is, to-member-is, reference-is, size-is}
 use Rattle.model.specs.HelpersEqual.{optional-type, optional-id, string, padding, cross-module}
 use Rattle.model.specs.IdEqual.{id-same, id-answers}
+use Rattle.model.specs.ListEqual.{listed, asElement, build-elements, string-elements}
 use Rattle.model.specs.ParseEqual.{asId, asPrimitive, id-items, type-items}
 
 -- these methods of a word give these bits of it, for every word
@@ -129,6 +132,9 @@ pub record Demand2 : Type 0 where
       → Same (type-data-for-primitive (j .0)) (asPrimitive (parseOf t p e))
   pub id-items : (t p : List ℕ) → Lent t → Lent p → (e : Entry) (j : IdIndex) → indexOf e ≡ index.Ids j → Within p e
       → Same (parse-id (entryShown p e .bytes)) (asId (entryShown p e .bytes) (parseOf t p e))
+  -- "`Vec` lists become a place and a count, or the reader": element k of the two counted id lists is the crate's, 15 where its `Vec` has none
+  pub build-arguments : (s : List ℕ) → le 2 s 0 ≡ 0x1603 → (k : ℕ) → Same (_>>=_ (parse-id s) λ d. gives (getElem? (listed d) k)) (asElement (elementIdsOf s k))
+  pub substrings : (s : List ℕ) → le 2 s 0 ≡ 0x1604 → (k : ℕ) → Same (_>>=_ (parse-id s) λ d. gives (getElem? (listed d) k)) (asElement (elementIdsOf s k))
 
 pub demand2 : Demand2
 demand2 = record {
@@ -172,4 +178,6 @@ demand2 = record {
   id-data = id-answers;
   type-items = type-items;
   id-items = id-items;
+  build-arguments = build-elements;
+  substrings = string-elements;
 }

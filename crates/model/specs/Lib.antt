@@ -30,3 +30,4 @@ pub mod RunStays
 pub mod SessionEqual
 pub mod ItemsEqual
 pub mod ParseEqual
+pub mod ListEqual
