@@ -6,9 +6,12 @@ use Prim.Native.Nat.{ℕ, _*_, _≤_, _<_}
 use mathlib.Core.Bool.{Bool}
 use mathlib.Core.List.{List, [], _∷_, map}
 use mathlib.Core.Path.{_≡_}
-use lib.ListN.{length}
+use lib.ListN.{length, getElem?}
 use lib.Dec.{leb, eqb}
 use Rattle.answer.specs.Answer.{answered}
+use Rattle.common.specs.declared.index.TypeIndex.{TypeIndex}
+use Rattle.common.specs.declared.index.IdIndex.{IdIndex}
+use Rattle.common.specs.Fields.{le}
 use Rattle.common.specs.Indices.{noType, noId, optionalAt}
 use Rattle.common.specs.Texts.{stringOf, paddingAfter}
 use Rattle.primitive.specs.Primitive.{primitiveOf}
@@ -23,14 +26,17 @@ use Rattle.item.specs.Views.{named, rawKindOf}
 use Rattle.item.specs.Information.{lenOf, isEmptyOf}
 use Rattle.item.specs.declared.Stream.{Stream}
 use Rattle.item.specs.declared.ItemIndex.{ItemIndex}
+use Rattle.item.specs.declared.ItemIndex.the-variants as index
 use Rattle.item.specs.declared.Entry.{Entry}
 use Rattle.item.specs.declared.iter.ItemIter.{ItemIter}
 use Rattle.finder.specs.Finder.{State, begunOf, updateOf, maxIndexOf, findOf}
 use Rattle.finder.proofs.FinderLaws.{Ready}
 use Rattle.layout.specs.Layouts.{idLeaves, recordOf}
 use Rattle.id.specs.Said.{saidIdData}
+use Rattle.record.specs.Record.{parseOf}
+use Rattle.lists.specs.Lists.{elementIdsOf}
 use Rattle.id.specs.declared.IdAnswer.{IdAnswer}
-use Rattle.model.specs.Rust.{_>>=_, usize}
+use Rattle.model.specs.Rust.{gives, _>>=_, usize}
 use Rattle.model.specs.ParseBuffer.{at, Bytes}
 use Rattle.model.specs.TpiHeader.{parse-information}
 use Rattle.model.specs.TpiItems.{iter, finder, next, update, max-index, find, item-len, item-is-empty, raw-kind, information-len, information-is-empty}
@@ -48,13 +54,17 @@ use Rattle.model.specs.FindEqual.{max-equal, find-equal}
 use Rattle.model.specs.Run.{Lent, RunsEqual}
 use Rattle.model.specs.RunEqual.{run-equal}
 use Rattle.model.specs.RunStays.{RunsSame, run-same}
+use Rattle.model.specs.Session.{SessionsEqual}
+use Rattle.model.specs.SessionEqual.{session-equal}
 use Rattle.model.specs.ItemsEqual.{Within, len-same, is-empty-same, item-len-is, item-is-empty-is, raw-kind-equal}
 use Rattle.model.specs.PrimitiveEqual.{primitive-same, primitive-equal}
 use Rattle.model.specs.WordsEqual.{properties, hfa-is, mocom-is, access-is, method-properties-is, methods, calling-convention-is, functions, pointers, kind-is, mode-is, to-member-is, reference-is, size-is}
 use Rattle.model.specs.HelpersEqual.{optional-type, optional-id, string, padding, cross-module}
 use Rattle.model.specs.IdEqual.{id-same, id-answers}
+use Rattle.model.specs.ListEqual.{listed, asElement, build-elements, string-elements}
+use Rattle.model.specs.ParseEqual.{asId, asPrimitive, id-items, type-items}
 
--- a field of a word, a method's answer, as a function of the word
+-- these methods of a word give these bits of it, for every word
 abbrev Flags : List (ℕ → Bool) → List ℕ → Type 0
 Flags methods places = (w : ℕ) → map (λ (f : ℕ → Bool). f w) methods ≡ map (λ k. bit k w) places
 
@@ -83,6 +93,8 @@ pub record Demand2 : Type 0 where
   -- from the header to a lookup, n turns of `next` and `update` between; and how far the domain reaches: minimum + 8 (n + 1) below 2 ^ 32
   pub runs : RunsEqual
   pub reach : RunsSame
+  -- as many iterators as one likes, stepping and updating in any order, then a lookup: every update from an iterator that has not refused
+  pub sessions : SessionsEqual
   -- "Indices and primitives": every index below 0x1000; from there up the crate panics
   pub primitives : (i : ℕ) → i < 0x1000 → Same (type-data-for-primitive i) (shownBy primitiveShown (primitiveOf i))
   pub every-primitive : (i : ℕ) → Equal (type-data-for-primitive i) (shownBy primitiveShown (primitiveOf i))
@@ -115,6 +127,14 @@ pub record Demand2 : Type 0 where
   -- "Ids": all bytes of an id record, all seven leaves, and 10 with the leaf for every other; and what the port's `id_data` answers by its contract
   pub ids : (s : List ℕ) → length s < usize → Same (parse-id s) (shownBy (idShown s) (recordOf idLeaves s))
   pub id-data : (s : List ℕ) → length s < usize → (r : IdAnswer) → saidIdData r ≡ recordOf idLeaves s → Same (parse-id s) (idAnswerShown s r)
+  -- "A type item below 0x1000 is read as a primitive; .. every id item by its bytes, the marker's giving 10 with 0xffff"
+  pub type-items : (t p : List ℕ) → Lent t → Lent p → (e : Entry) (j : TypeIndex) → indexOf e ≡ index.Types j → j .0 < 0x1000
+      → Same (type-data-for-primitive (j .0)) (asPrimitive (parseOf t p e))
+  pub id-items : (t p : List ℕ) → Lent t → Lent p → (e : Entry) (j : IdIndex) → indexOf e ≡ index.Ids j → Within p e
+      → Same (parse-id (entryShown p e .bytes)) (asId (entryShown p e .bytes) (parseOf t p e))
+  -- "`Vec` lists become a place and a count, or the reader": element k of the two counted id lists is the crate's, 15 where its `Vec` has none
+  pub build-arguments : (s : List ℕ) → le 2 s 0 ≡ 0x1603 → (k : ℕ) → Same (_>>=_ (parse-id s) λ d. gives (getElem? (listed d) k)) (asElement (elementIdsOf s k))
+  pub substrings : (s : List ℕ) → le 2 s 0 ≡ 0x1604 → (k : ℕ) → Same (_>>=_ (parse-id s) λ d. gives (getElem? (listed d) k)) (asElement (elementIdsOf s k))
 
 pub demand2 : Demand2
 demand2 = record {
@@ -132,6 +152,7 @@ demand2 = record {
   highest = max-equal 3;
   runs = run-equal;
   reach = run-same;
+  sessions = session-equal;
   primitives = primitive-same;
   every-primitive = primitive-equal;
   optional-types = optional-type;
@@ -155,4 +176,8 @@ demand2 = record {
   paddings = padding;
   ids = id-same;
   id-data = id-answers;
+  type-items = type-items;
+  id-items = id-items;
+  build-arguments = build-elements;
+  substrings = string-elements;
 }

@@ -1,21 +1,33 @@
 -- Demand 2's word "equal": the crate's outcome and the port's answer to the same question. What panics or wraps is outside the domain.
 use Prim.Native.Nat.{ℕ}
 use mathlib.Core.Path.{_≡_}
-use mathlib.Core.List.{[], _∷_}
+use mathlib.Core.List.{List, [], _∷_}
 use Rattle.answer.specs.Answer.{Answer, answered, refused}
 use Rattle.model.specs.Rust.{Rust, gives, errs, panics, wraps, Error, UnexpectedEof, InvalidTypeInformationHeader, impossibly-small, unreasonably-large, minimum-low, maximum-low, TypeTooShort, TypeNotFound, TypeNotIndexed, UnimplementedTypeKind}
 
--- 01's number and details for each of the crate's errors
+-- 01's number for each of the crate's errors
+abbrev pub number : Error → ℕ
+number UnexpectedEof = 1
+number (InvalidTypeInformationHeader impossibly-small) = 2
+number (InvalidTypeInformationHeader unreasonably-large) = 3
+number (InvalidTypeInformationHeader minimum-low) = 4
+number (InvalidTypeInformationHeader maximum-low) = 5
+number TypeTooShort = 6
+number (TypeNotFound i) = 8
+number (TypeNotIndexed i h) = 9
+number (UnimplementedTypeKind leaf) = 10
+
+-- and its details
+abbrev pub details : Error → List ℕ
+details UnexpectedEof = []
+details (InvalidTypeInformationHeader m) = []
+details TypeTooShort = []
+details (TypeNotFound i) = i ∷ []
+details (TypeNotIndexed i h) = i ∷ h ∷ []
+details (UnimplementedTypeKind leaf) = leaf ∷ []
+
 abbrev pub numbered : {A : Type 0} → Error → Answer A
-numbered UnexpectedEof = refused 1 []
-numbered (InvalidTypeInformationHeader impossibly-small) = refused 2 []
-numbered (InvalidTypeInformationHeader unreasonably-large) = refused 3 []
-numbered (InvalidTypeInformationHeader minimum-low) = refused 4 []
-numbered (InvalidTypeInformationHeader maximum-low) = refused 5 []
-numbered TypeTooShort = refused 6 []
-numbered (TypeNotFound i) = refused 8 (i ∷ [])
-numbered (TypeNotIndexed i h) = refused 9 (i ∷ h ∷ [])
-numbered (UnimplementedTypeKind leaf) = refused 10 (leaf ∷ [])
+numbered e = refused (number e) (details e)
 
 -- the port's answer is the crate's, wherever the crate neither panics nor wraps
 abbrev pub Equal : {A : Type 0} → Rust A → Answer A → Type 0

@@ -1,16 +1,13 @@
 -- The model runs: stream E of 01 and the smallest inputs around it, in the crate's words and in the port's, each as one statement over its list.
 use Prim.Native.Nat.{ℕ}
 use mathlib.Core.Path.{_≡_, refl}
-use mathlib.Core.Bool.{true, false}
 use mathlib.Core.List.{List, [], _∷_, _++_, map}
 use mathlib.Core.Option.{none, some}
-use lib.ListN.{replicate, take as front}
-use lib.IntN.{pos, negsuc}
+use lib.ListN.{replicate}
 use Rattle.answer.specs.Answer.{answered, refused}
-use Rattle.answer.specs.Tables.{_is_}
 use Rattle.common.specs.Fields.{le}
 use Rattle.header.specs.Header.{headerOf}
-use Rattle.header.specs.Examples.{four, headerE, streamE}
+use Rattle.header.specs.Examples.{four, streamE}
 use Rattle.item.specs.Items.{indexIn}
 use Rattle.item.specs.Links.{linkAt, chain, linkOf}
 use Rattle.item.specs.Iterator.{iterOf, itemAt, nextOf}
@@ -24,12 +21,13 @@ use Rattle.model.specs.Rust.{Rust, gives, errs, panics, wraps, match, Un
 use Rattle.model.specs.ParseBuffer.{at, len, is-empty, parse, peek, take, position, parse-cstring, parse-u8-pascal-string}
 use Rattle.model.specs.TpiHeader.{fields, parse-header, parse-information}
 use Rattle.model.specs.TpiItems.{Item, iter, new, resolve, max-index, update, skipped, hit, miss, find, next, tour, raw-kind, PRIMITIVE-TYPE}
-use Rattle.model.specs.TpiPrimitive.{PrimitiveType, indirection-arms, kind-arms, type-data-for-primitive}
+use Rattle.model.specs.TpiPrimitive.{indirection-arms, kind-arms, type-data-for-primitive}
 use Rattle.model.specs.TpiWords.{pointer-kind, pointer-size}
 use Rattle.model.specs.TpiWords.{kind-arms as pointer-arms}
 use Rattle.model.specs.TpiHelpers.{parse-optional-id-index, parse-string, pad-byte, padding-loop, parse-padding}
 use Rattle.model.specs.TpiId.{Function, MemberFunction, BuildInfo, StringList, String, UserDefinedTypeSource, Local, Remote, function-id, member-function-id, pushed, build-info, string-list, string-id, source-line, by-leaf, try-from-ctx, parse-id}
 use Rattle.model.specs.Run.{crateRun, turns, portRun}
+use Rattle.model.specs.Session.{begins, steps, updates, crateUses, crateSession}
 
 -- the payloads of E's two records
 abbrev modifier : List ℕ
@@ -96,6 +94,15 @@ crate-edges = refl
 pub one-byte : crateRun (made (four 56 0) (four 0 16) (four 16 16) (1 ∷ 0 ∷ 5 ∷ 2 ∷ 0 ∷ 6 ∷ 7 ∷ [])) 0 4097 ≡ found 4097 (6 ∷ 7 ∷ [])
 unfolding crateRun parse-information parse-header fields iter new resolve max-index update skipped hit miss find next tour len is-empty parse take le
 one-byte = refl
+
+-- two iterators: one steps past both records, the other updates behind the first; and an update by a fresh iterator of the empty stream
+pub sessions : crateSession streamE (begins ∷ begins ∷ steps 0 ∷ updates 0 ∷ steps 1 ∷ steps 0 ∷ updates 0 ∷ updates 1 ∷ []) 4097
+    ∷ crateSession [] (begins ∷ updates 0 ∷ steps 0 ∷ []) 0
+    ∷ crateSession [] [] 0
+    ∷ []
+    ≡ found 4097 pointed ∷ errs UnexpectedEof ∷ errs (TypeNotIndexed 0 0) ∷ []
+unfolding crateSession crateUses parse-information parse-header fields iter new resolve max-index update skipped hit miss find next len is-empty parse take le
+sessions = refl
 
 -- "0x0674 is I32 by Near64; 0x0874 and 0x0004 give 8"; 0x1000 is outside the domain
 pub primitives : map type-data-for-primitive (0x0674 ∷ 0x0003 ∷ 0x0874 ∷ 0x0004 ∷ 0x1000 ∷ [])

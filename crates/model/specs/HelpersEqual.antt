@@ -5,19 +5,18 @@ use mathlib.Core.Path.{_≡_, refl, sym, ap, _∙_}
 use mathlib.Core.List.{List, [], _∷_}
 use mathlib.Core.Bool.{Bool, true, false}
 use mathlib.Core.Option.{Option, none, some}
-use native.Mathlib.Numerals.{add-one}
 use native.Mathlib.Omega.{arith}
 use lib.ListN.{length, getD, take as front, drop, length-drop}
-use lib.Dec.{leb, ltb, eqb}
+use lib.Dec.{leb, eqb}
 use lib.Bits.{bitAnd, and-mask}
 use borrow.Author.Tests.{le-leb, lt-leb, le-ltb, lt-ltb, eq-eqb, ne-eqb}
-use Rattle.answer.specs.Answer.{Answer, answered, refused, Got, Read, got, ended, pick}
+use Rattle.answer.specs.Answer.{got, ended, pick}
 use Rattle.answer.specs.Tables.{among}
-use Rattle.common.specs.Fields.{le, fixedAt}
+use Rattle.common.specs.Fields.{le}
 use Rattle.common.specs.Indices.{noType, noId, optionalOf, optionalAt}
-use Rattle.common.specs.Texts.{Part, toZero, stringAt, bytesAfter, countedStringAt, stringOf, more, pad, paddingAfter}
+use Rattle.common.specs.Texts.{toZero, stringAt, bytesAfter, countedStringAt, stringOf, more, pad, paddingAfter}
 use Rattle.common.proofs.PadLaws.{pad-end, pad-stop, pad-more, pad-cut}
-use Rattle.model.specs.Rust.{Rust, gives, errs, _>>=_, if, or, UnexpectedEof, usize}
+use Rattle.model.specs.Rust.{Rust, gives, errs, if, or, UnexpectedEof, usize}
 use Rattle.model.specs.ParseBuffer.{ParseBuffer, at, Bytes, beyond, parse, position, parse-cstring, parse-u8-pascal-string}
 use Rattle.model.specs.TpiHelpers.{parse-optional-type-index, parse-optional-id-index, parse-string, pad-byte, padding-loop, parse-padding, is-cross-module}
 use Rattle.model.specs.Equal.{Same, shownBy}

@@ -23,7 +23,7 @@ use Rattle.id.specs.declared.IdData.{IdData}
 use Rattle.id.specs.declared.IdData.the-variants as id
 use Rattle.id.specs.declared.IdAnswer.{IdAnswer}
 use Rattle.id.specs.declared.IdAnswer.the-variants as answer
-use Rattle.model.specs.Rust.{Rust, gives, errs, _>>=_, match, UnexpectedEof, usize}
+use Rattle.model.specs.Rust.{gives, errs, _>>=_, match, UnexpectedEof, usize}
 use Rattle.model.specs.ParseBuffer.{at}
 use Rattle.model.specs.TpiHelpers.{parse-string}
 use Rattle.model.specs.TpiId.{UserDefinedTypeSource, function-id, member-function-id, pushed, build-info, string-list, string-id, source-line, by-leaf, try-from-ctx, parse-id}

@@ -11,7 +11,7 @@ use lib.Dec.{eqb}
 use borrow.Author.Tests.{le-leb, lt-leb, le-ltb}
 use Rattle.answer.specs.Answer.{Answer, answered, refused, then}
 use Rattle.common.specs.Fields.{le}
-use Rattle.header.specs.Header.{longest, headerOf}
+use Rattle.header.specs.Header.{headerOf}
 use Rattle.header.specs.declared.Header.{Header}
 use Rattle.item.specs.Items.{numberIn, indexOf, lengthOf}
 use Rattle.item.specs.Views.{named, kindAt, rawKindOf}
@@ -20,16 +20,16 @@ use Rattle.item.specs.declared.Entry.{Entry}
 use Rattle.item.specs.declared.Entry.the-variants.{Record, Marker}
 use Rattle.item.specs.declared.ItemIndex.{ItemIndex}
 use Rattle.item.specs.declared.ItemIndex.the-variants.{Types, Ids}
-use Rattle.model.specs.Rust.{gives, panics, _>>=_}
+use Rattle.model.specs.Rust.{gives, _>>=_}
 use Rattle.model.specs.TpiHeader.{parse-information}
-use Rattle.model.specs.TpiItems.{Item, item-len, item-is-empty, raw-kind, information-len, information-is-empty}
+use Rattle.model.specs.TpiItems.{item-len, item-is-empty, raw-kind, information-len, information-is-empty}
 use Rattle.model.specs.Equal.{Equal, Same}
 use Rattle.model.specs.Shown.{information, entryShown}
 use Rattle.model.specs.BufferLaws.{equal-panics, same-gives, by-order}
 use Rattle.model.specs.Compose.{bind-same}
 use Rattle.model.specs.HeaderEqual.{header}
 use Rattle.model.specs.Run.{Lent}
-use Rattle.model.specs.RunEqual.{Accepted, accepted}
+use Rattle.model.specs.RunEqual.{accepted}
 
 -- ---- ItemInformation
 module _ (s : List ℕ) (ok : Lent s) where
@@ -58,7 +58,7 @@ Within s (Record i) = i .place + i .length ≤ length s
 Within s (Marker i) = Unit
 
 -- its payload's length is the bytes' own
-part-length : (s : List ℕ) (p n : ℕ) → p + n ≤ length s → length (front n (drop p s)) ≡ n
+pub part-length : (s : List ℕ) (p n : ℕ) → p + n ≤ length s → length (front n (drop p s)) ≡ n
 part-length s p n h = length-take-le n (drop p s) (rw length-drop (omega arith))
 
 pub item-len-is : (s : List ℕ) (e : Entry) → Within s e → item-len (entryShown s e) ≡ lengthOf e

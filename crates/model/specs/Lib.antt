@@ -9,6 +9,7 @@ pub mod TpiId
 pub mod Equal
 pub mod Shown
 pub mod Run
+pub mod Session
 pub mod Demand2
 pub mod Examples
 pub mod BufferLaws
@@ -26,4 +27,7 @@ pub mod LinkEqual
 pub mod FindEqual
 pub mod RunEqual
 pub mod RunStays
+pub mod SessionEqual
 pub mod ItemsEqual
+pub mod ParseEqual
+pub mod ListEqual

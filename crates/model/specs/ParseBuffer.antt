@@ -21,21 +21,21 @@ pub record Bytes (s : List ℕ) : Type 0 where
   pub bytes : (i : ℕ) → getD s i 0 < 256
   pub sized : length s < usize
 
--- 824: fn from(buf: &'b [u8]) -> Self
+-- 825: fn from(buf: &'b [u8]) -> Self
 abbrev pub from : List ℕ → ParseBuffer
 from s = at s 0
 
--- 711: self.0.len() - self.1
+-- 712: self.0.len() - self.1
 unfoldable pub len : ParseBuffer → Rust ℕ
 len buf = lessens (length (buf .bytes)) (buf .pos)
 
--- 717: self.len() == 0
+-- 718: self.len() == 0
 unfoldable pub is-empty : ParseBuffer → Rust Bool
 is-empty buf = do
   n ← len buf
   gives (eqb n 0)
 
--- 758: self.0.gread_with(&mut self.1, LE), a number of k bytes: where fewer are left, scroll errs with BadOffset or TooBig, of which common.rs
+-- 764: self.0.gread_with(&mut self.1, LE), a number of k bytes: where fewer are left, scroll errs with BadOffset or TooBig, of which common.rs
 -- 204 makes UnexpectedEof
 unfoldable pub parse : ℕ → ParseBuffer → Rust (ℕ × ParseBuffer)
 parse k buf = if (leb (buf .pos + k) (length (buf .bytes))) (gives (le k (buf .bytes) (buf .pos), at (buf .bytes) (buf .pos + k))) (errs UnexpectedEof)

@@ -1,13 +1,13 @@
 -- Primitives: for every index below 0x1000 the crate neither panics nor wraps, and its answer is the port's; from 0x1000 up the crate panics.
 -- That the two lists say the same of each byte is computed, once for all bytes. Assumes nothing.
 use Prim.Native.Nat.{ℕ, _*_, _/_, _%_, _<_}
-use mathlib.Core.Path.{_≡_, refl, ap, _∙_}
+use mathlib.Core.Path.{_≡_, refl}
 use mathlib.Core.Option.{Option, none, some}
 use native.Mathlib.Nat.{mod-lt}
 use native.Mathlib.Omega.{arith}
 use lib.Bits.{bitAnd, and-mask, and-high}
 use borrow.Author.Tests.{lt-ltb, le-ltb, lt-leb}
-use Rattle.answer.specs.Answer.{Answer, answered}
+use Rattle.answer.specs.Answer.{answered}
 use Rattle.answer.specs.Tables.{find}
 use Rattle.primitive.specs.Kinds.{kinds, indirections}
 use Rattle.primitive.specs.Primitive.{known, primitiveOf}

@@ -1,6 +1,6 @@
 -- A whole run is equal: its parts are, and each leaves what the next part's equality asks for. Assumes nothing.
 use Prim.Native.Nat.{ℕ, zero, suc, _+_, _-_, _*_, _/_, _%_, _≤_, _<_}
-use mathlib.Core.Path.{_≡_, refl, subst, sym}
+use mathlib.Core.Path.{_≡_, refl, subst}
 use mathlib.Core.List.{List}
 use mathlib.Core.Bool.{Bool, true, false}
 use native.Mathlib.Omega.{arith}
@@ -16,9 +16,9 @@ use Rattle.item.specs.Iterator.{iterOf, Next, done, yielded, nextOf}
 use Rattle.item.specs.declared.Stream.{Stream}
 use Rattle.item.specs.declared.Item.{Item}
 use Rattle.item.specs.declared.iter.ItemIter.{ItemIter}
-use Rattle.item.proofs.NextLaws.{iter-is, passed, Yields, yields}
-use Rattle.finder.specs.Finder.{State, state, holding, begunOf, createBy, createOf, due, stored, updateOf, Found, findOf}
-use Rattle.finder.proofs.FinderLaws.{begun-none, begun-full, begun-some, create-is, update-foreign, update-keeps, update-full, update-stores}
+use Rattle.item.proofs.NextLaws.{passed, Yields, yields}
+use Rattle.finder.specs.Finder.{State, state, holding, begunOf, createBy, due, stored, updateOf, Found, findOf}
+use Rattle.finder.proofs.FinderLaws.{begun-none, begun-full, begun-some, update-foreign, update-keeps, update-full, update-stores}
 use Rattle.model.specs.Rust.{gives, _>>=_}
 use Rattle.model.specs.ParseBuffer.{if-some}
 use Rattle.model.specs.TpiHeader.{parse-information}

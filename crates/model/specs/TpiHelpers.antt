@@ -6,7 +6,7 @@ use mathlib.Core.Option.{Option, none, some}
 use lib.ListN.{length}
 use lib.Bits.{bitAnd}
 use lib.Dec.{ltb, leb, eqb}
-use Rattle.model.specs.Rust.{Rust, gives, panics, _>>=_, if, not, and, or, lessens}
+use Rattle.model.specs.Rust.{Rust, gives, panics, _>>=_, if, not, or, lessens}
 use Rattle.model.specs.ParseBuffer.{ParseBuffer, is-empty, parse, peek, take, parse-cstring, parse-u8-pascal-string}
 
 -- data.rs 439

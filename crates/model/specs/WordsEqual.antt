@@ -2,7 +2,7 @@
 -- law once over the mask. Assumes nothing.
 use Prim.Native.Nat.{ℕ, zero, suc, _+_, _-_, _*_, _/_, _%_, _^_, _≤_, _<_}
 use mathlib.Core.Path.{_≡_, refl, sym, ap, _∙_}
-use mathlib.Core.List.{List, [], _∷_, map}
+use mathlib.Core.List.{[], _∷_, map}
 use mathlib.Core.Bool.{Bool, true, false}
 use mathlib.Core.Option.{Option, none, some}
 use native.Mathlib.Nat.{zero-mul, mod-lt, mod-eq-of-lt, div-one}
@@ -12,7 +12,7 @@ use lib.Bits.{bitAnd, and-mask, and-high}
 use lib.Pow.{pow-pos, shl-shr}
 use lib.Dec.{ltb, eqb}
 use borrow.Author.Tests.{lt-ltb, ne-eqb}
-use Rattle.answer.specs.Answer.{Answer, answered, refused, pick, then}
+use Rattle.answer.specs.Answer.{Answer, answered, pick, then}
 use Rattle.answer.specs.Tables.{find, among}
 use Rattle.attributes.specs.Bits.{bit, bits}
 use Rattle.attributes.specs.Words.{mocomOf, methodProperty, introducing}
