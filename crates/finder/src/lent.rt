@@ -1,0 +1,46 @@
+// The finder lent by `&mut`, as document 01 has it: "`update` changes the finder in place". Each function is thin over the one by value.
+ghost use mathlib.Core.Path.{_≡_};
+ghost use Rattle.finder.specs.Finder.{state, maxIndexOf, findOf, saidFind};
+ghost use Rattle.item.specs.Items.{indexIn};
+ghost use Rattle.finder.specs.Lent.{Updates};
+use crate::FinderAnswer;
+use crate::ItemFinder;
+use answer::Refusal;
+use item::iter::ItemIter;
+
+pub enum UpdateAnswer {
+    Answered,
+    Refused(Refusal),
+}
+
+// What an update answers, and the finder after it.
+pub struct UpdateStep {
+    pub answer: UpdateAnswer,
+    pub finder: ItemFinder,
+}
+
+// The work, by value.
+fn updated(f: ItemFinder, t: &mut [u32], c: ItemIter) -> UpdateStep
+    ensures { λ u. ⌜ Updates (state f (now (t .entry))) c (u .answer) (state (u .finder) (now (t .exit))) ⌝ }
+{
+    match crate::update(t, f, c) {
+        FinderAnswer::Answered(g) => UpdateStep {
+            answer: UpdateAnswer::Answered,
+            finder: g,
+        },
+        FinderAnswer::Refused(e) => UpdateStep {
+            answer: UpdateAnswer::Refused(e),
+            finder: f,
+        },
+    }
+}
+
+impl ItemFinder {
+    pub fn update(&mut self, t: &mut [u32], c: ItemIter) -> UpdateAnswer
+        ensures { λ r. ⌜ Updates (state (now (self .entry)) (now (t .entry))) c r (state (now (self .exit)) (now (t .exit))) ⌝ }
+    {
+        let u = updated(*self, t, c);
+        *self = u.finder;
+        u.answer
+    }
+}
