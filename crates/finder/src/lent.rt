@@ -6,6 +6,8 @@ ghost use Rattle.finder.specs.Lent.{Updates};
 use crate::FinderAnswer;
 use crate::ItemFinder;
 use answer::Refusal;
+use item::ItemIndex;
+use item::Stream;
 use item::iter::ItemIter;
 
 pub enum UpdateAnswer {
@@ -43,4 +45,20 @@ impl ItemFinder {
         *self = u.finder;
         u.answer
     }
+}
+
+// Above `update`, with plain parameters: it makes the finder in a local and lends it. Who calls this one needs no walk.
+pub fn update_local(f: ItemFinder, t: &mut [u32], c: ItemIter) -> UpdateStep
+    ensures { λ u. ⌜ Updates (state f (now (t .entry))) c (u .answer) (state (u .finder) (now (t .exit))) ⌝ }
+{
+    let mut g = f;
+    let answer = g.update(t, c);
+    UpdateStep { answer, finder: g }
+}
+
+// The highest index that the held places serve, in the finder's stream.
+pub fn max_index(f: &ItemFinder, stream: Stream) -> ItemIndex
+    ensures { λ r. ⌜ r ≡ indexIn stream (maxIndexOf (now (f .entry))) ⌝ }
+{
+    (*f).max_index(stream)
 }
