@@ -3,6 +3,7 @@ ghost use mathlib.Core.Path.{_≡_};
 ghost use Rattle.finder.specs.Finder.{state, maxIndexOf, findOf, saidFind};
 ghost use Rattle.item.specs.Items.{indexIn};
 ghost use Rattle.finder.specs.Lent.{Updates};
+use crate::FindAnswer;
 use crate::FinderAnswer;
 use crate::ItemFinder;
 use answer::Refusal;
@@ -44,6 +45,13 @@ impl ItemFinder {
         let u = updated(*self, t, c);
         *self = u.finder;
         u.answer
+    }
+
+    // The record of an index, or the marker below the minimum, with the links passed on the way.
+    pub fn find(&self, s: &[u8], t: &[u32], i: ItemIndex) -> FindAnswer
+        ensures { λ r. ⌜ saidFind r ≡ findOf (now (s .entry)) (state (now (self .entry)) (now (t .entry))) i ⌝ }
+    {
+        crate::find(s, t, *self, i)
     }
 }
 
