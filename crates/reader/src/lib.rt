@@ -1,0 +1,64 @@
+// The list reader of document 01: it "holds the record's bytes and walks them", by a cursor. Each function over it is thin over the one on
+// bytes and cursor; those with plain parameters stand above them, and who calls these needs no walk.
+ghost use mathlib.Core.Path.{_≡_};
+ghost use Rattle.lists.specs.Lists.{stepOf, stepIdsOf, elementBy, elementOf, elementIdsOf};
+ghost use Rattle.lists.specs.Said.{saidStep, saidStepIds, saidElement, saidElementIds};
+use lists::ElementAnswer;
+use lists::IdElementAnswer;
+use lists::IdStepAnswer;
+use lists::ListCursor;
+use lists::StartAnswer;
+use lists::StepAnswer;
+
+// A record's bytes, and where in them its list is read: one reader for the lists of both sides, by the leaf in the cursor.
+pub struct ListReader<'a> {
+    pub bytes: &'a [u8],
+    pub cursor: ListCursor,
+}
+
+impl<'a> ListReader<'a> {
+    // The reader at a cursor; `lists::start` and `start_ids` say where a record's list starts, or why it has none.
+    pub fn new(bytes: &'a [u8], cursor: ListCursor) -> ListReader<'a>
+        ensures { λ r. ⌜ (r .bytes ≡ bytes .entry) × (r .cursor ≡ cursor) ⌝ }
+    {
+        ListReader { bytes, cursor }
+    }
+
+    // The same bytes at another cursor: the reader, advanced.
+    pub fn moved(self, cursor: ListCursor) -> ListReader<'a>
+        ensures { λ q. ⌜ (q .bytes ≡ self .entry .bytes) × (q .cursor ≡ cursor) ⌝ }
+    {
+        ListReader {
+            bytes: self.bytes,
+            cursor,
+        }
+    }
+
+    // The element at the cursor, and the cursor for the next one, of the type side.
+    pub fn next(self) -> StepAnswer
+        ensures { λ r. ⌜ saidStep r ≡ stepOf (now (self .entry .bytes)) (self .entry .cursor) ⌝ }
+    {
+        lists::step(self.bytes, self.cursor)
+    }
+
+    // The element at the cursor, and the cursor for the next one, of the id side.
+    pub fn next_id(self) -> IdStepAnswer
+        ensures { λ r. ⌜ saidStepIds r ≡ stepIdsOf (now (self .entry .bytes)) (self .entry .cursor) ⌝ }
+    {
+        lists::step_ids(self.bytes, self.cursor)
+    }
+
+    // Element k from the cursor on, of the type side.
+    pub fn element(self, k: u32) -> ElementAnswer
+        ensures { λ r. ⌜ saidElement r ≡ elementBy (stepOf (now (self .entry .bytes))) k (self .entry .cursor) ⌝ }
+    {
+        lists::element_from(self.bytes, self.cursor, k)
+    }
+
+    // Element k from the cursor on, of the id side.
+    pub fn element_id(self, k: u32) -> IdElementAnswer
+        ensures { λ r. ⌜ saidElementIds r ≡ elementBy (stepIdsOf (now (self .entry .bytes))) k (self .entry .cursor) ⌝ }
+    {
+        lists::element_from_ids(self.bytes, self.cursor, k)
+    }
+}
