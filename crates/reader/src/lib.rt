@@ -62,3 +62,37 @@ impl<'a> ListReader<'a> {
         lists::element_from_ids(self.bytes, self.cursor, k)
     }
 }
+
+// Element k from a cursor on, of the type side, through a reader.
+pub fn element_of(bytes: &[u8], cursor: ListCursor, k: u32) -> ElementAnswer
+    ensures { λ r. ⌜ saidElement r ≡ elementBy (stepOf (now (bytes .entry))) k cursor ⌝ }
+{
+    ListReader::new(bytes, cursor).element(k)
+}
+
+// Element k from a cursor on, of the id side, through a reader.
+pub fn element_id_of(bytes: &[u8], cursor: ListCursor, k: u32) -> IdElementAnswer
+    ensures { λ r. ⌜ saidElementIds r ≡ elementBy (stepIdsOf (now (bytes .entry))) k cursor ⌝ }
+{
+    ListReader::new(bytes, cursor).element_id(k)
+}
+
+// Element k of a type record's list: the reader stands where the list starts.
+pub fn nth(s: &[u8], k: u32) -> ElementAnswer
+    ensures { λ r. ⌜ saidElement r ≡ elementOf (now (s .entry)) k ⌝ }
+{
+    match lists::start(s) {
+        StartAnswer::Refused(x) => ElementAnswer::Refused(x),
+        StartAnswer::Answered(c) => element_of(s, c, k),
+    }
+}
+
+// Element k of an id record's list.
+pub fn nth_id(s: &[u8], k: u32) -> IdElementAnswer
+    ensures { λ r. ⌜ saidElementIds r ≡ elementIdsOf (now (s .entry)) k ⌝ }
+{
+    match lists::start_ids(s) {
+        StartAnswer::Refused(x) => IdElementAnswer::Refused(x),
+        StartAnswer::Answered(c) => element_id_of(s, c, k),
+    }
+}
