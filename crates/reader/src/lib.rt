@@ -3,6 +3,7 @@
 ghost use mathlib.Core.Path.{_≡_};
 ghost use Rattle.lists.specs.Lists.{stepOf, stepIdsOf, elementBy, elementOf, elementIdsOf};
 ghost use Rattle.lists.specs.Said.{saidStep, saidStepIds, saidElement, saidElementIds};
+ghost use Rattle.reader.specs.Reader.{Steps, StepsIds};
 use lists::ElementAnswer;
 use lists::IdElementAnswer;
 use lists::IdStepAnswer;
@@ -14,6 +15,48 @@ use lists::StepAnswer;
 pub struct ListReader<'a> {
     pub bytes: &'a [u8],
     pub cursor: ListCursor,
+}
+
+// What a step in place leaves as the cursor, and what it answers.
+pub struct Stepped {
+    pub cursor: ListCursor,
+    pub answer: ElementAnswer,
+}
+
+// The same of the id side.
+pub struct SteppedIds {
+    pub cursor: ListCursor,
+    pub answer: IdElementAnswer,
+}
+
+fn stepped_at(bytes: &[u8], cursor: ListCursor) -> Stepped
+    ensures { λ u. ⌜ Steps cursor (stepOf (now (bytes .entry)) cursor) (u .answer) (u .cursor) ⌝ }
+{
+    match lists::step(bytes, cursor) {
+        StepAnswer::Answered(e, next) => Stepped {
+            cursor: next,
+            answer: ElementAnswer::Answered(e),
+        },
+        StepAnswer::Refused(x) => Stepped {
+            cursor: cursor,
+            answer: ElementAnswer::Refused(x),
+        },
+    }
+}
+
+fn stepped_ids_at(bytes: &[u8], cursor: ListCursor) -> SteppedIds
+    ensures { λ u. ⌜ StepsIds cursor (stepIdsOf (now (bytes .entry)) cursor) (u .answer) (u .cursor) ⌝ }
+{
+    match lists::step_ids(bytes, cursor) {
+        IdStepAnswer::Answered(e, next) => SteppedIds {
+            cursor: next,
+            answer: IdElementAnswer::Answered(e),
+        },
+        IdStepAnswer::Refused(x) => SteppedIds {
+            cursor: cursor,
+            answer: IdElementAnswer::Refused(x),
+        },
+    }
 }
 
 impl<'a> ListReader<'a> {
@@ -60,6 +103,24 @@ impl<'a> ListReader<'a> {
         ensures { λ r. ⌜ saidElementIds r ≡ elementBy (stepIdsOf (now (self .entry .bytes))) k (self .entry .cursor) ⌝ }
     {
         lists::element_from_ids(self.bytes, self.cursor, k)
+    }
+
+    // The element at the cursor, of the type side; the lent reader stands past it after, and where it was after a refusal.
+    pub fn step(&mut self) -> ElementAnswer
+        ensures { λ r. ⌜ Steps (now (self .entry) .cursor) (stepOf (now (now (self .entry) .bytes)) (now (self .entry) .cursor)) r (now (self .exit) .cursor) × (now (self .exit) .bytes ≡ now (self .entry) .bytes) ⌝ }
+    {
+        let t = stepped_at(self.bytes, self.cursor);
+        self.cursor = t.cursor;
+        t.answer
+    }
+
+    // The same of the id side.
+    pub fn step_id(&mut self) -> IdElementAnswer
+        ensures { λ r. ⌜ StepsIds (now (self .entry) .cursor) (stepIdsOf (now (now (self .entry) .bytes)) (now (self .entry) .cursor)) r (now (self .exit) .cursor) × (now (self .exit) .bytes ≡ now (self .entry) .bytes) ⌝ }
+    {
+        let t = stepped_ids_at(self.bytes, self.cursor);
+        self.cursor = t.cursor;
+        t.answer
     }
 }
 
