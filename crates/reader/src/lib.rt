@@ -124,6 +124,20 @@ impl<'a> ListReader<'a> {
     }
 }
 
+// The element at a cursor, and the cursor for the next one, of the type side, through a reader.
+pub fn next_of(bytes: &[u8], cursor: ListCursor) -> StepAnswer
+    ensures { λ r. ⌜ saidStep r ≡ stepOf (now (bytes .entry)) cursor ⌝ }
+{
+    ListReader::new(bytes, cursor).next()
+}
+
+// The element at a cursor, and the cursor for the next one, of the id side, through a reader.
+pub fn next_id_of(bytes: &[u8], cursor: ListCursor) -> IdStepAnswer
+    ensures { λ r. ⌜ saidStepIds r ≡ stepIdsOf (now (bytes .entry)) cursor ⌝ }
+{
+    ListReader::new(bytes, cursor).next_id()
+}
+
 // Element k from a cursor on, of the type side, through a reader.
 pub fn element_of(bytes: &[u8], cursor: ListCursor, k: u32) -> ElementAnswer
     ensures { λ r. ⌜ saidElement r ≡ elementBy (stepOf (now (bytes .entry))) k cursor ⌝ }
