@@ -1,4 +1,5 @@
-// The finder lent by `&mut`, as document 01 has it: "`update` changes the finder in place". Each function is thin over the one by value.
+// The finder lent, by `&mut` as document 01 has it ("`update` changes the finder in place") and by `&`. Each function is thin over the one
+// by value.
 ghost use mathlib.Core.Path.{_≡_};
 ghost use Rattle.finder.specs.Finder.{state, maxIndexOf, findOf, saidFind};
 ghost use Rattle.item.specs.Items.{indexIn};
@@ -11,6 +12,7 @@ use item::ItemIndex;
 use item::Stream;
 use item::iter::ItemIter;
 
+// An update in place answers with no value; what it refuses it leaves as it was, finder and table.
 pub enum UpdateAnswer {
     Answered,
     Refused(Refusal),
@@ -39,6 +41,7 @@ fn updated(f: ItemFinder, t: &mut [u32], c: ItemIter) -> UpdateStep
 }
 
 impl ItemFinder {
+    // The lent finder holds the place of the record that an iterator came to, if that starts the next block.
     pub fn update(&mut self, t: &mut [u32], c: ItemIter) -> UpdateAnswer
         ensures { λ r. ⌜ Updates (state (now (self .entry)) (now (t .entry))) c r (state (now (self .exit)) (now (t .exit))) ⌝ }
     {
@@ -64,7 +67,7 @@ pub fn update_local(f: ItemFinder, t: &mut [u32], c: ItemIter) -> UpdateStep
     UpdateStep { answer, finder: g }
 }
 
-// The highest index that the held places serve, in the finder's stream.
+// The highest index that the held places serve, in the finder's stream; the method of this name takes the finder by value.
 pub fn max_index(f: &ItemFinder, stream: Stream) -> ItemIndex
     ensures { λ r. ⌜ r ≡ indexIn stream (maxIndexOf (now (f .entry))) ⌝ }
 {
