@@ -4,3 +4,4 @@ pub mod PlaceLaws
 pub mod DemandProof
 pub mod SharedProof
 pub mod Witnesses
+pub mod LentLaws

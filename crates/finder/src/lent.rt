@@ -1,0 +1,75 @@
+// The finder lent, by `&mut` as document 01 has it ("`update` changes the finder in place") and by `&`. Each function is thin over the one
+// by value.
+ghost use mathlib.Core.Path.{_≡_};
+ghost use Rattle.finder.specs.Finder.{state, maxIndexOf, findOf, saidFind};
+ghost use Rattle.item.specs.Items.{indexIn};
+ghost use Rattle.finder.specs.Lent.{Updates};
+use crate::FindAnswer;
+use crate::FinderAnswer;
+use crate::ItemFinder;
+use answer::Refusal;
+use item::ItemIndex;
+use item::Stream;
+use item::iter::ItemIter;
+
+// An update in place answers with no value; what it refuses it leaves as it was, finder and table.
+pub enum UpdateAnswer {
+    Answered,
+    Refused(Refusal),
+}
+
+// What an update answers, and the finder after it.
+pub struct UpdateStep {
+    pub answer: UpdateAnswer,
+    pub finder: ItemFinder,
+}
+
+// The work, by value.
+fn updated(f: ItemFinder, t: &mut [u32], c: ItemIter) -> UpdateStep
+    ensures { λ u. ⌜ Updates (state f (now (t .entry))) c (u .answer) (state (u .finder) (now (t .exit))) ⌝ }
+{
+    match crate::update(t, f, c) {
+        FinderAnswer::Answered(g) => UpdateStep {
+            answer: UpdateAnswer::Answered,
+            finder: g,
+        },
+        FinderAnswer::Refused(e) => UpdateStep {
+            answer: UpdateAnswer::Refused(e),
+            finder: f,
+        },
+    }
+}
+
+impl ItemFinder {
+    // The lent finder holds the place of the record that an iterator came to, if that starts the next block.
+    pub fn update(&mut self, t: &mut [u32], c: ItemIter) -> UpdateAnswer
+        ensures { λ r. ⌜ Updates (state (now (self .entry)) (now (t .entry))) c r (state (now (self .exit)) (now (t .exit))) ⌝ }
+    {
+        let u = updated(*self, t, c);
+        *self = u.finder;
+        u.answer
+    }
+
+    // The record of an index, or the marker below the minimum, with the links passed on the way.
+    pub fn find(&self, s: &[u8], t: &[u32], i: ItemIndex) -> FindAnswer
+        ensures { λ r. ⌜ saidFind r ≡ findOf (now (s .entry)) (state (now (self .entry)) (now (t .entry))) i ⌝ }
+    {
+        crate::find(s, t, *self, i)
+    }
+}
+
+// Above `update`, with plain parameters: it makes the finder in a local and lends it. Who calls this one needs no walk.
+pub fn update_local(f: ItemFinder, t: &mut [u32], c: ItemIter) -> UpdateStep
+    ensures { λ u. ⌜ Updates (state f (now (t .entry))) c (u .answer) (state (u .finder) (now (t .exit))) ⌝ }
+{
+    let mut g = f;
+    let answer = g.update(t, c);
+    UpdateStep { answer, finder: g }
+}
+
+// The highest index that the held places serve, in the finder's stream; the method of this name takes the finder by value.
+pub fn max_index(f: &ItemFinder, stream: Stream) -> ItemIndex
+    ensures { λ r. ⌜ r ≡ indexIn stream (maxIndexOf (now (f .entry))) ⌝ }
+{
+    (*f).max_index(stream)
+}
