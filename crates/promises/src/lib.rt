@@ -1,0 +1,1 @@
+// No code: specs/ has the statements that a reader of this project starts with, over the definitions that the contracts cite.
