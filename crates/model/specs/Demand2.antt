@@ -54,8 +54,8 @@ use Rattle.model.specs.FindEqual.{max-equal, find-equal}
 use Rattle.model.specs.Run.{Lent, RunsEqual}
 use Rattle.model.specs.RunEqual.{run-equal}
 use Rattle.model.specs.RunStays.{RunsSame, run-same}
-use Rattle.model.specs.Session.{SessionsEqual}
-use Rattle.model.specs.SessionEqual.{session-equal}
+use Rattle.model.specs.Course.{CoursesEqual}
+use Rattle.model.specs.CourseEqual.{course-equal}
 use Rattle.model.specs.ItemsEqual.{Within, len-same, is-empty-same, item-len-is, item-is-empty-is, raw-kind-equal}
 use Rattle.model.specs.PrimitiveEqual.{primitive-same, primitive-equal}
 use Rattle.model.specs.WordsEqual.{properties, hfa-is, mocom-is, access-is, method-properties-is, methods, calling-convention-is, functions, pointers, kind-is, mode-is, to-member-is, reference-is, size-is}
@@ -94,7 +94,7 @@ pub record Demand2 : Type 0 where
   pub runs : RunsEqual
   pub reach : RunsSame
   -- as many iterators as one likes, stepping and updating in any order, then a lookup: every update from an iterator that has not refused
-  pub sessions : SessionsEqual
+  pub courses : CoursesEqual
   -- "Indices and primitives": every index below 0x1000; from there up the crate panics
   pub primitives : (i : ℕ) → i < 0x1000 → Same (type-data-for-primitive i) (shownBy primitiveShown (primitiveOf i))
   pub every-primitive : (i : ℕ) → Equal (type-data-for-primitive i) (shownBy primitiveShown (primitiveOf i))
@@ -152,7 +152,7 @@ demand2 = record {
   highest = max-equal 3;
   runs = run-equal;
   reach = run-same;
-  sessions = session-equal;
+  courses = course-equal;
   primitives = primitive-same;
   every-primitive = primitive-equal;
   optional-types = optional-type;

@@ -27,7 +27,7 @@ use Rattle.model.specs.TpiWords.{kind-arms as pointer-arms}
 use Rattle.model.specs.TpiHelpers.{parse-optional-id-index, parse-string, pad-byte, padding-loop, parse-padding}
 use Rattle.model.specs.TpiId.{Function, MemberFunction, BuildInfo, StringList, String, UserDefinedTypeSource, Local, Remote, function-id, member-function-id, pushed, build-info, string-list, string-id, source-line, by-leaf, try-from-ctx, parse-id}
 use Rattle.model.specs.Run.{crateRun, turns, portRun}
-use Rattle.model.specs.Session.{begins, steps, updates, crateUses, crateSession}
+use Rattle.model.specs.Course.{begins, steps, updates, crateUses, crateCourse}
 
 -- the payloads of E's two records
 abbrev modifier : List ℕ
@@ -96,13 +96,13 @@ unfolding crateRun parse-information parse-header fields iter new resolve max-in
 one-byte = refl
 
 -- two iterators: one steps past both records, the other updates behind the first; and an update by a fresh iterator of the empty stream
-pub sessions : crateSession streamE (begins ∷ begins ∷ steps 0 ∷ updates 0 ∷ steps 1 ∷ steps 0 ∷ updates 0 ∷ updates 1 ∷ []) 4097
-    ∷ crateSession [] (begins ∷ updates 0 ∷ steps 0 ∷ []) 0
-    ∷ crateSession [] [] 0
+pub courses : crateCourse streamE (begins ∷ begins ∷ steps 0 ∷ updates 0 ∷ steps 1 ∷ steps 0 ∷ updates 0 ∷ updates 1 ∷ []) 4097
+    ∷ crateCourse [] (begins ∷ updates 0 ∷ steps 0 ∷ []) 0
+    ∷ crateCourse [] [] 0
     ∷ []
     ≡ found 4097 pointed ∷ errs UnexpectedEof ∷ errs (TypeNotIndexed 0 0) ∷ []
-unfolding crateSession crateUses parse-information parse-header fields iter new resolve max-index update skipped hit miss find next len is-empty parse take le
-sessions = refl
+unfolding crateCourse crateUses parse-information parse-header fields iter new resolve max-index update skipped hit miss find next len is-empty parse take le
+courses = refl
 
 -- "0x0674 is I32 by Near64; 0x0874 and 0x0004 give 8"; 0x1000 is outside the domain
 pub primitives : map type-data-for-primitive (0x0674 ∷ 0x0003 ∷ 0x0874 ∷ 0x0004 ∷ 0x1000 ∷ [])

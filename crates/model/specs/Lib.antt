@@ -9,7 +9,7 @@ pub mod TpiId
 pub mod Equal
 pub mod Shown
 pub mod Run
-pub mod Session
+pub mod Course
 pub mod Demand2
 pub mod Examples
 pub mod BufferLaws
@@ -27,7 +27,7 @@ pub mod LinkEqual
 pub mod FindEqual
 pub mod RunEqual
 pub mod RunStays
-pub mod SessionEqual
+pub mod CourseEqual
 pub mod ItemsEqual
 pub mod ParseEqual
 pub mod ListEqual

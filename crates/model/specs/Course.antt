@@ -37,8 +37,8 @@ crateUses info i (updates k ∷ acts) its f =
       f ← update f it
       crateUses info i acts its f) (crateUses info i acts its f)
 
-unfoldable pub crateSession : List ℕ → List Action → ℕ → Rust Item
-crateSession s acts i = do
+unfoldable pub crateCourse : List ℕ → List Action → ℕ → Rust Item
+crateCourse s acts i = do
   info ← parse-information s
   f ← finder info
   crateUses info i acts [] f
@@ -56,11 +56,11 @@ portUses tag s i (steps k ∷ acts) cs σ =
 portUses tag s i (updates k ∷ acts) cs σ =
     if-some (getElem? cs k) (λ c. then (updateOf σ c) λ τ. portUses tag s i acts cs τ) (portUses tag s i acts cs σ)
 
-unfoldable pub portSession : Stream → List ℕ → List ℕ → List Action → ℕ → Answer Found
-portSession tag s t acts i = then (createOf s t) λ σ. portUses tag s i acts [] σ
+unfoldable pub portCourse : Stream → List ℕ → List ℕ → List Action → ℕ → Answer Found
+portCourse tag s t acts i = then (createOf s t) λ σ. portUses tag s i acts [] σ
 
 -- the first refusal ends a use, so that no iterator goes on after it and none updates the finder
-unfoldable pub SessionsEqual : Type 0
-SessionsEqual =
-    (tag : Stream) (s t : List ℕ) (acts : List Action) (i : ℕ) → Lent s → Roomy (portSession tag s t acts i)
-    → Equal (crateSession s acts i) (unlinked s (portSession tag s t acts i))
+unfoldable pub CoursesEqual : Type 0
+CoursesEqual =
+    (tag : Stream) (s t : List ℕ) (acts : List Action) (i : ℕ) → Lent s → Roomy (portCourse tag s t acts i)
+    → Equal (crateCourse s acts i) (unlinked s (portCourse tag s t acts i))

@@ -29,7 +29,7 @@ use Rattle.model.specs.UpdateEqual.{update-equal}
 use Rattle.model.specs.FindEqual.{find-equal}
 use Rattle.model.specs.Run.{Lent}
 use Rattle.model.specs.RunEqual.{Accepted, accepted, created-ind, updated-ind, Stood, stood}
-use Rattle.model.specs.Session.{Action, begins, steps, updates, crateUses, crateSession, behind, portUses, portSession, SessionsEqual}
+use Rattle.model.specs.Course.{Action, begins, steps, updates, crateUses, crateCourse, behind, portUses, portCourse, CoursesEqual}
 
 -- ---- lists of iterators
 abbrev shownSome : {A B : Type 0} → (A → B) → Option A → Option B
@@ -142,20 +142,20 @@ module _ (tag : Stream) (s : List ℕ) (h : Header) (ok : Lent s) (e : headerOf 
           (update-equal 3 s σ c (at-fits c f) (k .held) (roomy-first (updateOf σ c) (λ τ. portUses tag s i acts cs τ) r))
           λ τ u. ih τ (kept-update σ c τ k f (at-fits c f) u) (roomy-then (updateOf σ c) (λ τ. portUses tag s i acts cs τ) τ u r)
 
--- ---- the session, its header read once for the finder
-session-once : (tag : Stream) (s t : List ℕ) (acts : List Action) (i : ℕ) → portSession tag s t acts i ≡ then (headerOf s) (λ h. then (begunOf t h) λ σ. portUses tag s i acts [] σ)
-unfolding portSession createBy
-session-once tag s t acts i = go (headerOf s)
+-- ---- the course, its header read once for the finder
+course-once : (tag : Stream) (s t : List ℕ) (acts : List Action) (i : ℕ) → portCourse tag s t acts i ≡ then (headerOf s) (λ h. then (begunOf t h) λ σ. portUses tag s i acts [] σ)
+unfolding portCourse createBy
+course-once tag s t acts i = go (headerOf s)
   where
     go : (a : Answer Header) → then (then a (begunOf t)) (λ σ. portUses tag s i acts [] σ) ≡ then a (λ h. then (begunOf t h) λ σ. portUses tag s i acts [] σ)
     go (answered h) = refl
     go (refused n d) = refl
 
-pub session-equal : SessionsEqual
-unfolding SessionsEqual crateSession
-session-equal tag s t acts i ok roomy′ =
-    let roomy = subst (λ (x : Answer Found). Roomy x) (session-once tag s t acts i) roomy′ in
-    rw (session-once tag s t acts i)
+pub course-equal : CoursesEqual
+unfolding CoursesEqual crateCourse
+course-equal tag s t acts i ok roomy′ =
+    let roomy = subst (λ (x : Answer Found). Roomy x) (course-once tag s t acts i) roomy′ in
+    rw (course-once tag s t acts i)
     (bind-equal (parse-information s) (headerOf s) (information s) _ (λ h. then (begunOf t h) λ σ. portUses tag s i acts [] σ) (unlinked s) (unlinked-numbered s) (header s (ok .short) .equal)
     λ h e.
     let r = roomy-then (headerOf s) (λ h. then (begunOf t h) λ σ. portUses tag s i acts [] σ) h e roomy in
