@@ -13,6 +13,7 @@ pub use crate::tpi::*;
 pub use fallible_iterator::FallibleIterator;
 
 use crate::tpi::tpi_access as acc;
+use std::any::Any;
 use std::io::{BufRead, Write};
 use std::panic::{catch_unwind, AssertUnwindSafe};
 
@@ -43,19 +44,19 @@ fn number(e: &Error) -> String {
     }
 }
 
+/// A panic's message as a line.
+fn panicked(p: Box<dyn Any + Send>) -> String {
+    let m = p
+        .downcast_ref::<&str>()
+        .map(|s| s.to_string())
+        .or_else(|| p.downcast_ref::<String>().cloned())
+        .unwrap_or_else(|| "?".into());
+    format!("panic {}", m.replace('\n', " "))
+}
+
 /// The line, or the panic that came in its place.
 fn guarded<F: FnOnce() -> String>(f: F) -> String {
-    match catch_unwind(AssertUnwindSafe(f)) {
-        Ok(s) => s,
-        Err(p) => {
-            let m = p
-                .downcast_ref::<&str>()
-                .map(|s| s.to_string())
-                .or_else(|| p.downcast_ref::<String>().cloned())
-                .unwrap_or_else(|| "?".into());
-            format!("panic {}", m.replace('\n', " "))
-        }
-    }
+    catch_unwind(AssertUnwindSafe(f)).unwrap_or_else(panicked)
 }
 
 /// BYTES of a command: hex, `-` for none, `@path` for a file.
@@ -349,15 +350,14 @@ fn guarded_res<T, F: FnOnce() -> Result<T>>(f: F) -> std::result::Result<T, Stri
     match catch_unwind(AssertUnwindSafe(f)) {
         Ok(Ok(t)) => Ok(t),
         Ok(Err(e)) => Err(number(&e)),
-        Err(p) => {
-            let m = p
-                .downcast_ref::<&str>()
-                .map(|s| s.to_string())
-                .or_else(|| p.downcast_ref::<String>().cloned())
-                .unwrap_or_else(|| "?".into());
-            Err(format!("panic {}", m.replace('\n', " ")))
-        }
+        Err(p) => Err(panicked(p)),
     }
+}
+
+/// Prints 0 and the value; or the error's number, or the panic.
+fn answer<F: FnOnce() -> Result<String>>(out: &mut dyn Write, f: F) {
+    let line = guarded_res(f).map_or_else(|e| e, |v| format!("0 {}", v));
+    writeln!(out, "{}", line).unwrap()
 }
 
 /// One command.
@@ -419,40 +419,14 @@ fn run(line: &str, out: &mut dyn Write) {
             assert_eq!(t, i);
             writeln!(out, "{}", t).unwrap()
         }
-        "padding" => {
-            let d = bytes(a[1]);
-            writeln!(
-                out, "{}",
-                guarded(|| match crate::tpi::data_access::padding(&d) {
-                    Ok(n) => format!("0 {}", n),
-                    Err(e) => number(&e),
-                })
-            )
-            .unwrap()
-        }
+        "padding" => answer(out, || crate::tpi::data_access::padding(&bytes(a[1])).map(|n| n.to_string())),
         // unsigned HEX: a numeric leaf where a size or offset is wanted; signed HEX: an enumerator's
-        "unsigned" => {
-            let d = bytes(a[1]);
-            writeln!(
-                out, "{}",
-                guarded(|| match crate::tpi::data_access::unsigned(&d) {
-                    Ok((v, n)) => format!("0 {} next={}", v, n),
-                    Err(e) => number(&e),
-                })
-            )
-            .unwrap()
-        }
-        "signed" => {
-            let d = bytes(a[1]);
-            writeln!(
-                out, "{}",
-                guarded(|| match crate::tpi::data_access::variant(&d) {
-                    Ok((v, n)) => format!("0 {} next={}", v, n),
-                    Err(e) => number(&e),
-                })
-            )
-            .unwrap()
-        }
+        "unsigned" => answer(out, || {
+            crate::tpi::data_access::unsigned(&bytes(a[1])).map(|(v, n)| format!("{} next={}", v, n))
+        }),
+        "signed" => answer(out, || {
+            crate::tpi::data_access::variant(&bytes(a[1])).map(|(v, n)| format!("{} next={}", v, n))
+        }),
         "header" => stream_command!(acc::parse, type_line, a, out, "header"),
         "walk" => stream_command!(acc::parse, type_line, a, out, "walk"),
         "parse" => stream_command!(acc::parse, type_line, a, out, "parse"),
