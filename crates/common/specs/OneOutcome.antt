@@ -8,7 +8,7 @@ use Rattle.answer.specs.Answer.{Answer, answered, refused, Read, Got}
 use Rattle.answer.specs.OneOutcome.{one-of, refusal-back, refusalIn}
 use Rattle.common.specs.Fields.{said8, said16, said32, said64, saidI8, saidI16, saidI32, saidI64}
 use Rattle.common.specs.Indices.{saidType, saidId, saidStringRef, typeSaid, idSaid, saidOptType, saidOptId}
-use Rattle.common.specs.Texts.{Part, saidString, saidAfter}
+use Rattle.common.specs.Texts.{Part, stringSaid, saidString, saidAfter}
 use Rattle.common.specs.Numbers.{numberSaid, saidVariant, saidSize}
 use Rattle.common.specs.declared.field.Read8.{Read8}
 use Rattle.common.specs.declared.field.Read8.the-variants as r8
@@ -40,6 +40,8 @@ use Rattle.common.specs.declared.index.OptIdIndex.{OptIdIndex}
 use Rattle.common.specs.declared.index.OptIdIndex.the-variants as id
 use Rattle.common.specs.declared.index.ReadOptId.{ReadOptId}
 use Rattle.common.specs.declared.index.ReadOptId.the-variants as rid
+use Rattle.common.specs.declared.text.OptString.{OptString}
+use Rattle.common.specs.declared.text.OptString.the-variants as optional
 use Rattle.common.specs.declared.text.ReadString.{ReadString}
 use Rattle.common.specs.declared.text.ReadString.the-variants as rstring
 use Rattle.common.specs.declared.text.After.{After}
@@ -221,6 +223,17 @@ pub one-read-id : (r q : ReadOptId) → saidOptId r ≡ saidOptId q → r ≡ q
 one-read-id = one-of saidOptId hear-read-id back-read-id
 
 -- strings and padding
+
+abbrev hear-optional-string : Option Part → OptString
+hear-optional-string none = optional.None
+hear-optional-string (some x) = optional.Some (record { place = x .place; length = x .length })
+
+back-optional-string : (r : OptString) → hear-optional-string (stringSaid r) ≡ r
+back-optional-string optional.None = refl
+back-optional-string (optional.Some t) = refl
+
+pub one-optional-string : (r q : OptString) → stringSaid r ≡ stringSaid q → r ≡ q
+one-optional-string = one-of stringSaid hear-optional-string back-optional-string
 
 abbrev hear-string : Read Part → ReadString
 hear-string (answered g) = rstring.Got (record { place = g .value .place; length = g .value .length }) (g .next)

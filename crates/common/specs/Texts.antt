@@ -2,11 +2,13 @@
 use Prim.Native.Nat.{ℕ, zero, suc, _+_, _-_, _%_}
 use mathlib.Core.List.{List, [], _∷_}
 use mathlib.Core.Option.{Option, none, some}
-use lib.ListN.{length, drop}
+use lib.ListN.{length, take, drop}
 use lib.Dec.{leb, ltb}
 use Rattle.answer.specs.Answer.{Answer, answered, Read, got, ended, pick, stop, then, and-then}
 use Rattle.common.specs.Fields.{fixedAt}
 use Rattle.common.specs.declared.text.RawString.{RawString}
+use Rattle.common.specs.declared.text.OptString.{OptString}
+use Rattle.common.specs.declared.text.OptString.the-variants as optional
 use Rattle.common.specs.declared.text.ReadString.{ReadString}
 use Rattle.common.specs.declared.text.ReadString.the-variants as rstring
 use Rattle.common.specs.declared.text.After.{After}
@@ -34,6 +36,10 @@ stringAt s p = partOr (toZero (drop p s) 0) p
 -- the place after n bytes at p; 1 where they pass the end
 unfoldable pub bytesAfter : ℕ → List ℕ → ℕ → Answer ℕ
 bytesAfter n s p = stop (ltb (length s) (p + n)) 1 (answered (p + n))
+
+-- the n bytes at p; none where they pass the end
+unfoldable pub bytesAt : ℕ → List ℕ → ℕ → List ℕ
+bytesAt n s p = pick (ltb (length s) (p + n)) [] (take n (drop p s))
 
 -- a length byte and that many bytes
 unfoldable pub countedStringAt : List ℕ → ℕ → Read Part
@@ -64,6 +70,10 @@ paddingAfter s p = stop (ltb (length s) p) 1 (pad 0 p (drop p s))
 -- what the answers say
 abbrev pub part : RawString → Part
 part t = record { place = t .place; length = t .length }
+
+abbrev pub stringSaid : OptString → Option Part
+stringSaid optional.None = none
+stringSaid (optional.Some t) = some (part t)
 
 abbrev pub saidString : ReadString → Read Part
 saidString (rstring.Got t p) = got (part t) p

@@ -1,7 +1,7 @@
 // Strings and padding at a place of a slice of bytes.
 ghost use mathlib.Core.Path.{_≡_};
 ghost use Prim.Native.Nat.{_+_};
-ghost use Rattle.common.specs.Texts.{stringAt, bytesAfter, countedStringAt, stringOf, saidString, more, paddingAfter, saidAfter};
+ghost use Rattle.common.specs.Texts.{stringAt, bytesAfter, bytesAt, countedStringAt, stringOf, saidString, more, paddingAfter, saidAfter};
 use crate::field;
 use crate::field::Read8;
 
@@ -9,6 +9,12 @@ use crate::field::Read8;
 pub struct RawString {
     pub place: usize,
     pub length: usize,
+}
+
+// A string that may be missing.
+pub enum OptString {
+    None,
+    Some(RawString),
 }
 
 pub enum ReadString {
@@ -53,6 +59,29 @@ pub fn after_bytes(s: &[u8], p: usize, n: usize) -> After
         return After::Ended;
     }
     After::At(p + n)
+}
+
+// The n bytes at place p; none where they pass the end.
+pub fn bytes_at<'a>(s: &'a [u8], p: usize, n: usize) -> &'a [u8]
+    ensures { λ r. ⌜ now r ≡ bytesAt n (now (s .entry)) p ⌝ }
+{
+    if p > s.len() {
+        return &s[0..0];
+    }
+    if n > s.len() - p {
+        return &s[0..0];
+    }
+    let end = p + n;
+    &s[p..end]
+}
+
+impl RawString {
+    // The string's bytes, s being what it was read from.
+    pub fn bytes<'a>(self, s: &'a [u8]) -> &'a [u8]
+        ensures { λ r. ⌜ now r ≡ bytesAt (self .length) (now (s .entry)) (self .place) ⌝ }
+    {
+        bytes_at(s, self.place, self.length)
+    }
 }
 
 // The string at place p that a length byte begins.

@@ -13,8 +13,8 @@ use Rattle.layout.specs.OneOutcome.{nth, numberIn, stringIn, optionIn, type-bac
 use Rattle.data.specs.Said.{optString, classFrom, fieldsFrom, kindValues, typeValues, saidTypeData}
 use Rattle.data.specs.declared.ClassKind.{ClassKind}
 use Rattle.data.specs.declared.ClassKind.the-variants as kind
-use Rattle.data.specs.declared.OptString.{OptString}
-use Rattle.data.specs.declared.OptString.the-variants as opt
+use Rattle.common.specs.declared.text.OptString.{OptString}
+use Rattle.common.specs.declared.text.OptString.the-variants as opt
 use Rattle.data.specs.declared.ClassType.{ClassType}
 use Rattle.data.specs.declared.TypeData.{TypeData}
 use Rattle.data.specs.declared.TypeData.the-variants as type

@@ -12,8 +12,8 @@ use Rattle.common.specs.declared.index.ReadOptType.the-variants as rtype
 use Rattle.layout.specs.Fields.{Value, number, absent, many, orAbsent}
 use Rattle.data.specs.declared.ClassKind.{ClassKind}
 use Rattle.data.specs.declared.ClassKind.the-variants as kind
-use Rattle.data.specs.declared.OptString.{OptString}
-use Rattle.data.specs.declared.OptString.the-variants as opt
+use Rattle.common.specs.declared.text.OptString.{OptString}
+use Rattle.common.specs.declared.text.OptString.the-variants as opt
 use Rattle.data.specs.declared.ReadOptString.{ReadOptString}
 use Rattle.data.specs.declared.ReadOptString.the-variants as ropt
 use Rattle.data.specs.declared.ClassType.{ClassType}

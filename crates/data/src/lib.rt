@@ -24,6 +24,7 @@ use common::number::ReadSize;
 use common::number::Size;
 use common::text;
 use common::text::After;
+use common::text::OptString;
 use common::text::RawString;
 use common::text::ReadString;
 
@@ -37,11 +38,6 @@ pub enum ClassKind {
     Interface,
     // 0x1609: a structure in another layout.
     Struct19,
-}
-
-pub enum OptString {
-    None,
-    Some(RawString),
 }
 
 // 0x1504, 0x1505, 0x1519 and 0x1609: a class, structure or interface.

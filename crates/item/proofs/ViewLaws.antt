@@ -1,12 +1,15 @@
 -- The outcomes of a part of some bytes and of the kind that it starts with, a law for each. Assumes nothing.
 use Prim.Native.Nat.{ℕ, _+_, _≤_, _<_}
-use mathlib.Core.Path.{_≡_, ap}
+use mathlib.Core.Bool.{Bool, true, false}
+use mathlib.Core.Path.{_≡_, refl}
 use mathlib.Core.List.{List, []}
 use native.Mathlib.Omega.{arith}
 use lib.ListN.{length, take, drop}
+use lib.Dec.{ltb}
 use borrow.Author.Tests.{le-ltb, lt-ltb}
-use Rattle.answer.specs.Answer.{answered, refused}
+use Rattle.answer.specs.Answer.{answered, refused, pick, stop}
 use Rattle.common.specs.Fields.{orZero}
+use Rattle.common.specs.Texts.{bytesAt}
 use Rattle.common.proofs.FieldLaws.{or-zero-there}
 use Rattle.item.specs.Views.{partOf, within, kindAt}
 
@@ -33,10 +36,11 @@ module _ (s : List ℕ) (p n : ℕ) where
       let w : p + 2 ≤ length s = omega arith in
       simp (le-ltb _ _ a, le-ltb _ _ h, or-zero-there 2 s p w)
 
--- the bytes of a part
-module _ (s : List ℕ) (p n : ℕ) where
-  pub within-past : length s < p + n → within s (partOf s p n) ≡ []
-  within-past h = ap (within s) (part-past s p n h)
-
-  pub within-there : p + n ≤ length s → within s (partOf s p n) ≡ take n (drop p s)
-  within-there h = ap (within s) (part-there s p n h)
+-- the bytes of a part, as `common::text::bytes_at` gives them
+pub within-bytes : (n : ℕ) (s : List ℕ) (p : ℕ) → bytesAt n s p ≡ within s (partOf s p n)
+unfolding bytesAt partOf
+within-bytes n s p = go (ltb (length s) (p + n))
+  where
+    go : (b : Bool) → pick b [] (take n (drop p s)) ≡ within s (stop b 1 (answered (record { place = p; size = n })))
+    go true = refl
+    go false = refl

@@ -1,10 +1,11 @@
 // An entry's bytes: a part of the TPI stream or of the IPI stream, both lent, and the leaf that they start with.
 ghost use mathlib.Core.Path.{_≡_};
-ghost use Rattle.item.specs.Views.{partOf, within, viewOf, saidView, bytesOf, kindAt, rawKindOf, saidKind};
+ghost use Rattle.item.specs.Views.{partOf, viewOf, saidView, bytesOf, kindAt, rawKindOf, saidKind};
 use crate::Entry;
 use crate::ItemIndex;
 use answer::Refusal;
 use common::field;
+use common::text;
 use header::LONGEST;
 
 // The payload's place and length in the stream that the entry names.
@@ -29,20 +30,6 @@ fn inside(s: &[u8], place: usize, length: usize) -> ViewAnswer
         return ViewAnswer::Refused(Refusal::Ended);
     }
     ViewAnswer::Answered(place, length)
-}
-
-// That part, and no bytes where it is not there.
-fn part<'a>(s: &'a [u8], place: usize, length: usize) -> &'a [u8]
-    ensures { λ r. ⌜ now r ≡ within (now (s .entry)) (partOf (now (s .entry)) place length) ⌝ }
-{
-    if place > s.len() {
-        return &s[0..0];
-    }
-    if length > s.len() - place {
-        return &s[0..0];
-    }
-    let end = place + length;
-    &s[place..end]
 }
 
 // The leaf that the part starts with.
@@ -101,8 +88,8 @@ pub fn view<'a>(tpi: &'a [u8], ipi: &'a [u8], entry: Entry) -> &'a [u8]
             let length = item.length;
             let index = item.index;
             match index {
-                ItemIndex::Types(_) => part(tpi, place, length),
-                ItemIndex::Ids(_) => part(ipi, place, length),
+                ItemIndex::Types(_) => text::bytes_at(tpi, place, length),
+                ItemIndex::Ids(_) => text::bytes_at(ipi, place, length),
             }
         }
         Entry::Marker(_) => &tpi[0..0],

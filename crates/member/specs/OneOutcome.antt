@@ -11,7 +11,7 @@ use Rattle.common.specs.Texts.{Part}
 use Rattle.common.specs.OneOutcome.{hear-number}
 use Rattle.layout.specs.Fields.{Value, orAbsent}
 use Rattle.layout.specs.OneOutcome.{nth, numberIn, stringIn, integerIn, optionIn, option-back, number-back}
-use Rattle.member.specs.Said.{offsetSaid, virtualLeaf, memberValues, saidMember, entryValues, saidEntry, saidName}
+use Rattle.member.specs.Said.{offsetSaid, virtualLeaf, memberValues, saidMember, entryValues, saidEntry}
 use Rattle.member.specs.declared.OptOffset.{OptOffset}
 use Rattle.member.specs.declared.OptOffset.the-variants as offset
 use Rattle.member.specs.declared.VirtualBaseClassType.{VirtualBaseClassType}
@@ -22,8 +22,6 @@ use Rattle.member.specs.declared.ReadMember.the-variants as rmember
 use Rattle.member.specs.declared.MethodListEntry.{MethodListEntry}
 use Rattle.member.specs.declared.ReadMethodEntry.{ReadMethodEntry}
 use Rattle.member.specs.declared.ReadMethodEntry.the-variants as rentry
-use Rattle.member.specs.declared.OptName.{OptName}
-use Rattle.member.specs.declared.OptName.the-variants as name
 
 abbrev hear-offset : Option ℕ → OptOffset
 hear-offset none = offset.None
@@ -111,14 +109,3 @@ back-entry rentry.Ended = refl
 
 pub one-entry : (r q : ReadMethodEntry) → saidEntry r ≡ saidEntry q → r ≡ q
 one-entry = one-of saidEntry hear-entry back-entry
-
-abbrev hear-name : Option Part → OptName
-hear-name none = name.None
-hear-name (some x) = name.Some (record { place = x .place; length = x .length })
-
-back-name : (r : OptName) → hear-name (saidName r) ≡ r
-back-name name.None = refl
-back-name (name.Some t) = refl
-
-pub one-name : (r q : OptName) → saidName r ≡ saidName q → r ≡ q
-one-name = one-of saidName hear-name back-name

@@ -22,8 +22,6 @@ use Rattle.member.specs.declared.ReadMember.the-variants as rmember
 use Rattle.member.specs.declared.MethodListEntry.{MethodListEntry}
 use Rattle.member.specs.declared.ReadMethodEntry.{ReadMethodEntry}
 use Rattle.member.specs.declared.ReadMethodEntry.the-variants as rentry
-use Rattle.member.specs.declared.OptName.{OptName}
-use Rattle.member.specs.declared.OptName.the-variants as name
 
 abbrev pub offsetSaid : OptOffset → Option ℕ
 offsetSaid offset.None = none
@@ -92,7 +90,3 @@ pub virtual-unnamed : (direct : Bool) (vs : List (Value Part)) → nameOf (numbe
 unfolding among nameOf namedLeaves
 virtual-unnamed true vs = refl
 virtual-unnamed false vs = refl
-
-abbrev pub saidName : OptName → Option Part
-saidName name.None = none
-saidName (name.Some t) = some (part t)

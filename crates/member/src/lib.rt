@@ -2,9 +2,10 @@
 // its line of the table in layout/specs/Layouts.antt.
 ghost use mathlib.Core.Path.{_≡_};
 ghost use mathlib.Core.Option.{some};
+ghost use Rattle.common.specs.Texts.{stringSaid};
 ghost use Rattle.layout.specs.Fields.{readField, readFields};
 ghost use Rattle.layout.specs.Layouts.{byLayout, readLeaf, readRecord, memberLeaves, virtualBase, method, offset};
-ghost use Rattle.member.specs.Said.{virtualLeaf, memberValues, saidOffset, saidMember, saidEntry, nameOf, saidName};
+ghost use Rattle.member.specs.Said.{virtualLeaf, memberValues, saidOffset, saidMember, saidEntry, nameOf};
 use answer::Refusal;
 use attributes::FieldAttributes;
 use common::field;
@@ -19,6 +20,7 @@ use common::number::ReadVariant;
 use common::number::Size;
 use common::number::Variant;
 use common::text;
+use common::text::OptString;
 use common::text::RawString;
 use common::text::ReadString;
 
@@ -128,43 +130,37 @@ pub enum ReadMethodEntry {
     Ended,
 }
 
-// What `name` answers.
-pub enum OptName {
-    None,
-    Some(RawString),
-}
-
 impl Member {
     // The name, where the crate's `name` gives one: a method's is not among them.
-    pub fn name(self) -> OptName
-        ensures { λ r. ⌜ saidName r ≡ nameOf (memberValues self) ⌝ }
+    pub fn name(self) -> OptString
+        ensures { λ r. ⌜ stringSaid r ≡ nameOf (memberValues self) ⌝ }
     {
         match self {
-            Member::BaseClass(_) => OptName::None,
-            Member::VirtualBaseClass(_) => OptName::None,
-            Member::Continuation(_) => OptName::None,
-            Member::VirtualFunctionTablePointer(_) => OptName::None,
+            Member::BaseClass(_) => OptString::None,
+            Member::VirtualBaseClass(_) => OptString::None,
+            Member::Continuation(_) => OptString::None,
+            Member::VirtualFunctionTablePointer(_) => OptString::None,
             Member::Enumerate(m) => {
                 let name = m.name;
-                OptName::Some(name)
+                OptString::Some(name)
             }
             Member::Member(m) => {
                 let name = m.name;
-                OptName::Some(name)
+                OptString::Some(name)
             }
             Member::StaticMember(m) => {
                 let name = m.name;
-                OptName::Some(name)
+                OptString::Some(name)
             }
             Member::OverloadedMethod(m) => {
                 let name = m.name;
-                OptName::Some(name)
+                OptString::Some(name)
             }
             Member::Nested(m) => {
                 let name = m.name;
-                OptName::Some(name)
+                OptString::Some(name)
             }
-            Member::Method(_) => OptName::None,
+            Member::Method(_) => OptString::None,
         }
     }
 }

@@ -50,7 +50,6 @@ use Rattle.promises.specs.LeftAlone.{leaves-alone, changes-nothing, lead
 pub record Demand1 : Type 0 where
   -- "Numbers a caller gets back": every case of the enum `Refusal`, which is all that a refused answer holds, is a line of the table
   pub table : (e : Refusal) → listed (numberOf e) (detailsOf e) ≡ true
-
   -- ---- every byte string and every number is answered, or refused by these numbers
 
   -- fields at any place, over the width; strings, padding and numeric leaves
@@ -64,7 +63,6 @@ pub record Demand1 : Type 0 where
   pub paddings : (s : List ℕ) (p : ℕ) → Refuses (1 ∷ []) (paddingAfter s p)
   pub numbers : (s : List ℕ) (p : ℕ) → Refuses (1 ∷ 11 ∷ []) (numericAt s p)
   pub sizes : (s : List ℕ) (p : ℕ) → Refuses (1 ∷ 11 ∷ []) (sizeAt s p)
-
   -- primitives, and what a pointer word answers
   pub primitives : (i : ℕ) → Refuses (8 ∷ []) (primitiveOf i)
   pub pointer-kinds : (w : ℕ) → Refuses (12 ∷ []) (kindOf w)
@@ -72,7 +70,6 @@ pub record Demand1 : Type 0 where
   pub pointers-to-members : (w : ℕ) → Refuses (12 ∷ []) (toMemberOf w)
   pub references : (w : ℕ) → Refuses (12 ∷ []) (referenceOf w)
   pub pointer-sizes : (w : ℕ) → Refuses (12 ∷ []) (sizeOf w)
-
   -- streams: header, count, iterator; items: view and raw kind
   pub headers : (s : List ℕ) → Refuses (16 ∷ 1 ∷ 2 ∷ 3 ∷ 4 ∷ 5 ∷ []) (headerOf s)
   pub counts : (s : List ℕ) → Refuses (16 ∷ 1 ∷ 2 ∷ 3 ∷ 4 ∷ 5 ∷ []) (lenOf s)
@@ -81,20 +78,17 @@ pub record Demand1 : Type 0 where
   pub nexts : (s : List ℕ) (c : ItemIter) → Refuses (16 ∷ 1 ∷ 6 ∷ 7 ∷ []) (nextOf s c)
   pub views : (t p : List ℕ) (e : Entry) → Refuses (16 ∷ 1 ∷ 8 ∷ []) (viewOf t p e)
   pub raw-kinds : (t p : List ℕ) (e : Entry) → Refuses (16 ∷ 1 ∷ []) (rawKindOf t p e)
-
   -- the finder; 1 has links passed from `find` only
   pub creations : (s t : List ℕ) → Refuses (16 ∷ 1 ∷ 2 ∷ 3 ∷ 4 ∷ 5 ∷ 13 ∷ []) (createOf s t)
   pub updates : (σ : State) (c : ItemIter) → Refuses (16 ∷ 13 ∷ 14 ∷ []) (updateOf σ c)
   pub finds : (s : List ℕ) (σ : State) (i : ItemIndex) → FindRefuses (16 ∷ 13 ∷ 8 ∷ 9 ∷ 1 ∷ []) (findOf s σ i)
   pub turns : (s : List ℕ) (σ : State) (c : ItemIter) → Refuses (16 ∷ 1 ∷ 6 ∷ 7 ∷ 13 ∷ 14 ∷ []) (turnOf s σ c)
-
   -- records, members, methods, and entries of a stream
   pub types : (s : List ℕ) → Refuses (1 ∷ 10 ∷ 11 ∷ 12 ∷ []) (recordOf typeLeaves s)
   pub ids : (s : List ℕ) → Refuses (1 ∷ 10 ∷ []) (recordOf idLeaves s)
   pub members : (s : List ℕ) (p : ℕ) → Refuses (1 ∷ 10 ∷ 11 ∷ []) (readRecord memberLeaves s p)
   pub methods : (s : List ℕ) (p : ℕ) → Refuses (1 ∷ []) (readFields method 0 s p)
   pub entries : (t s : List ℕ) (e : Entry) → Refuses (16 ∷ 1 ∷ 8 ∷ 10 ∷ 11 ∷ 12 ∷ []) (parseOf t s e)
-
   -- lists: where they start, a step from any cursor, element k from any cursor, element k of a record
   pub starts : (s : List ℕ) → Refuses (1 ∷ 10 ∷ []) (startOf s)
   pub id-starts : (s : List ℕ) → Refuses (1 ∷ 10 ∷ []) (startIdsOf s)
@@ -104,7 +98,6 @@ pub record Demand1 : Type 0 where
   pub id-elements-on : (s : List ℕ) (k : ℕ) (c : ListCursor) → Refuses (15 ∷ 1 ∷ 10 ∷ []) (elementBy (stepIdsOf s) k c)
   pub elements : (s : List ℕ) (k : ℕ) → Refuses (15 ∷ 1 ∷ 10 ∷ 11 ∷ []) (elementOf s k)
   pub id-elements : (s : List ℕ) (k : ℕ) → Refuses (15 ∷ 1 ∷ 10 ∷ []) (elementIdsOf s k)
-
   -- ---- "all lent memory stays unchanged": where the function's answer r is a refusal, what was lent is after the call what it was before
 
   -- the table, lent to creation, to `update` by value, to a turn and to a walk

@@ -9,9 +9,9 @@ use Rattle.answer.specs.OneOutcome.{one-details}
 use Rattle.answer.specs.declared.Refusal.{Refusal}
 use Rattle.common.specs.Fields.{fixedAt, signedAt, said8, said16, said32, said64, saidI8, saidI16, saidI32, saidI64}
 use Rattle.common.specs.Indices.{noType, noId, optionalOf, optionalAt, saidType, saidId, saidStringRef, typeSaid, idSaid, saidOptType, saidOptId}
-use Rattle.common.specs.Texts.{stringAt, countedStringAt, stringOf, bytesAfter, paddingAfter, saidString, saidAfter}
+use Rattle.common.specs.Texts.{stringAt, countedStringAt, stringOf, bytesAfter, paddingAfter, stringSaid, saidString, saidAfter}
 use Rattle.common.specs.Numbers.{numericAt, sizeAt, saidVariant, saidSize}
-use Rattle.common.specs.OneOutcome.{one-u8, one-u16, one-u32, one-u64, one-i8, one-i16, one-i32, one-i64, one-type, one-id, one-string-ref, one-optional-type, one-optional-id, one-read-type, one-read-id, one-string, one-after, one-variant, one-size}
+use Rattle.common.specs.OneOutcome.{one-u8, one-u16, one-u32, one-u64, one-i8, one-i16, one-i32, one-i64, one-type, one-id, one-string-ref, one-optional-type, one-optional-id, one-read-type, one-read-id, one-optional-string, one-string, one-after, one-variant, one-size}
 use Rattle.common.specs.declared.index.TypeIndex.{TypeIndex}
 use Rattle.common.specs.declared.index.IdIndex.{IdIndex}
 use Rattle.primitive.specs.Primitive.{primitiveOf, saidPrimitive}
@@ -45,8 +45,8 @@ use Rattle.id.specs.OneOutcome.{one-id as one-id-data}
 use Rattle.data.specs.Said.{optString, nameOf as typeNameOf, saidTypeData}
 use Rattle.data.specs.OneOutcome.{one-type-data, one-name as one-type-name}
 use Rattle.data.specs.declared.TypeData.{TypeData}
-use Rattle.member.specs.Said.{memberValues, saidMember, saidEntry, saidName, nameOf as memberNameOf}
-use Rattle.member.specs.OneOutcome.{one-member, one-entry, one-name as one-member-name}
+use Rattle.member.specs.Said.{memberValues, saidMember, saidEntry, nameOf as memberNameOf}
+use Rattle.member.specs.OneOutcome.{one-member, one-entry}
 use Rattle.member.specs.declared.Member.{Member}
 use Rattle.lists.specs.Lists.{startOf, startIdsOf, stepOf, stepIdsOf, elementBy, elementOf, elementIdsOf}
 use Rattle.lists.specs.Said.{saidStart, saidStep, saidStepIds, saidElement, saidElementIds}
@@ -68,12 +68,10 @@ OnceLent {R = R} {M = M} C = (r q : R) (m k : M) → C r m → C q k → (r ≡ 
 
 pub record OneOutcome : Type 1 where
   -- a contract `r ≡ x` does of itself: the attribute words, `Refusal::number`, `Header::count`, the readers with zero for the end, links,
-  -- the small methods of indices, items and entries, `view` by its bytes, `ItemFinder::max_index`
+  -- the small methods of indices, items and entries, `view`, `bytes_at` and `RawString::bytes` by their bytes, `ItemFinder::max_index`
   pub plain : {R : Type 0} (x : R) → Once (λ (r : R). r ≡ x)
-
   -- answer
   pub details : (e : Refusal) → Once (λ r. detailsSaid r ≡ detailsOf e)
-
   -- common
   pub u8-at : (s : List ℕ) (p : ℕ) → Once (λ r. said8 r ≡ fixedAt 1 s p)
   pub u16-at : (s : List ℕ) (p : ℕ) → Once (λ r. said16 r ≡ fixedAt 2 s p)
@@ -97,20 +95,16 @@ pub record OneOutcome : Type 1 where
   pub after-padding : (s : List ℕ) (p : ℕ) → Once (λ r. saidAfter r ≡ paddingAfter s p)
   pub number-at : (s : List ℕ) (p : ℕ) → Once (λ r. saidVariant r ≡ numericAt s p)
   pub size-at : (s : List ℕ) (p : ℕ) → Once (λ r. saidSize r ≡ sizeAt s p)
-
   -- primitive
   pub primitive : (i : ℕ) → Once (λ r. saidPrimitive r ≡ primitiveOf i)
-
   -- attributes
   pub pointer-kind : (w : ℕ) → Once (λ r. saidPointerKind r ≡ kindOf w)
   pub pointer-mode : (w : ℕ) → Once (λ r. saidMode r ≡ modeOf w)
   pub pointer-to-member : (w : ℕ) → Once (λ r. saidFlag r ≡ toMemberOf w)
   pub is-reference : (w : ℕ) → Once (λ r. saidFlag r ≡ referenceOf w)
   pub pointer-size : (w : ℕ) → Once (λ r. saidPointerSize r ≡ sizeOf w)
-
   -- header
   pub header-parse : (s : List ℕ) → Once (λ r. saidHeader r ≡ headerOf s)
-
   -- item: `types` and `ids` are `iter` of a stream
   pub iter : (tag : Stream) (s : List ℕ) → Once (λ r. saidIter r ≡ iterOf tag s)
   pub next : (s : List ℕ) (c : ItemIter) → Once (λ r. saidNext r ≡ nextOf s c)
@@ -118,7 +112,6 @@ pub record OneOutcome : Type 1 where
   pub raw-kind : (t p : List ℕ) (e : Entry) → Once (λ r. saidKind r ≡ rawKindOf t p e)
   pub len : (s : List ℕ) → Once (λ r. saidLen r ≡ lenOf s)
   pub is-empty : (s : List ℕ) → Once (λ r. saidEmpty r ≡ isEmptyOf s)
-
   -- finder: `find_type`, `find_id` and the lent `find` are `find`
   pub create : (s t : List ℕ) → OnceLent (Leaves t (createOf s t))
   pub update : (f : ItemFinder) (t : List ℕ) (c : ItemIter) → OnceLent (Leaves t (updateOf (state f t) c))
@@ -127,21 +120,18 @@ pub record OneOutcome : Type 1 where
   pub find : (s : List ℕ) (σ : State) (i : ItemIndex) → Once (λ r. saidFind r ≡ findOf s σ i)
   pub max-type-index : (f : ItemFinder) → Once (λ (r : TypeIndex). r .0 ≡ maxIndexOf f)
   pub max-id-index : (f : ItemFinder) → Once (λ (r : IdIndex). r .0 ≡ maxIndexOf f)
-
   -- walk
   pub turn : (s : List ℕ) (f : ItemFinder) (t : List ℕ) (c : ItemIter) → OnceLent (Leads t (turnOf s (state f t) c))
   pub walk-on : (s : List ℕ) (f : ItemFinder) (t : List ℕ) (c : ItemIter) → OnceLent (Walks s c (state f t))
   pub walk : (tag : Stream) (s t : List ℕ) → OnceLent (Indexes tag s t)
-
   -- id, data, member, record
   pub id-data : (s : List ℕ) → Once (λ r. saidIdData r ≡ recordOf idLeaves s)
   pub type-data : (s : List ℕ) → Once (λ r. saidTypeData r ≡ recordOf typeLeaves s)
   pub type-name : (d : TypeData) → Once (λ r. optString r ≡ typeNameOf d)
   pub member-at : (s : List ℕ) (p : ℕ) → Once (λ r. saidMember r ≡ readRecord memberLeaves s p)
   pub method-entry-at : (s : List ℕ) (p : ℕ) → Once (λ r. saidEntry r ≡ readFields method 0 s p)
-  pub member-name : (m : Member) → Once (λ r. saidName r ≡ memberNameOf (memberValues m))
+  pub member-name : (m : Member) → Once (λ r. stringSaid r ≡ memberNameOf (memberValues m))
   pub record-parse : (t p : List ℕ) (e : Entry) → Once (λ r. saidParse r ≡ parseOf t p e)
-
   -- lists; and reader, whose `next`, `element`, `nth` and what stands above them have the contracts of `step`, `element-from` and `element-at`
   pub start : (s : List ℕ) → Once (λ r. saidStart r ≡ startOf s)
   pub start-ids : (s : List ℕ) → Once (λ r. saidStart r ≡ startIdsOf s)
@@ -151,7 +141,6 @@ pub record OneOutcome : Type 1 where
   pub element-from-ids : (s : List ℕ) (c : ListCursor) (k : ℕ) → Once (λ r. saidElementIds r ≡ elementBy (stepIdsOf s) k c)
   pub element-at : (s : List ℕ) (k : ℕ) → Once (λ r. saidElement r ≡ elementOf s k)
   pub element-at-ids : (s : List ℕ) (k : ℕ) → Once (λ r. saidElementIds r ≡ elementIdsOf s k)
-
   -- reader: `new` and `moved` by the bytes and the cursor; the lent steps
   pub reader-of : (x : ListReader) → Once (λ (r : ListReader). (r .bytes ≡ x .bytes) × (r .cursor ≡ x .cursor))
   pub reader-step : (s : List ℕ) (c : ListCursor) → OnceLent (Steps c (stepOf s c))
@@ -161,10 +150,10 @@ pub record OneOutcome : Type 1 where
 once : {R S : Type 0} {said : R → S} → ((r q : R) → said r ≡ said q → r ≡ q) → (x : S) → Once (λ r. said r ≡ x)
 once one x r q a b = one r q (a ∙ sym b)
 
-one-type-index : (x : ℕ) → Once (λ (r : TypeIndex). r .0 ≡ x)
+one-type-index : (x : ℕ) → Once {R = TypeIndex} (λ r. r .0 ≡ x)
 one-type-index x r q a b = let e : r .0 ≡ q .0 = a ∙ sym b in λ i. record { 0 = e i }
 
-one-id-index : (x : ℕ) → Once (λ (r : IdIndex). r .0 ≡ x)
+one-id-index : (x : ℕ) → Once {R = IdIndex} (λ r. r .0 ≡ x)
 one-id-index x r q a b = let e : r .0 ≡ q .0 = a ∙ sym b in λ i. record { 0 = e i }
 
 one-update-step : (f : ItemFinder) (t : List ℕ) (c : ItemIter) → OnceLent (λ (u : UpdateStep) t′. Updates (state f t) c (u .answer) (state (u .finder) t′))
@@ -231,7 +220,7 @@ one-outcome = record {
   type-name = λ d. once one-type-name (typeNameOf d);
   member-at = λ s p. once one-member (readRecord memberLeaves s p);
   method-entry-at = λ s p. once one-entry (readFields method 0 s p);
-  member-name = λ m. once one-member-name (memberNameOf (memberValues m));
+  member-name = λ m. once one-optional-string (memberNameOf (memberValues m));
   record-parse = λ t p e. once one-parse (parseOf t p e);
   start = λ s. once one-start (startOf s);
   start-ids = λ s. once one-start (startIdsOf s);

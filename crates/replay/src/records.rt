@@ -1,12 +1,13 @@
 // The lines of records: compare/PROTOCOL.md, "Lines of records". The elements of a list are asked for one step at a time.
 use crate::show;
 use common::index::TypeIndex;
+use common::text::OptString;
 use data::ClassKind;
 use data::ClassType;
 use data::EnumerationType;
 use data::MemberFunctionType;
 use data::ModifierType;
-use data::OptString;
+
 use data::PointerType;
 use data::ProcedureType;
 use data::TypeData;

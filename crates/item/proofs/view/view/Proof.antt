@@ -1,6 +1,8 @@
 -- `item::view::view` meets its contract: 16 for either stream first, then by cases of the entry and of its stream. Assumes nothing.
 use borrow.Author.Needs.{needs}
 use borrow.Author.Tests.{le-ltb, lt-ltb}
+use mathlib.Core.Path.{_∙_}
+use Rattle.item.proofs.ViewLaws.{within-bytes}
 use Rattle.item.proofs.view.view.Statement.{statement}
 use Rattle.item.proofs.view.view.Tie as tie
 
@@ -13,12 +15,12 @@ returns-2 c = simp (le-ltb _ _ (c .before .before .if1 .left), lt-ltb _ _ (c .be
 returns-3 : tie.Need-returns-3
 returns-3 c =
     let e = c .before .before .before .before in
-    simp (le-ltb _ _ (e .before .before .before .if1 .left), le-ltb _ _ (e .before .before .if2 .left), e .entry .given .1, c .before .enum-told .given .1) (c .part .ensures)
+    simp (le-ltb _ _ (e .before .before .before .if1 .left), le-ltb _ _ (e .before .before .if2 .left), e .entry .given .1, c .before .enum-told .given .1) (c .bytes-at .ensures ∙ within-bytes _ _ _)
 
 returns-4 : tie.Need-returns-4
 returns-4 c =
     let e = c .before .before .before .before in
-    simp (le-ltb _ _ (e .before .before .before .if1 .left), le-ltb _ _ (e .before .before .if2 .left), e .entry .given .1, c .before .enum-told2 .given .1) (c .part2 .ensures)
+    simp (le-ltb _ _ (e .before .before .before .if1 .left), le-ltb _ _ (e .before .before .if2 .left), e .entry .given .1, c .before .enum-told2 .given .1) (c .bytes-at2 .ensures ∙ within-bytes _ _ _)
 
 returns-5 : tie.Need-returns-5
 returns-5 c = simp (le-ltb _ _ (c .before .before .before .before .if1 .left), le-ltb _ _ (c .before .before .before .if2 .left), c .before .enum-told3 .given .1)
