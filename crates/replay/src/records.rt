@@ -7,7 +7,6 @@ use data::ClassType;
 use data::EnumerationType;
 use data::MemberFunctionType;
 use data::ModifierType;
-
 use data::PointerType;
 use data::ProcedureType;
 use data::TypeData;
