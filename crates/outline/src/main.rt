@@ -4,7 +4,6 @@ use answer::Refusal;
 use common::index::OptTypeIndex;
 use common::index::TypeIndex;
 use common::text::OptString;
-use common::text::RawString;
 use data::ClassType;
 use data::TypeData;
 use finder::FindAnswer;
@@ -17,7 +16,6 @@ use lists::Element;
 use lists::ListCursor;
 use lists::StartAnswer;
 use lists::StepAnswer;
-
 use member::Member;
 use member::MemberType;
 use record::ParseAnswer;
