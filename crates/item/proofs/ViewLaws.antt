@@ -18,7 +18,7 @@ module _ (s : List ℕ) (p n : ℕ) where
   unfolding partOf
   part-past h = simp (lt-ltb _ _ h)
 
-  pub part-there : p + n ≤ length s → partOf s p n ≡ answered (record { place = p; size = n })
+  pub part-there : p + n ≤ length s → partOf s p n ≡ answered (record { place = p; length = n })
   unfolding partOf
   part-there h = simp (le-ltb _ _ h)
 
@@ -41,6 +41,6 @@ pub within-bytes : (n : ℕ) (s : List ℕ) (p : ℕ) → bytesAt n s p ≡ with
 unfolding bytesAt partOf
 within-bytes n s p = go (ltb (length s) (p + n))
   where
-    go : (b : Bool) → pick b [] (take n (drop p s)) ≡ within s (stop b 1 (answered (record { place = p; size = n })))
+    go : (b : Bool) → pick b [] (take n (drop p s)) ≡ within s (stop b 1 (answered (record { place = p; length = n })))
     go true = refl
     go false = refl

@@ -43,7 +43,7 @@ unfolding isEmptyOf lenOf headerOf
 empties = refl
 
 pub views : map (viewOf streamE []) (Record (itemAt Types 4096 58 8) ∷ Record (itemAt Types 4096 58 21) ∷ Record (itemAt Ids 4096 58 8) ∷ Marker (indexIn Types 4095) ∷ [])
-    ≡ answered (record { place = 58; size = 8 }) ∷ refused 1 [] ∷ refused 1 [] ∷ refused 8 (4095 ∷ []) ∷ []
+    ≡ answered (record { place = 58; length = 8 }) ∷ refused 1 [] ∷ refused 1 [] ∷ refused 8 (4095 ∷ []) ∷ []
 unfolding partOf
 views = refl
 

@@ -2,7 +2,8 @@
 use mathlib.Core.Path.{_≡_, refl}
 use Rattle.answer.specs.OneOutcome.{one-of, heard, heard-no}
 use Rattle.item.specs.Iterator.{Next, done, yielded, saidIter, saidNext}
-use Rattle.item.specs.Views.{Part, saidView, saidKind}
+use Rattle.common.specs.Texts.{Part}
+use Rattle.item.specs.Views.{saidView, saidKind}
 use Rattle.item.specs.Information.{saidLen, saidEmpty}
 use Rattle.item.specs.declared.iter.IterAnswer.{IterAnswer}
 use Rattle.item.specs.declared.iter.IterAnswer.the-variants as iter
@@ -37,7 +38,7 @@ pub one-next : (r q : NextAnswer) → saidNext r ≡ saidNext q → r ≡ q
 one-next = one-of saidNext (heard nextIn next.Refused) next-back
 
 abbrev viewIn : Part → ViewAnswer
-viewIn a = view.Answered (a .place) (a .size)
+viewIn a = view.Answered (a .place) (a .length)
 
 view-back : (r : ViewAnswer) → heard viewIn view.Refused (saidView r) ≡ r
 view-back (view.Answered p n) = refl

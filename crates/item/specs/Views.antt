@@ -6,6 +6,7 @@ use lib.Dec.{ltb}
 use Rattle.answer.specs.Answer.{Answer, answered, refused, stop}
 use Rattle.answer.specs.Refusals.{no}
 use Rattle.common.specs.Fields.{le}
+use Rattle.common.specs.Texts.{Part}
 use Rattle.header.specs.Header.{longest}
 use Rattle.item.specs.Items.{numberIn, indexOf}
 use Rattle.item.specs.declared.ItemIndex.{ItemIndex}
@@ -17,14 +18,9 @@ use Rattle.item.specs.declared.view.ViewAnswer.the-variants as view
 use Rattle.item.specs.declared.view.KindAnswer.{KindAnswer}
 use Rattle.item.specs.declared.view.KindAnswer.the-variants as kind
 
--- a part of some bytes
-pub record Part : Type 0 where
-  pub place : ℕ
-  pub size : ℕ
-
 -- 1 if it passes the end
 unfoldable pub partOf : List ℕ → ℕ → ℕ → Answer Part
-partOf s p n = stop (ltb (length s) (p + n)) 1 (answered (record { place = p; size = n }))
+partOf s p n = stop (ltb (length s) (p + n)) 1 (answered (record { place = p; length = n }))
 
 -- the stream that an index names
 abbrev pub named : List ℕ → List ℕ → ItemIndex → List ℕ
@@ -45,7 +41,7 @@ viewOf t p e = shortOf t p (entryOf t p e)
 
 -- the bytes of a part, and none where it is refused
 abbrev pub within : List ℕ → Answer Part → List ℕ
-within s (answered a) = take (a .size) (drop (a .place) s)
+within s (answered a) = take (a .length) (drop (a .place) s)
 within s (refused n d) = []
 
 abbrev pub bytesOf : List ℕ → List ℕ → Entry → List ℕ
@@ -65,7 +61,7 @@ rawKindOf t p e = shortOf t p (kindOf t p e)
 
 -- what the answers say
 abbrev pub saidView : ViewAnswer → Answer Part
-saidView (view.Answered p n) = answered (record { place = p; size = n })
+saidView (view.Answered p n) = answered (record { place = p; length = n })
 saidView (view.Refused e) = no e
 
 abbrev pub saidKind : KindAnswer → Answer ℕ
