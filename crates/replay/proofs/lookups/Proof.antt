@@ -25,17 +25,17 @@ returns c = search needs
 low32-requires : tie.Need-low32-requires Inv-loop μ-loop
 low32-requires c κs = search needs
 
-cast-number : tie.Need-cast-number Inv-loop μ-loop
-cast-number c = search needs
+slice-aggregate-form : tie.Need-slice-aggregate-form Inv-loop μ-loop
+slice-aggregate-form c = search needs
 
-number-requires : tie.Need-number-requires Inv-loop μ-loop
-number-requires c κs = search needs
+cast-t19 : tie.Need-cast-t19 Inv-loop μ-loop
+cast-t19 c = search needs
 
-slice-aggregate-put : tie.Need-slice-aggregate-put Inv-loop μ-loop
-slice-aggregate-put c = search needs
+slice-aggregate-form-2 : tie.Need-slice-aggregate-form-2 Inv-loop μ-loop
+slice-aggregate-form-2 c = search needs
 
-put-requires : tie.Need-put-requires Inv-loop μ-loop
-put-requires c κs = search needs
+form-requires : tie.Need-form-requires Inv-loop μ-loop
+form-requires c κs = search needs
 
 index-in-requires : tie.Need-index-in-requires Inv-loop μ-loop
 index-in-requires c κs = search needs
@@ -72,10 +72,10 @@ lookups-spec =
     read-numeral-requires
     returns
     low32-requires
-    cast-number
-    number-requires
-    slice-aggregate-put
-    put-requires
+    slice-aggregate-form
+    cast-t19
+    slice-aggregate-form-2
+    form-requires
     index-in-requires
     find-requires
     peek-requires
