@@ -318,10 +318,10 @@ fn matched(letters: &[u8; 16], n: usize, m: usize, letter: u8) -> usize {
 // What stands for a word that no name is.
 pub const UNKNOWN: u8 = 255;
 
-// Which name a word is, the first being 0, and where its shape starts.
+// Which name a word is, the first being 0, and its shape: letters, the first as the lowest eight bits.
 pub struct Name {
     pub number: u8,
-    pub shape: usize,
+    pub shape: u64,
 }
 
 fn one_more(k: u8) -> u8 {
@@ -329,6 +329,35 @@ fn one_more(k: u8) -> u8 {
         return UNKNOWN;
     }
     k + 1
+}
+
+// One more letter in front of a shape.
+fn longer(shape: u64, letter: u8) -> u64 {
+    shape % 72057594037927936 * 256 + (letter as u64)
+}
+
+fn shape_end(text: &[u8], from: usize) -> usize {
+    let mut i = from;
+    while i < text.len() {
+        if text[i] == 32 {
+            return i;
+        }
+        i += 1;
+    }
+    i
+}
+
+// The letters from a place on, up to a blank; no shape has more than eight.
+fn shape_at(text: &[u8], from: usize) -> u64 {
+    let mut i = shape_end(text, from);
+    let mut shape: u64 = 0;
+    while from < i {
+        i -= 1;
+        if i < text.len() {
+            shape = longer(shape, text[i]);
+        }
+    }
+    shape
 }
 
 // The text has a name, a colon, a shape and a blank for each command.
@@ -347,7 +376,7 @@ pub fn known(letters: &[u8; 16], n: usize, text: &[u8]) -> Name {
         } else if m == n {
             return Name {
                 number: k,
-                shape: i,
+                shape: shape_at(text, i),
             };
         } else {
             m = 17;
@@ -355,7 +384,7 @@ pub fn known(letters: &[u8; 16], n: usize, text: &[u8]) -> Name {
     }
     Name {
         number: UNKNOWN,
-        shape: i,
+        shape: 0,
     }
 }
 
@@ -463,12 +492,11 @@ fn argument(
     with_number(a, numbers, n.value, n.input)
 }
 
-// The arguments of the shape that starts at a place of the text and ends before a blank.
+// The arguments of a shape.
 pub fn read_arguments(
     buffer: &mut [u8; 65536],
     from: Input,
-    text: &[u8],
-    shape: usize,
+    shape: u64,
     first: &mut [u8; 65536],
     second: &mut [u8; 65536],
     places: &mut [u32; 8192],
@@ -481,14 +509,18 @@ pub fn read_arguments(
         numbers: 0,
         input: from,
     };
-    let mut i = shape;
-    while i < text.len() {
-        let code = text[i];
-        if code == 32 {
-            return a;
-        }
-        a = argument(buffer, a, code, first, second, places, numbers);
-        i += 1;
+    let mut left = shape;
+    while 0 < left {
+        a = argument(
+            buffer,
+            a,
+            (left % 256) as u8,
+            first,
+            second,
+            places,
+            numbers,
+        );
+        left /= 256;
     }
     a
 }

@@ -140,7 +140,7 @@ fn plain(text: &[u8], from: usize, to: usize) {
     }
 }
 
-pub fn form(text: &[u8], numbers: &[u64]) {
+fn form(text: &[u8], numbers: &[u64]) {
     let mut at: usize = 0;
     let mut k: usize = 0;
     while at < text.len() {
@@ -159,6 +159,24 @@ pub fn form(text: &[u8], numbers: &[u64]) {
     }
 }
 
+// Forms of so many numbers at most: a number that no mark takes is not shown. An array of a fixed length is the cheapest to prove.
+
+pub fn form2(text: &[u8], numbers: &[u64; 2]) {
+    form(text, numbers);
+}
+
+pub fn form4(text: &[u8], numbers: &[u64; 4]) {
+    form(text, numbers);
+}
+
+pub fn form8(text: &[u8], numbers: &[u64; 8]) {
+    form(text, numbers);
+}
+
+pub fn form16(text: &[u8], numbers: &[u64; 16]) {
+    form(text, numbers);
+}
+
 // ` name=`, a number.
 pub fn field(name: &[u8], n: u64) {
     put(name);
@@ -171,7 +189,7 @@ pub fn refusal(e: Refusal) {
     match e.details() {
         Details::None => {}
         Details::One(a) => field(b" ", a as u64),
-        Details::Two(a, b) => form(b" # #", &[a as u64, b as u64]),
+        Details::Two(a, b) => form2(b" # #", &[a as u64, b as u64]),
     }
 }
 
@@ -304,7 +322,9 @@ pub fn primitive(p: PrimitiveType) {
     let indirection = p.indirection;
     put(b"0 prim kind=");
     word(
-        b"NoType Void Char UChar RChar WChar RChar16 RChar32 I8 U8 Short UShort I16 U16 Long ULong I32 U32 Quad UQuad I64 U64 Octa UOcta I128 U128 F16 F32 F32PP F48 F64 F80 F128 Complex32 Complex64 Complex80 Complex128 Bool8 Bool16 Bool32 Bool64 HRESULT ",
+        b"NoType Void Char UChar RChar WChar RChar16 RChar32 I8 U8 Short UShort I16 U16 Long ULong I32 U32 \
+            Quad UQuad I64 U64 Octa UOcta I128 U128 F16 F32 F32PP F48 F64 F80 F128 Complex32 Complex64 Complex80 \
+            Complex128 Bool8 Bool16 Bool32 Bool64 HRESULT ",
         kind_number(kind),
     );
     put(b" ind=");
@@ -318,7 +338,7 @@ pub fn primitive(p: PrimitiveType) {
 
 pub fn properties(w: u16) {
     let p = TypeProperties(w);
-    form(
+    form16(
         b"props # ########### hfa=# intrinsic=# mocom=#\n",
         &[
             w as u64,
@@ -336,13 +356,14 @@ pub fn properties(w: u16) {
             p.hfa() as u64,
             p.intrinsic_type() as u64,
             p.mocom() as u64,
+            0,
         ],
     );
 }
 
 pub fn field_attributes(w: u16) {
     let p = FieldAttributes(w);
-    form(
+    form8(
         b"field # access=# mprop=# static=# virtual=# pure=# intro=#\n",
         &[
             w as u64,
@@ -352,13 +373,14 @@ pub fn field_attributes(w: u16) {
             p.is_virtual() as u64,
             p.is_pure_virtual() as u64,
             p.is_intro_virtual() as u64,
+            0,
         ],
     );
 }
 
 pub fn function_attributes(w: u16) {
     let p = FunctionAttributes(w);
-    form(
+    form8(
         b"func # call=# udt=# ctor=# vbases=#\n",
         &[
             w as u64,
@@ -366,6 +388,9 @@ pub fn function_attributes(w: u16) {
             p.cxx_return_udt() as u64,
             p.is_constructor() as u64,
             p.is_constructor_with_virtual_bases() as u64,
+            0,
+            0,
+            0,
         ],
     );
 }
@@ -428,7 +453,7 @@ fn pointer_size(a: SizeAnswer) -> u64 {
 
 pub fn pointer(w: u32) {
     let p = PointerAttributes(w);
-    form(
+    form16(
         b"ptr # kind=! mode=! member=! ref=! flat32=# volatile=# const=# unaligned=# restrict=# size=! mocom=#\n",
         &[
             w as u64,
@@ -443,6 +468,10 @@ pub fn pointer(w: u32) {
             p.is_restrict() as u64,
             pointer_size(p.size()),
             p.is_mocom() as u64,
+            0,
+            0,
+            0,
+            0,
         ],
     );
 }

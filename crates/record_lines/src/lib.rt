@@ -79,7 +79,7 @@ fn class(r: ClassType) {
     let name = r.name;
     let unique_name = r.unique_name;
     class_head(kind);
-    lines::form(
+    lines::form16(
         b" count=# props=# fields=? derived=? shape=? size=# name=@ unique=@",
         &[
             r.count as u64,
@@ -92,13 +92,19 @@ fn class(r: ClassType) {
             name.length as u64,
             place(unique_name),
             length(unique_name),
+            0,
+            0,
+            0,
+            0,
+            0,
+            0,
         ],
     );
 }
 
 fn member_function(r: MemberFunctionType) {
     let this = r.this_pointer_type;
-    lines::form(
+    lines::form8(
         b"0 1009 ret=# class=# this=? attrs=# count=# args=# adjust=#",
         &[
             r.return_type.0 as u64,
@@ -108,13 +114,14 @@ fn member_function(r: MemberFunctionType) {
             r.parameter_count as u64,
             r.argument_list.0 as u64,
             r.this_adjustment as u64,
+            0,
         ],
     );
 }
 
 fn procedure(r: ProcedureType) {
     let returned = r.return_type;
-    lines::form(
+    lines::form4(
         b"0 1008 ret=? attrs=# count=# args=#",
         &[
             lines::type_number(returned),
@@ -127,19 +134,20 @@ fn procedure(r: ProcedureType) {
 
 fn pointer(r: PointerType) {
     let class = r.containing_class;
-    lines::form(
+    lines::form4(
         b"0 1002 t=# word=# class=?",
         &[
             r.underlying_type.0 as u64,
             r.attributes.0 as u64,
             lines::type_number(class),
+            0,
         ],
     );
 }
 
 fn modifier(r: ModifierType) {
     let flags = r.flags;
-    lines::form(
+    lines::form4(
         b"0 1001 t=# const=# volatile=# unaligned=#",
         &[
             r.underlying_type.0 as u64,
@@ -153,7 +161,7 @@ fn modifier(r: ModifierType) {
 fn enumeration(r: EnumerationType) {
     let name = r.name;
     let unique_name = r.unique_name;
-    lines::form(
+    lines::form8(
         b"0 1507 count=# props=# t=# fields=# name=@ unique=@",
         &[
             r.count as u64,
@@ -171,7 +179,7 @@ fn enumeration(r: EnumerationType) {
 fn union(r: UnionType) {
     let name = r.name;
     let unique_name = r.unique_name;
-    lines::form(
+    lines::form8(
         b"0 1506 count=# props=# fields=# size=# name=@ unique=@",
         &[
             r.count as u64,
@@ -188,7 +196,7 @@ fn union(r: UnionType) {
 
 fn array(r: ArrayType) {
     let name = r.name;
-    lines::form(
+    lines::form8(
         b"0 1503 elem=# idx=# size=# name=@",
         &[
             r.element_type.0 as u64,
@@ -196,30 +204,54 @@ fn array(r: ArrayType) {
             r.size.value,
             name.place as u64,
             name.length as u64,
+            0,
+            0,
+            0,
         ],
     );
 }
 
 fn bitfield(r: BitfieldType) {
-    lines::form(
+    lines::form4(
         b"0 1205 t=# len=# pos=#",
         &[
             r.underlying_type.0 as u64,
             r.length as u64,
             r.position as u64,
+            0,
         ],
     );
 }
 
 fn table_shape(r: VirtualTableShapeType) {
     let count = r.count as u64;
-    lines::form(
+    lines::form4(
         b"0 000a count=# bytes=@",
-        &[count, r.place as u64, (count + 1) / 2],
+        &[count, r.place as u64, (count + 1) / 2, 0],
     );
 }
 
-// A type record's line, without its elements.
+fn head(leaf: u64) {
+    lines::form2(b"0 %", &[leaf, 0]);
+}
+
+fn counted(leaf: u64, count: u32) {
+    lines::form2(b"0 % count=#", &[leaf, count as u64]);
+}
+
+fn other_fields(d: TypeData) {
+    match d {
+        TypeData::Array(r) => array(r),
+        TypeData::Union(r) => union(r),
+        TypeData::Bitfield(r) => bitfield(r),
+        TypeData::VirtualTableShape(r) => table_shape(r),
+        TypeData::FieldList => head(0x1203),
+        TypeData::ArgumentList(r) => counted(0x1201, r.count),
+        _ => head(0x1206),
+    }
+}
+
+// A type record's line, without its elements. Two matches of half the cases are proved in less time than one.
 fn type_fields(d: TypeData) {
     match d {
         TypeData::Class(r) => class(r),
@@ -228,13 +260,7 @@ fn type_fields(d: TypeData) {
         TypeData::Pointer(r) => pointer(r),
         TypeData::Modifier(r) => modifier(r),
         TypeData::Enumeration(r) => enumeration(r),
-        TypeData::Array(r) => array(r),
-        TypeData::Union(r) => union(r),
-        TypeData::Bitfield(r) => bitfield(r),
-        TypeData::VirtualTableShape(r) => table_shape(r),
-        TypeData::FieldList => lines::put(b"0 1203"),
-        TypeData::ArgumentList(r) => lines::field(b"0 1201 count=", r.count as u64),
-        TypeData::MethodList => lines::put(b"0 1206"),
+        _ => other_fields(d),
     }
 }
 
@@ -248,9 +274,14 @@ fn offset(t: OptOffset) -> u64 {
 }
 
 fn base_class(r: BaseClassType) {
-    lines::form(
+    lines::form4(
         b"1400 a=# t=# off=#",
-        &[r.attributes.0 as u64, r.base_class.0 as u64, r.offset.value],
+        &[
+            r.attributes.0 as u64,
+            r.base_class.0 as u64,
+            r.offset.value,
+            0,
+        ],
     );
 }
 
@@ -264,7 +295,7 @@ fn virtual_leaf(direct: bool) {
 
 fn virtual_base_class(r: VirtualBaseClassType) {
     virtual_leaf(r.direct);
-    lines::form(
+    lines::form8(
         b" a=# t=# p=# off=# voff=#",
         &[
             r.attributes.0 as u64,
@@ -272,6 +303,9 @@ fn virtual_base_class(r: VirtualBaseClassType) {
             r.base_pointer.0 as u64,
             r.base_pointer_offset.value,
             r.virtual_base_offset.value,
+            0,
+            0,
+            0,
         ],
     );
 }
@@ -283,12 +317,12 @@ fn enumerate(r: EnumerateType) {
     lines::field(b"1502 a=", r.attributes.0 as u64);
     lines::put(b" v=");
     lines::integer(value);
-    lines::form(b" name=@", &[name.place as u64, name.length as u64]);
+    lines::form2(b" name=@", &[name.place as u64, name.length as u64]);
 }
 
 fn data_member(r: MemberType) {
     let name = r.name;
-    lines::form(
+    lines::form8(
         b"150d a=# t=# off=# name=@",
         &[
             r.attributes.0 as u64,
@@ -296,13 +330,16 @@ fn data_member(r: MemberType) {
             r.offset.value,
             name.place as u64,
             name.length as u64,
+            0,
+            0,
+            0,
         ],
     );
 }
 
 // The members that have a word, a type and a name.
 fn named(leaf: u64, word: u16, t: TypeIndex, name: RawString) {
-    lines::form(
+    lines::form8(
         b"% a=# t=# name=@",
         &[
             leaf,
@@ -310,6 +347,9 @@ fn named(leaf: u64, word: u16, t: TypeIndex, name: RawString) {
             t.0 as u64,
             name.place as u64,
             name.length as u64,
+            0,
+            0,
+            0,
         ],
     );
 }
@@ -326,7 +366,7 @@ fn nested(r: NestedType) {
 
 fn overloaded_method(r: OverloadedMethodType) {
     let name = r.name;
-    lines::form(
+    lines::form4(
         b"150f count=# t=# name=@",
         &[
             r.count as u64,
@@ -340,7 +380,7 @@ fn overloaded_method(r: OverloadedMethodType) {
 fn single_method(r: MethodType) {
     let vtable_offset = r.vtable_offset;
     let name = r.name;
-    lines::form(
+    lines::form8(
         b"1511 a=# t=# voff=? name=@",
         &[
             r.attributes.0 as u64,
@@ -348,33 +388,44 @@ fn single_method(r: MethodType) {
             offset(vtable_offset),
             name.place as u64,
             name.length as u64,
+            0,
+            0,
+            0,
         ],
     );
+}
+
+fn other_member(m: Member) {
+    match m {
+        Member::Continuation(t) => lines::field(b"1404 t=", t.0 as u64),
+        Member::VirtualFunctionTablePointer(r) => lines::field(b"1409 t=", r.table.0 as u64),
+        Member::StaticMember(r) => static_member(r),
+        Member::OverloadedMethod(r) => overloaded_method(r),
+        Member::Nested(r) => nested(r),
+        _ => {}
+    }
 }
 
 fn member(m: Member) {
     match m {
         Member::BaseClass(r) => base_class(r),
         Member::VirtualBaseClass(r) => virtual_base_class(r),
-        Member::Continuation(t) => lines::field(b"1404 t=", t.0 as u64),
-        Member::VirtualFunctionTablePointer(r) => lines::field(b"1409 t=", r.table.0 as u64),
         Member::Enumerate(r) => enumerate(r),
         Member::Member(r) => data_member(r),
-        Member::StaticMember(r) => static_member(r),
-        Member::OverloadedMethod(r) => overloaded_method(r),
-        Member::Nested(r) => nested(r),
         Member::Method(r) => single_method(r),
+        _ => other_member(m),
     }
 }
 
 fn method(r: MethodListEntry) {
     let vtable_offset = r.vtable_offset;
-    lines::form(
+    lines::form4(
         b"a=# t=# voff=?",
         &[
             r.attributes.0 as u64,
             r.method_type.0 as u64,
             offset(vtable_offset),
+            0,
         ],
     );
 }
@@ -481,7 +532,7 @@ fn id_elements(s: &[u8]) {
 fn function(r: FunctionId) {
     let scope = r.scope;
     let name = r.name;
-    lines::form(
+    lines::form4(
         b"0 1601 scope=? t=# name=@",
         &[
             lines::id_number(scope),
@@ -494,7 +545,7 @@ fn function(r: FunctionId) {
 
 fn member_function_id(r: MemberFunctionId) {
     let name = r.name;
-    lines::form(
+    lines::form4(
         b"0 1602 parent=# t=# name=@",
         &[
             r.parent.0 as u64,
@@ -508,12 +559,13 @@ fn member_function_id(r: MemberFunctionId) {
 fn string_id(r: StringId) {
     let substrings = r.substrings;
     let name = r.name;
-    lines::form(
+    lines::form4(
         b"0 1605 sub=? name=@",
         &[
             lines::id_number(substrings),
             name.place as u64,
             name.length as u64,
+            0,
         ],
     );
 }
@@ -522,13 +574,13 @@ fn source(r: UserDefinedTypeSourceId) {
     let file = r.source_file;
     match file {
         UserDefinedTypeSourceFileRef::Local(f) => {
-            lines::form(
+            lines::form4(
                 b"0 1606 udt=# file=# line=#",
-                &[r.udt.0 as u64, f.0 as u64, r.line as u64],
+                &[r.udt.0 as u64, f.0 as u64, r.line as u64, 0],
             );
         }
         UserDefinedTypeSourceFileRef::Remote(m, f) => {
-            lines::form(
+            lines::form4(
                 b"0 1607 udt=# file=# line=# module=#",
                 &[r.udt.0 as u64, f.0 as u64, r.line as u64, m as u64],
             );
@@ -540,30 +592,47 @@ fn id_fields(d: IdData) {
     match d {
         IdData::Function(r) => function(r),
         IdData::MemberFunction(r) => member_function_id(r),
-        IdData::BuildInfo(r) => lines::field(b"0 1603 count=", r.count as u64),
-        IdData::StringList(r) => lines::field(b"0 1604 count=", r.count as u64),
+        IdData::BuildInfo(r) => counted(0x1603, r.count as u32),
+        IdData::StringList(r) => counted(0x1604, r.count),
         IdData::String(r) => string_id(r),
         IdData::UserDefinedTypeSource(r) => source(r),
     }
 }
 
-fn type_line(d: TypeData, s: &[u8]) {
-    type_fields(d);
-    elements(s);
+// Whose lists a record may have.
+enum Lists {
+    None,
+    Types,
+    Ids,
 }
 
-fn id_line(d: IdData, s: &[u8]) {
-    id_fields(d);
-    id_elements(s);
+fn fields(a: ParseAnswer) -> Lists {
+    match a {
+        ParseAnswer::Primitive(p) => {
+            lines::primitive(p);
+            Lists::None
+        }
+        ParseAnswer::Type(d) => {
+            type_fields(d);
+            Lists::Types
+        }
+        ParseAnswer::Id(d) => {
+            id_fields(d);
+            Lists::Ids
+        }
+        ParseAnswer::Refused(x) => {
+            lines::refusal(x);
+            Lists::None
+        }
+    }
 }
 
 // The line of an entry whose record is the bytes s.
 pub fn entry(tpi: &[u8], ipi: &[u8], e: Entry, s: &[u8]) {
-    match record::parse(tpi, ipi, e) {
-        ParseAnswer::Primitive(p) => lines::primitive(p),
-        ParseAnswer::Type(d) => type_line(d, s),
-        ParseAnswer::Id(d) => id_line(d, s),
-        ParseAnswer::Refused(x) => lines::refusal(x),
+    match fields(record::parse(tpi, ipi, e)) {
+        Lists::None => {}
+        Lists::Types => elements(s),
+        Lists::Ids => id_elements(s),
     }
     lines::put(b"\n");
 }

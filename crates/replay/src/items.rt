@@ -30,7 +30,7 @@ fn walk_turn<'a>(tpi: &'a [u8], ipi: &'a [u8], s: &'a [u8], c: ItemIter, data: b
             Onward::To(behind)
         }
         NextAnswer::Done => {
-            lines::form(b"done # #\n", &[c.index as u64, c.at as u64]);
+            lines::form2(b"done # #\n", &[c.index as u64, c.at as u64]);
             Onward::Over
         }
         NextAnswer::Refused(e) => {

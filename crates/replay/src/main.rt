@@ -4,7 +4,9 @@ mod items;
 mod numbers;
 
 use finder::ItemFinder;
+use input::Arguments;
 use input::Input;
+use input::Name;
 use item::Item;
 use stream_lines::Begun;
 
@@ -17,7 +19,7 @@ fn part(a: &[u8; 65536], n: usize) -> &[u8] {
     &s[0..0]
 }
 
-// Commands, in the order of their names in `command`, by what they take.
+// Commands, in the order of their names in `name_of`, by what they take.
 
 // Bytes alone.
 fn on_bytes(command: u8, s: &[u8]) {
@@ -155,9 +157,7 @@ fn lookups(
         if !n.given {
             return input;
         }
-        let index = input::low32(n.value);
-        lines::form(b"# ", &[index as u64]);
-        stream_lines::find(s, places, f, stream_lines::index_in(ids, index));
+        stream_lines::lookup(s, places, f, ids, input::low32(n.value));
         let seen = input::peek(buffer, input);
         input = seen.input;
         if seen.code != 44 {
@@ -185,21 +185,39 @@ fn find(
     lookups(buffer, from, s, ids, places, f)
 }
 
-fn unknown(letters: &[u8; 16], n: usize) {
-    let s: &[u8] = letters;
-    lines::put(b"? ");
-    if n <= s.len() {
-        lines::put(&s[0..n]);
-    }
-    lines::put(b"\n");
+// The commands: a name, a colon, the shape of the arguments (input::read_arguments) and a blank for each.
+fn name_of(letters: &[u8; 16], n: usize) -> Name {
+    input::known(
+        letters,
+        n,
+        b"header:a walk:a parse:a parseids:a type:a id:a kind:a padding:a unsigned:a signed:a \
+          prim:nn opttype:n optid:n maxindex:nnn word:wnnn \
+          itemtype:na itemid:na string:na element:na idelement:na \
+          next:ann create:at update:nnntnn findin:annntn view:abwnn marker:wn find:aun findids:aun ",
+    )
 }
 
-fn carry_out(
+fn carry_out<'a>(
+    buffer: &mut [u8; 65536],
+    a: Arguments,
+    command: u8,
+    tpi: &'a [u8],
+    ipi: &'a [u8],
+    places: &mut [u32; 8192],
+    n: &[u64; 8],
+) -> Input {
+    if command < 26 {
+        answer(command, tpi, ipi, places, a.places, n);
+        return a.input;
+    }
+    find(buffer, a.input, tpi, command == 27, places, n[0] == 1, n[1])
+}
+
+// A command that has a name, and the input behind its words.
+fn named(
     buffer: &mut [u8; 65536],
     from: Input,
-    names: &[u8],
-    command: u8,
-    shape: usize,
+    name: Name,
     first: &mut [u8; 65536],
     second: &mut [u8; 65536],
     places: &mut [u32; 8192],
@@ -208,34 +226,26 @@ fn carry_out(
     let a = input::read_arguments(
         buffer,
         from,
-        names,
-        shape,
+        name.shape,
         first,
         second,
         places,
         &mut numbers,
     );
-    let s = part(first, a.first);
-    if 25 < command {
-        return find(
-            buffer,
-            a.input,
-            s,
-            command == 27,
-            places,
-            numbers[0] == 1,
-            numbers[1],
-        );
-    }
-    answer(
-        command,
-        s,
+    carry_out(
+        buffer,
+        a,
+        name.number,
+        part(first, a.first),
         part(second, a.second),
         places,
-        a.places,
         &numbers,
-    );
-    a.input
+    )
+}
+
+fn unknown(from: Input) -> Input {
+    lines::put(b"?\n");
+    from
 }
 
 // One command, and the input behind its words.
@@ -247,29 +257,15 @@ fn command(
     places: &mut [u32; 8192],
 ) -> Input {
     let mut letters = [0u8; 16];
-    let names =
-        b"header:a walk:a parse:a parseids:a type:a id:a kind:a padding:a unsigned:a signed:a prim:nn opttype:n optid:n maxindex:nnn word:wnnn itemtype:na itemid:na string:na element:na idelement:na next:ann create:at update:nnntnn findin:annntn view:abwnn marker:wn find:aun findids:aun ";
     let w = input::read_word(buffer, from, &mut letters);
-    let n = w.len;
-    let behind = w.input;
-    if n == 0 {
-        return behind;
+    if w.len == 0 {
+        return w.input;
     }
-    let k = input::known(&letters, n, names);
-    if k.number == input::UNKNOWN {
-        unknown(&letters, n);
-        return behind;
+    let name = name_of(&letters, w.len);
+    if name.number == input::UNKNOWN {
+        return unknown(w.input);
     }
-    carry_out(
-        buffer,
-        behind,
-        names,
-        k.number,
-        k.shape,
-        first,
-        second,
-        places,
-    )
+    named(buffer, w.input, name, first, second, places)
 }
 
 fn main() {

@@ -9,7 +9,7 @@ use common::text::ReadString;
 use primitive::PrimitiveAnswer;
 
 fn primitive_line(n: u32) {
-    lines::form(b"# ", &[n as u64]);
+    lines::form2(b"# ", &[n as u64, 0]);
     match primitive::primitive(TypeIndex(n)) {
         PrimitiveAnswer::Answered(p) => lines::primitive(p),
         PrimitiveAnswer::Refused(e) => lines::refusal(e),
@@ -51,11 +51,11 @@ pub fn words(which: u64, from: u64, to: u64, step: u64) {
 }
 
 pub fn optional_type(n: u32) {
-    lines::form(b"?\n", &[lines::type_number(TypeIndex(n).optional())]);
+    lines::form2(b"?\n", &[lines::type_number(TypeIndex(n).optional()), 0]);
 }
 
 pub fn optional_id(n: u32) {
-    lines::form(b"?\n", &[lines::id_number(IdIndex(n).optional())]);
+    lines::form2(b"?\n", &[lines::id_number(IdIndex(n).optional()), 0]);
 }
 
 fn ended() {
@@ -65,9 +65,9 @@ fn ended() {
 
 pub fn string(leaf: u16, s: &[u8]) {
     match common::text::string_of(leaf, s, 0) {
-        ReadString::Got(t, q) => lines::form(
+        ReadString::Got(t, q) => lines::form4(
             b"0 @ next=#\n",
-            &[t.place as u64, t.length as u64, q as u64],
+            &[t.place as u64, t.length as u64, q as u64, 0],
         ),
         ReadString::Ended => ended(),
     }
@@ -75,14 +75,14 @@ pub fn string(leaf: u16, s: &[u8]) {
 
 pub fn padding(s: &[u8]) {
     match common::text::after_padding(s, 0) {
-        After::At(q) => lines::form(b"0 #\n", &[q as u64]),
+        After::At(q) => lines::form2(b"0 #\n", &[q as u64, 0]),
         After::Ended => ended(),
     }
 }
 
 pub fn unsigned(s: &[u8]) {
     match common::number::size_at(s, 0) {
-        ReadSize::Got(n, q) => lines::form(b"0 # next=#", &[n.value, q as u64]),
+        ReadSize::Got(n, q) => lines::form2(b"0 # next=#", &[n.value, q as u64]),
         ReadSize::Refused(e) => lines::refusal(e),
     }
     lines::put(b"\n");

@@ -34,7 +34,7 @@ fn bits(s: &[u8], p: usize) -> u64 {
 }
 
 fn slices(s: &[u8], n1: u32, n2: u32, n3: u32, count: u32) {
-    lines::form(
+    lines::form8(
         b" o1=~ n1=# o2=~ n2=# o3=~ n3=# count=#",
         &[
             bits(s, 32),
@@ -44,12 +44,13 @@ fn slices(s: &[u8], n1: u32, n2: u32, n3: u32, count: u32) {
             bits(s, 48),
             n3 as u64,
             count as u64,
+            0,
         ],
     );
 }
 
 fn header_line(s: &[u8], h: Header) {
-    lines::form(
+    lines::form16(
         b"0 version=# header_size=# minimum=# maximum=# gprec=# s1=# s2=# key=# bucket=#",
         &[
             h.version as u64,
@@ -61,6 +62,13 @@ fn header_line(s: &[u8], h: Header) {
             h.tpi_hash_pad_stream as u64,
             h.hash_key_size as u64,
             h.hash_bucket_size as u64,
+            0,
+            0,
+            0,
+            0,
+            0,
+            0,
+            0,
         ],
     );
     slices(
@@ -84,7 +92,7 @@ pub fn header(s: &[u8]) {
 
 pub fn kind(k: KindAnswer) {
     match k {
-        KindAnswer::Answered(n) => lines::form(b"%", &[n as u64]),
+        KindAnswer::Answered(n) => lines::form2(b"%", &[n as u64, 0]),
         KindAnswer::Refused(e) => lines::refusal(e),
     }
 }
@@ -95,12 +103,12 @@ pub fn item_line(tpi: &[u8], ipi: &[u8], i: Item) {
     lines::number(index.number() as u64);
     lines::put(b" ");
     kind(item::view::raw_kind(tpi, ipi, Entry::Record(i)));
-    lines::form(b" @\n", &[i.place as u64, i.length as u64]);
+    lines::form2(b" @\n", &[i.place as u64, i.length as u64]);
 }
 
 fn yielded(i: Item, behind: ItemIter) {
     let index = i.index;
-    lines::form(
+    lines::form8(
         b"0 # @ then # #",
         &[
             index.number() as u64,
@@ -108,6 +116,9 @@ fn yielded(i: Item, behind: ItemIter) {
             i.length as u64,
             behind.at as u64,
             behind.index as u64,
+            0,
+            0,
+            0,
         ],
     );
 }
@@ -166,7 +177,7 @@ fn lent(t: &[u32]) {
 fn created(a: FinderAnswer) {
     match a {
         FinderAnswer::Answered(f) => {
-            lines::form(
+            lines::form4(
                 b"0 # # held=# shift=#",
                 &[
                     f.minimum_index as u64,
@@ -222,21 +233,28 @@ pub fn update(f: ItemFinder, t: &mut [u32], n: usize, at: usize, index: u32) {
 fn found(e: Entry, passed: u32) {
     match e {
         Entry::Record(i) => {
-            lines::form(
+            lines::form4(
                 b"0 @ links=#",
-                &[i.place as u64, i.length as u64, passed as u64],
+                &[i.place as u64, i.length as u64, passed as u64, 0],
             );
         }
         Entry::Marker(_) => lines::field(b"0 marker 2 ffff links=", passed as u64),
     }
 }
 
-pub fn find(s: &[u8], t: &[u32], f: ItemFinder, i: ItemIndex) {
+fn find(s: &[u8], t: &[u32], f: ItemFinder, i: ItemIndex) {
     match finder::find(s, t, f, i) {
         FindAnswer::Found(e, passed) => found(e, passed),
         FindAnswer::Refused(e) => lines::refusal(e),
     }
     lines::put(b"\n");
+}
+
+// An index that is looked up, and what is found.
+pub fn lookup(s: &[u8], t: &[u32], f: ItemFinder, ids: bool, n: u32) {
+    lines::number(n as u64);
+    lines::put(b" ");
+    find(s, t, f, index_in(ids, n));
 }
 
 // The same over the first n places.
@@ -248,7 +266,7 @@ pub fn find_lent(s: &[u8], t: &[u32], n: usize, f: ItemFinder, i: ItemIndex) {
 
 pub fn max_index(f: ItemFinder) {
     let t = f.max_type_index();
-    lines::form(b"#\n", &[t.0 as u64]);
+    lines::form2(b"#\n", &[t.0 as u64, 0]);
 }
 
 pub fn places(t: &[u32], f: ItemFinder) {
@@ -343,7 +361,7 @@ fn hex(s: &[u8]) {
 
 fn kind_part(k: KindAnswer) {
     match k {
-        KindAnswer::Answered(n) => lines::form(b" ; kind 0 %\n", &[n as u64]),
+        KindAnswer::Answered(n) => lines::form2(b" ; kind 0 %\n", &[n as u64, 0]),
         KindAnswer::Refused(e) => {
             lines::put(b" ; kind ");
             lines::refusal(e);
@@ -387,7 +405,7 @@ pub fn raw_kind(s: &[u8]) {
         length: s.len(),
     };
     match item::view::raw_kind(s, &s[0..0], Entry::Record(i)) {
-        KindAnswer::Answered(n) => lines::form(b"0 #", &[n as u64]),
+        KindAnswer::Answered(n) => lines::form2(b"0 #", &[n as u64, 0]),
         KindAnswer::Refused(e) => lines::refusal(e),
     }
     lines::put(b"\n");

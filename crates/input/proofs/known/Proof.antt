@@ -4,8 +4,6 @@ use borrow.Author.Needs.{needs}
 use lib.ListN.{length}
 use Rattle.input.proofs.known.Statement.{statement}
 use Rattle.input.proofs.known.Tie as tie
-use Rattle.input.proofs.matched.Reads as matched-reads
-use Rattle.input.proofs.one_more.Reads as one-more-reads
 
 abbrev Inv-loop : tie.InvT-loop
 Inv-loop letters n text k₀ m₀ i₀ k m i = Unit {0}
@@ -40,6 +38,9 @@ loop-less-2 c = search needs
 loop-again-2 : tie.Need-loop-again-2 Inv-loop μ-loop
 loop-again-2 c = search needs
 
+shape-at-requires : tie.Need-shape-at-requires Inv-loop μ-loop
+shape-at-requires c κs = search needs
+
 returns : tie.Need-returns Inv-loop μ-loop
 returns c = search needs
 
@@ -67,6 +68,7 @@ known-spec =
     matched-requires
     loop-less-2
     loop-again-2
+    shape-at-requires
     returns
     loop-less-3
     loop-again-3
