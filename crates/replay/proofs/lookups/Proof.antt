@@ -5,10 +5,10 @@ use Rattle.replay.proofs.lookups.Statement.{statement}
 use Rattle.replay.proofs.lookups.Tie as tie
 
 abbrev Inv-loop : tie.InvT-loop
-Inv-loop buffer₀ s ids places f input₀ turns₀ t12 buffer input turns = Unit {0}
+Inv-loop buffer₀ s ids places f input₀ turns₀ buffer input turns = Unit {0}
 
 abbrev μ-loop : tie.MeasureT-loop
-μ-loop buffer₀ s ids places f input₀ turns₀ t12 buffer input turns = turns
+μ-loop buffer₀ s ids places f input₀ turns₀ buffer input turns = turns
 
 loop-holds : tie.Need-loop-holds Inv-loop μ-loop
 loop-holds c = search needs
@@ -25,23 +25,8 @@ returns c = search needs
 low32-requires : tie.Need-low32-requires Inv-loop μ-loop
 low32-requires c κs = search needs
 
-cast-number : tie.Need-cast-number Inv-loop μ-loop
-cast-number c = search needs
-
-number-requires : tie.Need-number-requires Inv-loop μ-loop
-number-requires c κs = search needs
-
-slice-aggregate-put : tie.Need-slice-aggregate-put Inv-loop μ-loop
-slice-aggregate-put c = search needs
-
-put-requires : tie.Need-put-requires Inv-loop μ-loop
-put-requires c κs = search needs
-
-index-in-requires : tie.Need-index-in-requires Inv-loop μ-loop
-index-in-requires c κs = search needs
-
-find-requires : tie.Need-find-requires Inv-loop μ-loop
-find-requires c κs = search needs
+lookup-requires : tie.Need-lookup-requires Inv-loop μ-loop
+lookup-requires c κs = search needs
 
 peek-requires : tie.Need-peek-requires Inv-loop μ-loop
 peek-requires c κs = search needs
@@ -72,12 +57,7 @@ lookups-spec =
     read-numeral-requires
     returns
     low32-requires
-    cast-number
-    number-requires
-    slice-aggregate-put
-    put-requires
-    index-in-requires
-    find-requires
+    lookup-requires
     peek-requires
     returns-2
     past-requires

@@ -1,0 +1,709 @@
+#!/usr/bin/env python3
+"""Writes crates/replay/stdin and crates/replay/stdout: a fixed list of commands of PROTOCOL.md and the answers that `rt check` holds the program
+`replay` to. The same seed gives the same files.
+
+    make_vectors.py ORACLE REPLAY [--seed N]
+        ORACLE   the crate, built by build.sh (its release build)
+        REPLAY   the port's program, built by `rt check replay`
+
+Where an expected line comes from:
+
+- A command that the crate can be asked: the crate's own line, as ORACLE prints it. The crate does not report links passed, so ` links=K` and the
+  links of a 1 are worked out by lengths alone, as compare.py does. A list that the crate refuses whole ends with that refusal (PROTOCOL.md, "Lists"),
+  and an array shows its size and its name, where the crate shows dimensions: both lines are layouts.py's, held to the crate's answer by same_record.
+- A known difference: document 01's line, worked out by layouts.py or written out below, with the name of its line in docs/DIFFERENCES.md.
+- A command that the crate cannot be asked (next, create, update, findin, maxindex, view, marker, element, idelement): 01's rule, written again
+  below beside 01's sentence, in Python, apart from the Rattle sources.
+- 01's examples: 01's lines, written out below. They must be what the rules above give too.
+
+No expected line is taken from REPLAY. It is run at the end, and must answer every line. The exit status is 1, and nothing is written, if an answer
+of the crate is not explained, if an example fails, if REPLAY answers otherwise, or if the list lacks one of: a command of PROTOCOL.md; a number 0 to
+16; a leaf of 01; every prefix of a good record of every leaf; a record of the crate's tests; the largest counts; a table exactly full and one short.
+"""
+import os
+import random
+import re
+import struct
+import subprocess
+import sys
+
+sys.path.insert(0, os.path.dirname(os.path.abspath(__file__)))
+import compare
+import layouts
+import make_inputs
+from compare import TOP, blob
+
+HERE = os.path.dirname(os.path.abspath(__file__))
+STREAMS = ["plain-x64.tpi", "plain-x64.ipi", "rich-x64.tpi", "rich-x64.ipi", "hand.tpi", "hand.ipi"]
+ID_LEAVES = list(range(0x1601, 0x1608))
+LONGEST = 4294967294
+
+
+class Unexplained(Exception):
+    """What keeps the vectors from being written."""
+
+
+def hexed(data):
+    return data.hex() or "-"
+
+
+def packed(text):
+    return bytes.fromhex(text.replace(" ", ""))
+
+
+def header(minimum=4096, maximum=4098, size=56):
+    return make_inputs.header(minimum, maximum, size)
+
+
+# ---- 01's rules for what the crate cannot be asked ----
+
+def refused_header(s):
+    """"Checks, in order: 16; empty; 1 for fewer than 56 bytes; 2; 3; 1 for fewer than header_size bytes; 4; 5.\""""
+    if not s:
+        return None
+    if len(s) < 56:
+        return 1
+    _, size, low, high = struct.unpack_from("<4I", s)
+    return 2 if size < 56 else 3 if size > 1024 else 1 if len(s) < size else 4 if low < 4096 else 5 if high < low else None
+
+
+def link(s, p):
+    """"A link at place p has a u16 length L at p and a payload of L bytes. The chain breaks where either part passes the end.\""""
+    if p + 2 > len(s):
+        return None
+    n = int.from_bytes(s[p:p + 2], "little")
+    return (p + 2, n) if p + 2 + n <= len(s) else None
+
+
+def next_line(s, at, index):
+    """"`next`: 1 if the cursor stands past the end; done if no bytes are left; else 1 (length), 6, 1 (payload), 7 in that order; else the item
+    and the advanced cursor.\""""
+    if at > len(s):
+        return "1"
+    if at == len(s):
+        return "0 done"
+    if at + 2 > len(s):
+        return "1"
+    n = int.from_bytes(s[at:at + 2], "little")
+    if n < 2:
+        return "6"
+    if at + 2 + n > len(s):
+        return "1"
+    if index == TOP:
+        return "7"
+    return f"0 {index} {at + 2}+{n} then {at + 2 + n} {index + 1}"
+
+
+def table_text(t):
+    return " ".join(str(n) for n in t) or "-"
+
+
+def create_line(s, t):
+    """"Creation stores header_size in place 0 if the count is positive (13 if there is no room), else none.\""""
+    number = refused_header(s)
+    if number:
+        return f"{number} ; {table_text(t)}"
+    _, size, low, high = struct.unpack_from("<4I", s) if s else (0, 0, 0, 0)
+    if high == low:
+        return f"0 {low} {high} held=0 shift=3 ; {table_text(t)}"
+    if not t:
+        return "13 ; -"
+    return f"0 {low} {high} held=1 shift=3 ; {table_text([size] + t[1:])}"
+
+
+def update_line(low, held, t, at, index):
+    """"With d the cursor's index minus the minimum, it stores the cursor's position as a new last place exactly if d mod 8 is 0 and d/8 equals
+    the number of places held. Order: 16, 14, then 13. Otherwise it answers 0 and changes nothing. A finder that claims more places than its
+    table has gets 13 from `update` and `find`, right after 16.\""""
+    number, after = 0, t
+    d = index - low
+    if at > LONGEST:
+        number = 16
+    elif held > len(t):
+        number = 13
+    elif index < low:
+        number = 14
+    elif d % 8 == 0 and d // 8 == held:
+        if held == len(t):
+            number = 13
+        else:
+            after = t[:held] + [at] + t[held + 1:]
+            held += 1
+    return f"{number} held={held} ; {table_text(after)}"
+
+
+def highest(low, held):
+    """"`max_index` is 0 with no place, else 8 × places + minimum − 1, held at 4,294,967,295.\""""
+    return min(TOP, 8 * held + low - 1) if held else 0
+
+
+def find_line(s, low, high, held, t, i):
+    """"`find` of i: below the minimum, the marker; above the maximum, 8. With d = i minus the minimum: 9 if d/8 rounded down is no held place;
+    else start at that place, pass d mod 8 links, and give the next one's item, or 1 if a link breaks. It reports links passed.\""""
+    if held > len(t):
+        return "13"
+    if i < low:
+        return "0 marker 2 ffff links=0"
+    if i > high:
+        return f"8 {i}"
+    d = i - low
+    if d // 8 >= held:
+        return f"9 {i} {highest(low, held)}"
+    p = t[d // 8]
+    for passed in range(d % 8 + 1):
+        at = link(s, p)
+        if at is None:
+            return f"1 {passed}"
+        p = sum(at)
+    return f"0 {at[0]}+{at[1]} links={d % 8}"
+
+
+def view_line(s, place, length):
+    """"Its view is a part of the TPI stream or of the IPI stream. An item that passes the end of its stream is 1. `raw_kind` of fewer than two
+    bytes is 1.\""""
+    if place + length > len(s):
+        return "1 ; kind 1"
+    part = s[place:place + length]
+    kind = f"0 {int.from_bytes(part[:2], 'little'):04x}" if length >= 2 else "1"
+    return f"0 {hexed(part)} ; kind {kind}"
+
+
+def marker_line(ids, index, primitive):
+    """"The marker has length 2 and `raw_kind` 0xffff, but no bytes in either stream: its view is 8. A type item below 0x1000 is read as a
+    primitive; any other type item, and every id item, by its bytes, the marker's giving 10 with 0xffff.\" The primitive's line is the crate's."""
+    read = "10 65535" if ids or index >= 4096 else primitive
+    return f"8 {index} ; kind ffff ; {read}"
+
+
+def element_line(data, k):
+    """"Element k is read after those before it and their padding, the first refusal given, 15 if the list ends first; a leaf without a list is
+    10.\" The elements are layouts.py's."""
+    if len(data) < 2:
+        return "1"
+    leaf = int.from_bytes(data[:2], "little")
+    if leaf not in layouts.LISTS:
+        return f"10 {leaf}"
+    line = layouts.type_record(data)[0]
+    if not line.startswith("0 "):
+        return line
+    parts = line.split(" ; ")[1:]
+    return f"0 {parts[k]}" if k < len(parts) - 1 else parts[-1].removeprefix("end ")
+
+
+def id_element_line(data, k):
+    """"0x1603 u16 count, ids. 0x1604 u32 count, T each. A counted list is 1 unless four bytes per element are there.\""""
+    if len(data) < 2:
+        return "1"
+    leaf = int.from_bytes(data[:2], "little")
+    if leaf not in (0x1603, 0x1604):
+        return f"10 {leaf}"
+    start = 4 if leaf == 0x1603 else 6
+    if len(data) < start:
+        return "1"
+    count = int.from_bytes(data[2:start], "little")
+    if len(data) - start < 4 * count:
+        return "1"
+    return f"0 {int.from_bytes(data[start + 4 * k:start + 4 * k + 4], 'little')}" if k < count else "15"
+
+
+def table_of(word):
+    return [] if word == "-" else [int(n) for n in word.split(",")]
+
+
+def by_rule(words, primitive):
+    """The line of a command that only the port takes."""
+    kind, n = words[0], words[1:]
+    if kind == "next":
+        return next_line(blob(n[0]), int(n[1]), int(n[2]))
+    if kind == "create":
+        return create_line(blob(n[0]), table_of(n[1]))
+    if kind == "update":
+        return update_line(int(n[0]), int(n[2]), table_of(n[3]), int(n[4]), int(n[5]))
+    if kind == "findin":
+        return find_line(blob(n[0]), int(n[1]), int(n[2]), int(n[3]), table_of(n[4]), int(n[5]))
+    if kind == "maxindex":
+        return str(highest(int(n[0]), int(n[2])))
+    if kind == "view":
+        return view_line(blob(n[0] if n[2] == "t" else n[1]), int(n[3]), int(n[4]))
+    if kind == "marker":
+        return marker_line(n[0] == "i", int(n[1]), primitive)
+    if kind == "element":
+        return element_line(blob(n[1]), int(n[0]))
+    if kind == "idelement":
+        return id_element_line(blob(n[1]), int(n[0]))
+    return None
+
+
+PORT_ONLY = ("next", "create", "update", "findin", "maxindex", "view", "marker", "element", "idelement")
+
+
+# ---- the crate's lines ----
+
+def record_line(o, data, why):
+    """A type record: the crate's line where it is 01's, else 01's where a line of docs/DIFFERENCES.md says why."""
+    line, reasons = layouts.type_record(data)
+    if not compare.same_record(o, line):
+        if not reasons:
+            raise Unexplained(f"type {hexed(data)}: the crate {o}, layouts.py {line}")
+        why.update(reasons)
+    return line
+
+
+def number_line(o, data, signed, why):
+    line, reasons = layouts.number_line(data, signed)
+    if o != line:
+        if not reasons:
+            raise Unexplained(f"number {hexed(data)}: the crate {o}, layouts.py {line}")
+        why.update(reasons)
+    return line
+
+
+def walk_lines(words, o, why):
+    """Item lines are the crate's; a record's line under an item as above. The crate wraps at the last index, the port says 7 (index-used-up)."""
+    stream, out, part = blob(words[1]), [], b""
+    for line in o:
+        item = re.fullmatch(r"(\d+) [0-9a-f]{4} (\d+)\+(\d+)", line)
+        if item and int(item.group(1)) == TOP:
+            why.add("index-used-up")
+            return out + ["refused 7"]
+        if item:
+            part = stream[int(item.group(2)):int(item.group(2)) + int(item.group(3))]
+        out.append("  " + record_line(line[2:], part, why) if line.startswith("  ") and words[0] == "parse" else line)
+    return out
+
+
+def find_lines(words, o, why):
+    """The crate's lines, with the links passed by lengths alone. Near 2^32 the crate's highest index wraps (max-held): 01 holds it."""
+    if not o[0].startswith("places"):
+        return o
+    stream = blob(words[1])
+    low, _ = compare.header_of(stream)
+    if low + int(words[2].lstrip("u")) > TOP and len(o) > 0 and "u" not in words[2] and int(words[2]) > 0:
+        raise Unexplained(f"{' '.join(words)[:80]}: the crate's index wraps, and no rule is written for that here")
+    places = [int(n) for n in re.findall(r"\d+", o[0])]
+    held = highest(low, len(places))
+    if o[1] != f"max {held}":
+        if 8 * len(places) + low <= TOP:
+            raise Unexplained(f"{' '.join(words)[:80]}: {o[1]}")
+        why.add("max-held")
+    out = [o[0], f"max {held}"]
+    for line in o[2:]:
+        found = re.fullmatch(r"(\d+) 0 (\d+\+\d+|marker 2 ffff)", line)
+        cut = re.fullmatch(r"(\d+) 1", line)
+        late = re.fullmatch(r"(\d+) 9 \d+ \d+", line)
+        if found:
+            links = 0 if "marker" in line else (int(found.group(1)) - low) % 8
+            line = f"{line} links={links}"
+        elif cut:
+            d = int(cut.group(1)) - low
+            line = f"{line} {compare.links_before_end(stream, places[d // 8], d % 8)}"
+        elif late:
+            line = f"{late.group(1)} 9 {late.group(1)} {held}"
+        elif not re.fullmatch(r"(\d+) 8 \1", line):
+            raise Unexplained(f"{' '.join(words)[:80]}: {line}")
+        out.append(line)
+    return out
+
+
+def by_crate(words, o, why):
+    """The expected lines of a command that the crate was asked."""
+    kind = words[0]
+    if kind == "type" or kind == "itemtype" and int(words[1]) >= 4096:
+        return [record_line(o[0], blob(words[-1]), why)]
+    if kind in ("unsigned", "signed"):
+        return [number_line(o[0], blob(words[1]), kind == "signed", why)]
+    if kind in ("walk", "parse", "parseids"):
+        return walk_lines(words, o, why)
+    if kind in ("find", "findids"):
+        return find_lines(words, o, why)
+    if kind == "kind" and len(blob(words[1])) < 2:
+        why.add("short-kind")
+        return ["1"]
+    if kind in ("id", "itemid") and o == ["abort"] and blob(words[-1])[:2] == b"\x04\x16":
+        why.add("count-memory")
+        return ["1"]
+    if kind == "prim" and int(words[2]) > 4096:
+        why.add("primitive-from-4096")
+        return [line if int(line.split()[0]) < 4096 else f"{line.split()[0]} 8 {line.split()[0]}" for line in o]
+    return o
+
+
+# ---- the commands ----
+
+# A good record of every leaf: for each leaf of 01 the first one is cut at every length.
+GOOD_TYPES = {
+    0x1001: "0110 74000000 0300", 0x1002: "0210 74000000 4c000100 02100000", 0x1008: "0810 03000000 0002 0100 01100000",
+    0x1009: "0910 03000000 02100000 04100000 0b06 0100 01100000 f8ffffff", 0x1205: "0512 74000000 03 05",
+    0x1503: "0315 74000000 23000000 2800 6e6d00", 0x1504: "0415 0100 0002 01100000 00000000 03100000 0280 0a00 4100 4200",
+    0x1505: "0515 0200 0000 01100000 02100000 ffff0000 0480 0000ff00 41424300", 0x1519: "1915 0000 8000 00000000 00000000 00000000 0000 4900",
+    0x1506: "0615 0200 0002 01100000 0400 5500 5600", 0x1507: "0715 0200 0002 74000000 01100000 4500 4600",
+    0x1609: "0916 00020000 16100000 00000000 00000000 0200 0600 4800 4900", 0x000a: "0a00 0300 5505",
+    0x1201: "0112 02000000 74000000 01100000", 0x1206: "0612 0300 0000 01100000 1300 0000 02100000 10000000",
+    0x1203: "0312 0d15 0300 74000000 0400 6100 f2f1 0d15 0300 75000000 0800 6200",
+}
+GOOD_MEMBERS = {
+    0x1400: "0014 0300 01100000 0a80 0000000001000000", 0x1401: "0114 0300 01100000 02100000 0400 0280 0008",
+    0x1402: "0214 0300 01100000 02100000 0400 0c00",
+    0x1404: "0414 0000 02100000", 0x1409: "0914 0000 01100000", 0x1502: "0215 0300 0180 ffff 6100",
+    0x150d: "0d15 0300 74000000 0480 00000100 6d00",
+    0x150e: "0e15 0300 74000000 7300", 0x150f: "0f15 0200 01100000 6d00", 0x1510: "1015 0300 01100000 6e00",
+    0x1511: "1115 1300 01100000 18000000 6e00",
+}
+GOOD_IDS = {
+    0x1601: "0116 02100000 01100000 666700", 0x1602: "0216 01100000 02100000 6d00", 0x1603: "0316 0200 01100000 02100000",
+    0x1604: "0416 02000000 01100000 02100000", 0x1605: "0516 00000000 7300", 0x1606: "0616 01100000 02100000 07000000",
+    0x1607: "0716 01100000 05000000 07000000 0300",
+}
+
+# The records of the crate's data.rs: its test, and the arrays of its comment.
+CRATE_1609 = bytes([9, 22, 0, 2, 0, 0, 22, 16, 0, 0, 0, 0, 0, 0, 0, 0, 0, 0, 2, 0, 6, 0, 72, 95, 115, 105, 122, 101, 0,
+                    46, 63, 65, 85, 72, 95, 115, 105, 122, 101, 64, 64, 0])
+CRATE_ARRAYS = [packed(f"0315 {rest}") for rest in (
+    "a0dc0b00 23000000 4000 00 f1", "a0dc0b00 23000000 5000 00 f1", "a9120000 23000000 5002 00 f1", "ac120000 23000000 6c00 00 f1",
+    "14100000 23000000 8000 00 f1", "75000000 23000000 2800 00 f1", "14100000 23000000 700e 00 f1", "31140000 23000000 0402 00 f1",
+    "31140000 23000000 0e03 00 f1", "77130000 23000000 0280bdda 00 f3f2f1", "b7160000 23000000 2800 00 f1", "14100000 23000000 5500 00 f1")]
+
+# The largest counts: nothing is there for them, or four bytes.
+LARGEST = ["type 011200000040", "type 01120000004074000000", "type 0112ffffffff", "type 0112ffffffff74000000", "id 0316ffff", "id 0316ffff01100000",
+           "id 0416ffffffff", "id 041600000040", "type 0a00ffff", "type 0a00ffff55", "type 0a00ffff" + "55" * 32768,
+           "element 0 0112ffffffff", "element 4294967295 0112ffffffff", "idelement 0 0416ffffffff", "idelement 65535 0316ffff"]
+
+# Stream E of 01, and its examples: each command with the lines that 01 says.
+E = header() + packed("0800 0110 74000000 0100 0a00 0210 00100000 0c000100")
+POINTER = "member=0 ref=0 flat32=0 volatile=0 const=0 unaligned=0 restrict=0"
+EXAMPLES = [
+    (f"walk {E.hex()}", ["4096 1001 58+8", "4097 1002 68+10", "done 4098 78"]),
+    (f"parse {E.hex()}", ["4096 1001 58+8", "  0 1001 t=116 const=1 volatile=0 unaligned=0", "4097 1002 68+10", "  0 1002 t=4096 word=65548 class=-",
+                          "done 4098 78"]),
+    (f"find {E.hex()} 0 4096,4097,4098,4099,4095", ["places [56]", "max 4103", "4096 0 58+8 links=0", "4097 0 68+10 links=1", "4098 1 2",
+                                                    "4099 8 4099", "4095 0 marker 2 ffff links=0"]),
+    ("word ptr 65548 65549 1", [f"ptr 65548 kind=12 mode=0 {POINTER} size=8 mocom=0"]),
+    ("word ptr 13 14 1", [f"ptr 13 kind=r12 mode=0 {POINTER} size=r12 mocom=0"]),
+    ("type 0210000000000d000000", ["12"]),
+    ("find - 0 0,1", ["places []", "max 0", "0 9 0 0", "1 8 1"]),
+    (f"header {header()[:55].hex()}", ["1"]),
+    (f"header {header(size=55).hex()}", ["2"]),
+    (f"header {(header(size=1025) + bytes(1000)).hex()}", ["3"]),
+    ("padding f3f2f1", ["0 3"]),
+    ("padding f041", ["0 1"]),
+    ("padding f2", ["1"]),
+    ("prim 1652 1653", ["1652 0 prim kind=I32 ind=Near64"]),
+    ("prim 2164 2165", ["2164 8 2164"]),
+    ("prim 4 5", ["4 8 4"]),
+    # "Slips we expect": the iterator's length rule is not `find`'s; 0x8001 is signed; a count times four is more than 32 bits.
+    (f"walk {header().hex()}0100410200ffff", ["refused 6"]),
+    (f"find {header().hex()}0100410200ffff 0 4096,4097,4098", ["places [56]", "max 4103", "4096 0 58+1 links=0", "4097 0 61+2 links=1", "4098 1 2"]),
+    ("type 0312021503000180ffff6100", ["0 1203 ; 1502 a=3 v=-1 name=10+1 ; end 15"]),
+    ("type 011200000040", ["1"]),
+    (f"type {CRATE_1609.hex()}", ["0 1609 kind=Struct count=2 props=512 fields=4118 derived=- shape=- size=6 name=22+6 unique=29+12"]),
+]
+
+
+def prefixes():
+    """Every prefix of a good record of every leaf, a member inside a field list."""
+    for record in GOOD_TYPES.values():
+        yield from (("type", packed(record)[:n]) for n in range(len(packed(record)) + 1))
+    for record in GOOD_MEMBERS.values():
+        whole = packed("0312" + record)
+        yield from (("type", whole[:n]) for n in range(2, len(whole) + 1))
+    for record in GOOD_IDS.values():
+        yield from (("id", packed(record)[:n]) for n in range(len(packed(record)) + 1))
+
+
+def paper_inputs():
+    """The inputs of docs/DIFFERENCES.md that the port takes."""
+    with open(os.path.join(HERE, "..", "docs", "DIFFERENCES.md"), encoding="utf-8") as f:
+        for line in f:
+            for text in re.findall(r"\| `([a-z]+ [^`]*)` \|", line):
+                if text.split()[0] in protocol_commands():
+                    yield re.sub(r"H\((\d+),(\d+)\)", lambda m: header(int(m.group(1)), int(m.group(2))).hex(), text)
+
+
+def record_commands(rng):
+    for kind, data in prefixes():
+        yield f"{kind} {hexed(data)}"
+    for data in [CRATE_1609] + CRATE_ARRAYS:
+        yield f"type {data.hex()}"
+    yield from LARGEST
+    yield from paper_inputs()
+    types = [packed(r) for r in GOOD_TYPES.values()] + [packed("0312" + r) for r in GOOD_MEMBERS.values()]
+    types += [packed(r) for r in make_inputs.TYPE_RECORDS]
+    ids = [packed(r) for r in GOOD_IDS.values()] + [packed(r) for r in make_inputs.ID_RECORDS]
+    for data in types[27:]:
+        yield f"type {data.hex()}"
+    for data in ids[7:]:
+        yield f"id {data.hex()}"
+    for data in types:
+        for pad in ("00", "f1", "f3", "41"):
+            yield f"type {data.hex()}{pad}"
+    for leaf in [0, 9, 11, 0x1000, 0x1003, 0x1202, 0x1204, 0x1403, 0x1500, 0x1501, 0x1512, 0x1602, 0x1608, 0x160a, 0xffff] + ID_LEAVES:
+        yield f"type {struct.pack('<H', leaf).hex()}{'00' * 24}"
+        yield f"type 0312{struct.pack('<H', leaf).hex()}{'00' * 24}"
+    for leaf in [0, 10, 0x1001, 0x1201, 0x1203, 0x1600, 0x1608, 0x1609, 0xffff]:
+        yield f"id {struct.pack('<H', leaf).hex()}{'00' * 24}"
+    for _ in range(400):
+        yield f"type {hexed(make_inputs.damaged(rng.choice(types)))}"
+    for _ in range(150):
+        yield f"id {hexed(make_inputs.damaged(rng.choice(ids)))}"
+    for index in (0, 3, 116, 1652, 2164, 4095, 4096, 4097, TOP):
+        yield f"itemtype {index} 01107400000001"
+        yield f"itemtype {index} 0110740000000100"
+        yield f"itemid {index} 05160000000073"
+        yield f"itemid {index} 05160000000061620000"
+    for data in types + [b"", b"\x03"]:
+        for k in (0, 1, 2, TOP):
+            yield f"element {k} {hexed(data)}"
+    for data in ids + [b"", b"\x03"]:
+        for k in (0, 1, 2, TOP):
+            yield f"idelement {k} {hexed(data)}"
+
+
+def word_commands(rng):
+    yield "prim 0 128"
+    for first in range(256, 4096, 256):
+        yield f"prim {first + 0x10} {first + 0x14}"
+        yield f"prim {first + 0x74} {first + 0x77}"
+    yield "prim 255 257"
+    yield "prim 4094 4098"
+    for kind in ("props", "field", "func"):
+        for bit in [0] + [2 ** k for k in range(16)] + [65535] + [rng.randrange(65536) for _ in range(20)]:
+            yield f"word {kind} {bit} {bit + 1} 1"
+    for w in list(range(32)) + [32 * mode + kind for mode in range(1, 8) for kind in (0, 12, 13)]:
+        yield f"word ptr {w} {w + 1} 1"
+    for w in [2 ** k + 12 for k in range(8, 32)] + [rng.randrange(2 ** 32) for _ in range(40)]:
+        yield f"word ptr {w} {w + 1} 1"
+    yield "word field 0 64 13"
+    for n in (0, 1, 4095, 4096, 65534, 65535, 65536, TOP):
+        yield f"opttype {n}"
+        yield f"optid {n}"
+    for data in ("-", "00", "ff", "0110", "ffff", "0312aa"):
+        yield f"kind {data}"
+    for name in ("unsigned", "signed"):
+        for data in ("-", "00", "ff7f", "0080"):
+            yield f"{name} {data}"
+        for prefix in [0, 1, 0x7fff] + list(range(0x8000, 0x800c)) + [0xffff]:
+            for byte in ("00", "7f", "80", "ff"):
+                for n in (0, 1, 2, 3, 4, 7, 8, 9):
+                    if n in (0, 8) or byte == "80":
+                        yield f"{name} {struct.pack('<H', prefix).hex()}{byte * n}"
+    for leaf in (0x1203, 0x14ff, 0x1500, 0x1501, 0xffff):
+        for data in ("-", "00", "41", "0141", "0241", "024142", "4100", "414200ff", "0341424344"):
+            yield f"string {leaf} {data}"
+    for data in ["-", "00", "ef", "f0", "f1", "f2", "f3", "ff", "f000", "f1f1", "f2f1", "f2ff", "f3f2f1f0", "f0f0f0", "ff" + "00" * 14,
+                 "ff" + "00" * 13, "f1f2aaf3"]:
+        yield f"padding {data}"
+
+
+def stream_commands(rng):
+    good = header() + packed("0200 0000 0300 010203")
+    for n in range(57):
+        yield f"header {hexed(header()[:n])}"
+    for size, length in ((0, 56), (55, 56), (56, 56), (57, 56), (57, 57), (1024, 1023), (1024, 1024), (1025, 1025), (TOP, 60)):
+        for low, high in ((4095, 4096), (4096, 4096), (4096, 4095), (TOP, TOP)):
+            yield f"header {hexed((header(low, high, size) + bytes(2000))[:length])}"
+    every = "0bca3101 38000000 00100000 02100000 16000000 0900 ffff 04000000 ffff0300 ffffffff 04000000 00000080 08000000 ffffff7f 0c000000"
+    yield f"header {packed(every).hex()}"
+    for lengths in ((), (2,), (2, 2), (0,), (1,), (2, 1, 2), (3, 0, 4), tuple(range(2, 12)), (2,) * 17, (4,) * 8):
+        body = make_inputs.links(lengths)
+        for cut in (0, 1, 2, 3):
+            if cut > len(body):
+                continue
+            size = 60 if cut == 1 else 56
+            s = header(4096, 4096 + 10, size) + bytes(size - 56) + body[:len(body) - cut]
+            yield f"walk {s.hex()}"
+            yield f"find {s.hex()} {rng.choice(['', 'u'])}{rng.choice([0, 1, 7, 8, 9, 20])} 0,4095,4096,4097,4103,4104,4105,4106,4107,{TOP}"
+            yield f"findids {s.hex()} {rng.choice([0, 8, 20])} 0,4095,4096,4099,4104,4106,4107,{TOP}"
+    for low in (TOP - 9, TOP - 8, TOP - 7, TOP - 1, TOP):
+        s = header(low, TOP) + make_inputs.links((2, 2))
+        yield f"walk {s.hex()}"
+        yield f"find {s.hex()} 0 {low - 1},{low},{TOP}"
+    yield "walk -"
+    yield "parse -"
+    yield "find - u0 0,1"
+    yield "find - 3 0,1"
+    # next: any cursor.
+    for at in (0, 54, 55, 56, 57, 58, 59, 60, 61, 62, 64, 65, 66, 2 ** 32, 2 ** 64 - 1):
+        for index in (0, 4096, TOP - 1, TOP):
+            yield f"next {good.hex()} {at} {index}"
+            yield f"next {good.hex()}00 {at} {index}"
+    yield "next - 0 0"
+    yield "next - 1 0"
+    for cut in range(1, 12):
+        yield f"next {good[:-cut].hex()} 60 7"
+    # create: any stream and table.
+    for s in (b"", header(), header(4096, 4096), header()[:55], header(size=55), header(size=1025), header(size=57), header(4095),
+              header(4096, 4095), E):
+        for t in ("-", "7", "7,8,9"):
+            yield f"create {hexed(s)} {t}"
+    # update: any finder, table and cursor; a table exactly full and one short.
+    for low in (0, 4096):
+        for held, t in ((0, "-"), (0, "5"), (1, "5"), (1, "5,6"), (2, "5,6"), (2, "5"), (3, "5,6"), (2 ** 64 - 1, "5,6"), (0, "5,6,7")):
+            for d in (0, 1, 7, 8, 9, 16, 24):
+                yield f"update {low} {low + 30} {held} {t} 99 {low + d}"
+            for at in (0, LONGEST, LONGEST + 1, 2 ** 64 - 1):
+                yield f"update {low} {low + 30} {held} {t} {at} {low + 8 * (held if held < 9 else 0)}"
+                yield f"update 4096 4100 {held} {t} {at} 4095"
+    # findin and maxindex: any finder.
+    s = header(4096, 4120) + make_inputs.links((2, 0, 1, 3, 2, 2, 2, 2, 4, 2))
+    for held, t in ((0, "-"), (0, "56"), (1, "56"), (1, "57"), (1, "60,56"), (2, "56,88"), (2, "56,84"), (2, "56"), (2, f"56,{TOP}"),
+                    (1, str(len(s))), (3, "56,60,0")):
+        for i in (0, 4095, 4096, 4097, 4099, 4103, 4104, 4105, 4112, 4120, 4121, TOP):
+            yield f"findin {s.hex()} 4096 4120 {held} {t} {i}"
+    yield "findin - 0 0 1 0 0"
+    yield "findin - 5 4 0 - 4"
+    for low, held in ((0, 0), (4096, 0), (0, 1), (4096, 1), (4096, 2), (TOP - 8, 1), (TOP - 7, 1), (TOP - 6, 1), (TOP, 1), (4096, 2 ** 29),
+                      (0, 2 ** 64 - 1)):
+        yield f"maxindex {low} {TOP} {held}"
+    # view: both streams.
+    for which in "ti":
+        for place in (0, 1, 2, 3, 4, 5, 2 ** 63, 2 ** 64 - 1):
+            for length in (0, 1, 2, 3, 4, 2 ** 64 - 1):
+                yield f"view 01020304 a1a2a3 {which} {place} {length}"
+        yield f"view - - {which} 0 0"
+    for which in "ti":
+        for index in (0, 3, 116, 1652, 2164, 4, 4095, 4096, TOP):
+            yield f"marker {which} {index}"
+    # Real streams: walked, parsed and looked up.
+    for name in STREAMS:
+        with open(os.path.join(HERE, "streams", name), "rb") as f:
+            s = f.read()
+        ids = name.endswith(".ipi")
+        low, high = struct.unpack_from("<II", s, 8)
+        yield f"header {s[:56].hex()}"
+        yield f"{'parseids' if ids else 'parse'} {s.hex()}"
+        asked = {low - 1, low, low + 1, high - 1, high, high + 1} | set(range(low, high, max(1, (high - low) // 40)))
+        asked = ",".join(str(i) for i in sorted(asked))
+        yield f"{'findids' if ids else 'find'} {s.hex()} {high - low} {asked}"
+        if len(s) < 2000:
+            yield f"{'findids' if ids else 'find'} {s.hex()} {(high - low) // 2} {low},{(low + high) // 2 + 9},{high - 1}"
+
+
+# ---- what the list must have ----
+
+def numbers_in(words, lines):
+    """The numbers of 01's table that an answer shows."""
+    for line in lines:
+        parts = line.split()
+        if words[0] in ("walk", "parse", "parseids"):
+            if parts[0] == "refused":
+                yield int(parts[1])
+        elif words[0] in ("find", "findids", "prim"):
+            if parts[0].isdigit() and len(parts) > 1:
+                yield int(parts[1])
+        elif words[0] not in ("word", "opttype", "optid", "maxindex"):
+            yield int(parts[0])
+        yield from (int(n) for n in re.findall(r" ; end (\d+)", line))
+        yield from (12 for _ in re.findall(r"=r12", line))
+
+
+def protocol_commands():
+    """The commands of PROTOCOL.md that the port takes."""
+    with open(os.path.join(HERE, "PROTOCOL.md"), encoding="utf-8") as f:
+        text = f.read()
+    found = set()
+    for title in ("## Commands that both take", "## Commands that only the port takes"):
+        for line in text.split(title)[1].split("\n## ")[0].split("\n"):
+            if line.startswith("| `"):
+                found.update(c.split()[0] for c in re.findall(r"`([^`]+)`", line.split(" | ")[0]))
+    return found
+
+
+def lacking(vectors):
+    """What the list should have and has not."""
+    asked = {c for c, _ in vectors}
+    shown = "\n".join(line for _, lines in vectors for line in lines)
+    for name in protocol_commands() - {c.split()[0] for c in asked}:
+        yield f"command {name}"
+    for word in ("props", "field", "func", "ptr"):
+        if not any(c.startswith(f"word {word} ") for c in asked):
+            yield f"word {word}"
+    numbers = {n for c, lines in vectors for n in numbers_in(c.split(), lines)}
+    for n in set(range(17)) - numbers:
+        yield f"number {n}"
+    for leaf in list(layouts.RECORDS) + list(layouts.LISTS) + ID_LEAVES:
+        if not re.search(rf"^(  )?0 {leaf:04x}\b", shown, re.M):
+            yield f"leaf {leaf:04x}"
+    for leaf in layouts.MEMBERS:
+        if f" ; {leaf:04x} " not in shown:
+            yield f"member {leaf:04x}"
+    if set(GOOD_TYPES) != set(layouts.RECORDS) | set(layouts.LISTS) or set(GOOD_MEMBERS) != set(layouts.MEMBERS) or set(GOOD_IDS) != set(ID_LEAVES):
+        yield "a good record of every leaf"
+    answer = dict(vectors)
+    for kind, data in prefixes():
+        if f"{kind} {hexed(data)}" not in asked:
+            yield f"prefix {hexed(data)}"
+    for leaf, record in list(GOOD_TYPES.items()) + [(m, "0312" + r) for m, r in GOOD_MEMBERS.items()]:
+        line = answer[f"type {hexed(packed(record))}"][0]
+        if not line.startswith("0 ") or " ; end " in line and not line.endswith(" ; end 15"):
+            yield f"good record {leaf:04x}"
+    for leaf, record in GOOD_IDS.items():
+        if not answer[f"id {hexed(packed(record))}"][0].startswith(f"0 {leaf:04x}"):
+            yield f"good record {leaf:04x}"
+    for command in LARGEST + [f"type {d.hex()}" for d in [CRATE_1609] + CRATE_ARRAYS] + [c for c, _ in EXAMPLES]:
+        if command not in asked:
+            yield command[:80]
+    for command, line in (("update 4096 4126 2 5,6 99 4112", "13 held=2 ; 5 6"), ("update 4096 4126 1 5,6 99 4104", "0 held=2 ; 5 99"),
+                          ("create " + header().hex() + " -", "13 ; -"), ("create " + header().hex() + " 7", "0 4096 4098 held=1 shift=3 ; 56")):
+        if answer.get(command) != [line]:
+            yield f"a table exactly full or one short: {command}"
+
+
+def main():
+    words, seed = sys.argv[1:], 1
+    if "--seed" in words:
+        at = words.index("--seed")
+        seed = int(words[at + 1])
+        del words[at:at + 2]
+    if len(words) != 2:
+        print(__doc__)
+        return 2
+    oracle, replay = (os.path.abspath(w) for w in words)
+    make_inputs.rng.seed(seed)
+    rng = make_inputs.rng
+    commands = [c for c, _ in EXAMPLES] + list(record_commands(rng)) + list(word_commands(rng)) + list(stream_commands(rng))
+    commands = list(dict.fromkeys(commands))
+    problems = compare.listed()
+    crate = [c for c in commands if c.split()[0] not in PORT_ONLY]
+    lines_of = dict(zip(crate, compare.answers(oracle, crate)))
+    primitives = dict(line.split(" ", 1) for line in compare.answers(oracle, ["prim 0 4096"])[0])
+    vectors, reasons = [], {}
+    for c in commands:
+        why = set()
+        try:
+            if c in lines_of:
+                lines = by_crate(c.split(), lines_of[c], why)
+            else:
+                lines = [by_rule(c.split(), primitives.get(c.split()[2]) if c.startswith("marker") else None)]
+        except Unexplained as e:
+            problems.append(str(e))
+            continue
+        for line in lines:
+            if line.strip().startswith(("panic", "abort", "other")) or " panic " in line or " dims=" in line:
+                problems.append(f"{c[:80]}: {line}")
+        for name in why:
+            reasons[name] = reasons.get(name, 0) + 1
+            if name not in compare.REASONS:
+                problems.append(f"{c[:80]}: {name} is no line of docs/DIFFERENCES.md")
+        vectors.append((c, lines))
+    answer = dict(vectors)
+    problems += [f"01's example {c[:80]}: {answer.get(c)}" for c, said in EXAMPLES if answer.get(c) != said]
+    problems += [f"lacks {what}" for what in lacking(vectors)]
+    got = compare.answers(replay, [c for c, _ in vectors])
+    problems += [f"{c[:200]}\n  expected {said[:3]}\n  replay   {had[:3]}" for (c, said), had in zip(vectors, got) if said != had]
+    if problems:
+        print("\n".join(problems[:40]) + f"\n{len(problems)} problems; nothing is written")
+        return 1
+    home = os.path.join(HERE, "..", "crates", "replay")
+    with open(os.path.join(home, "stdin"), "w", encoding="ascii") as f:
+        f.writelines(f"{c}\n" for c, _ in vectors)
+    with open(os.path.join(home, "stdout"), "w", encoding="ascii") as f:
+        f.writelines(f"{line}\n" for _, lines in vectors for line in lines)
+    asked = sum(c in lines_of for c, _ in vectors)
+    count = sum(len(lines) for _, lines in vectors)
+    print(f"{len(vectors)} commands, {count} lines; the crate was asked {asked} of the commands, 01's rules {len(vectors) - asked}")
+    print("by lines of docs/DIFFERENCES.md: " + ", ".join(f"{name} {n}" for name, n in sorted(reasons.items())))
+    return 0
+
+
+if __name__ == "__main__":
+    sys.exit(main())

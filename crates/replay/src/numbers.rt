@@ -1,0 +1,102 @@
+// The lines of single numbers: primitives, attribute words, optional indices, strings, padding and numeric leaves.
+use answer::Refusal;
+use common::index::IdIndex;
+use common::index::TypeIndex;
+use common::number::ReadSize;
+use common::number::ReadVariant;
+use common::text::After;
+use common::text::ReadString;
+use primitive::PrimitiveAnswer;
+
+fn primitive_line(n: u32) {
+    lines::form2(b"# ", &[n as u64, 0]);
+    match primitive::primitive(TypeIndex(n)) {
+        PrimitiveAnswer::Answered(p) => lines::primitive(p),
+        PrimitiveAnswer::Refused(e) => lines::refusal(e),
+    }
+    lines::put(b"\n");
+}
+
+pub fn primitives(from: u32, to: u32) {
+    let mut i = from;
+    while i < to {
+        primitive_line(i);
+        i += 1;
+    }
+}
+
+// Which word: 0 properties, 1 field, 2 function, 3 pointer.
+fn word_line(which: u64, w: u32) {
+    let low = (w % 65536) as u16;
+    match which {
+        0 => lines::properties(low),
+        1 => lines::field_attributes(low),
+        2 => lines::function_attributes(low),
+        _ => lines::pointer(w),
+    }
+}
+
+pub fn words(which: u64, from: u64, to: u64, step: u64) {
+    let mut w = from;
+    while w < to {
+        word_line(which, input::low32(w));
+        if step == 0 {
+            return;
+        }
+        if to - w <= step {
+            return;
+        }
+        w += step;
+    }
+}
+
+pub fn optional_type(n: u32) {
+    lines::form2(b"?\n", &[lines::type_number(TypeIndex(n).optional()), 0]);
+}
+
+pub fn optional_id(n: u32) {
+    lines::form2(b"?\n", &[lines::id_number(IdIndex(n).optional()), 0]);
+}
+
+fn ended() {
+    lines::refusal(Refusal::Ended);
+    lines::put(b"\n");
+}
+
+pub fn string(leaf: u16, s: &[u8]) {
+    match common::text::string_of(leaf, s, 0) {
+        ReadString::Got(t, q) => lines::form4(
+            b"0 @ next=#\n",
+            &[t.place as u64, t.length as u64, q as u64, 0],
+        ),
+        ReadString::Ended => ended(),
+    }
+}
+
+pub fn padding(s: &[u8]) {
+    match common::text::after_padding(s, 0) {
+        After::At(q) => lines::form2(b"0 #\n", &[q as u64, 0]),
+        After::Ended => ended(),
+    }
+}
+
+pub fn unsigned(s: &[u8]) {
+    match common::number::size_at(s, 0) {
+        ReadSize::Got(n, q) => lines::form2(b"0 # next=#", &[n.value, q as u64]),
+        ReadSize::Refused(e) => lines::refusal(e),
+    }
+    lines::put(b"\n");
+}
+
+pub fn signed(s: &[u8]) {
+    match common::number::number_at(s, 0) {
+        ReadVariant::Got(v, q) => {
+            let value = v.value;
+            lines::put(b"0 ");
+            lines::integer(value);
+            lines::field(b" next=", q as u64);
+        }
+        ReadVariant::Refused(e) => lines::refusal(e),
+    }
+    lines::put(b"\n");
+}
