@@ -436,7 +436,7 @@ fn run(line: &str, out: &mut dyn Write) {
         "foreign" => stream_command!(acc::parse, type_line, a, out, "foreign"),
         "find" => stream_command!(acc::parse, type_line, a, out, "find"),
         "findids" => stream_command!(acc::parse_ids, id_line, a, out, "find"),
-        other => writeln!(out, "unknown command {}", other).unwrap(),
+        other => writeln!(out, "? {}", other).unwrap(),
     }
 }
 

@@ -141,7 +141,7 @@ pub fn line_end(buffer: &mut [u8; 65536], from: Input) -> Input {
     input
 }
 
-// A word's first bytes are in the lent array; it has `len` of them there.
+// A word's first bytes are in the lent array; it has `len` of them there. What is left of a longer word is still in the input.
 pub struct Word {
     pub len: usize,
     pub input: Input,
@@ -163,10 +163,9 @@ pub fn read_word(buffer: &mut [u8; 65536], from: Input, letters: &mut [u8; 16]) 
         input = past(input);
         len += 1;
     }
-    let behind = word_end(buffer, input);
     Word {
         len: len,
-        input: behind,
+        input: input,
     }
 }
 
@@ -450,7 +449,8 @@ fn with_word(buffer: &mut [u8; 65536], a: Arguments, out: &mut [u64; 8]) -> Argu
     let mut letters = [0u8; 16];
     let w = read_word(buffer, a.input, &mut letters);
     let k = known(&letters, w.len, b"props: field: func: ptr: t: i: ");
-    with_number(a, out, k.number as u64, w.input)
+    let behind = word_end(buffer, w.input);
+    with_number(a, out, k.number as u64, behind)
 }
 
 // 1 if a `u` stands there, which is passed, else 0.

@@ -243,9 +243,38 @@ fn named(
     )
 }
 
-fn unknown(from: Input) -> Input {
-    lines::put(b"?\n");
-    from
+fn put_letter(code: u16) {
+    let one = [(code % 256) as u8];
+    lines::put(&one);
+}
+
+// Prints what is left of a word.
+fn put_rest(buffer: &mut [u8; 65536], from: Input) -> Input {
+    let mut input = from;
+    let mut turns = input::TURNS;
+    while 0 < turns {
+        turns -= 1;
+        let seen = input::peek(buffer, input);
+        input = seen.input;
+        if input::ends_word(seen.code) {
+            return input;
+        }
+        put_letter(seen.code);
+        input = input::past(input);
+    }
+    input
+}
+
+// A word that is no command.
+fn unknown(buffer: &mut [u8; 65536], from: Input, letters: &[u8; 16], n: usize) -> Input {
+    let s: &[u8] = letters;
+    lines::put(b"? ");
+    if n <= s.len() {
+        lines::put(&s[0..n]);
+    }
+    let behind = put_rest(buffer, from);
+    lines::put(b"\n");
+    behind
 }
 
 // One command, and the input behind its words.
@@ -263,7 +292,7 @@ fn command(
     }
     let name = name_of(&letters, w.len);
     if name.number == input::UNKNOWN {
-        return unknown(w.input);
+        return unknown(buffer, w.input, &letters, w.len);
     }
     named(buffer, w.input, name, first, second, places)
 }
