@@ -26,10 +26,9 @@ use lists::StartAnswer;
 use lists::StepAnswer;
 use record::ParseAnswer;
 use sums::add;
-use walk::Tour;
 use walk::WalkAnswer;
 
-// The operations, by the letters that their names start with; parseids has one of its own.
+// The operations, by the letters that their names start with; parseids has one of its own. Any other is `elements`.
 const HEADER: u8 = b'h';
 
 const WALK: u8 = b'w';
@@ -39,8 +38,6 @@ const INDEX: u8 = b'i';
 const FIND: u8 = b'f';
 
 const PARSE: u8 = b'p';
-
-const ELEMENTS: u8 = b'e';
 
 const IDS: u8 = b'd';
 

@@ -26,7 +26,13 @@ unfolding parseOf typeItem typeBytes
 returns-3 c =
     let k = c .before .before in
     let e = k .before .before .before .before .before in
-    simp (le-ltb _ _ (e .before .before .before .if1 .left), le-ltb _ _ (e .before .before .if2 .left), e .entry .given .1, k .before .before .index .given .1, lt-ltb _ _ (c .before .if3 .taken)) (c .numbered .ensures)
+    simp (
+      le-ltb _ _ (e .before .before .before .if1 .left),
+      le-ltb _ _ (e .before .before .if2 .left),
+      e .entry .given .1,
+      k .before .before .index .given .1,
+      lt-ltb _ _ (c .before .if3 .taken),
+    ) (c .numbered .ensures)
 
 returns-4 : tie.Need-returns-4
 unfolding parseOf typeItem typeBytes
@@ -35,7 +41,14 @@ returns-4 c =
     let e = k .before .before .before .before .before in
     let x = e .entry .given .0 .0 in
     let s = e .before .before .before .before .before .before .args .tpi .now in
-    simp (le-ltb _ _ (e .before .before .before .if1 .left), le-ltb _ _ (e .before .before .if2 .left), e .entry .given .1, k .before .before .index .given .1, le-ltb _ _ (c .before .if3 .left), lt-ltb (length s) (x .place + x .length) (omega arith))
+    simp (
+      le-ltb _ _ (e .before .before .before .if1 .left),
+      le-ltb _ _ (e .before .before .if2 .left),
+      e .entry .given .1,
+      k .before .before .index .given .1,
+      le-ltb _ _ (c .before .if3 .left),
+      lt-ltb (length s) (x .place + x .length) (omega arith),
+    )
 
 returns-5 : tie.Need-returns-5
 unfolding parseOf typeItem typeBytes
@@ -44,7 +57,14 @@ returns-5 c =
     let e = k .before .before .before .before .before in
     let x = e .entry .given .0 .0 in
     let s = e .before .before .before .before .before .before .args .tpi .now in
-    simp (le-ltb _ _ (e .before .before .before .if1 .left), le-ltb _ _ (e .before .before .if2 .left), e .entry .given .1, k .before .before .index .given .1, le-ltb _ _ (c .before .before .if3 .left), lt-ltb (length s) (x .place + x .length) (omega arith))
+    simp (
+      le-ltb _ _ (e .before .before .before .if1 .left),
+      le-ltb _ _ (e .before .before .if2 .left),
+      e .entry .given .1,
+      k .before .before .index .given .1,
+      le-ltb _ _ (c .before .before .if3 .left),
+      lt-ltb (length s) (x .place + x .length) (omega arith),
+    )
 
 returns-6 : tie.Need-returns-6
 unfolding parseOf typeItem typeBytes
@@ -55,7 +75,15 @@ returns-6 c =
     let s = e .before .before .before .before .before .before .args .tpi .now in
     let n : x .place + x .length - x .place ≡ x .length = omega arith in
     let t = rw n at (told saidTypeData (c .before .before .before .type-data .ensures) (c .before .d .given .1)) in
-    simp (le-ltb _ _ (e .before .before .before .if1 .left), le-ltb _ _ (e .before .before .if2 .left), e .entry .given .1, k .before .before .index .given .1, le-ltb _ _ (c .before .before .before .before .before .before .before .if3 .left), le-ltb (length s) (x .place + x .length) (omega arith), t)
+    simp (
+      le-ltb _ _ (e .before .before .before .if1 .left),
+      le-ltb _ _ (e .before .before .if2 .left),
+      e .entry .given .1,
+      k .before .before .index .given .1,
+      le-ltb _ _ (c .before .before .before .before .before .before .before .if3 .left),
+      le-ltb (length s) (x .place + x .length) (omega arith),
+      t,
+    )
 
 returns-7 : tie.Need-returns-7
 unfolding parseOf typeItem typeBytes
@@ -66,7 +94,15 @@ returns-7 c =
     let s = e .before .before .before .before .before .before .args .tpi .now in
     let n : x .place + x .length - x .place ≡ x .length = omega arith in
     let t = rw n at (told saidTypeData (c .before .before .before .type-data .ensures) (c .before .e .given .1)) in
-    simp (le-ltb _ _ (e .before .before .before .if1 .left), le-ltb _ _ (e .before .before .if2 .left), e .entry .given .1, k .before .before .index .given .1, le-ltb _ _ (c .before .before .before .before .before .before .before .if3 .left), le-ltb (length s) (x .place + x .length) (omega arith), t)
+    simp (
+      le-ltb _ _ (e .before .before .before .if1 .left),
+      le-ltb _ _ (e .before .before .if2 .left),
+      e .entry .given .1,
+      k .before .before .index .given .1,
+      le-ltb _ _ (c .before .before .before .before .before .before .before .if3 .left),
+      le-ltb (length s) (x .place + x .length) (omega arith),
+      t,
+    )
 
 returns-8 : tie.Need-returns-8
 unfolding parseOf idBytes
@@ -75,7 +111,13 @@ returns-8 c =
     let e = k .before .before .before in
     let x = e .entry .given .0 .0 in
     let s = e .before .before .before .before .before .before .args .ipi .now in
-    simp (le-ltb _ _ (e .before .before .before .if1 .left), le-ltb _ _ (e .before .before .if2 .left), e .entry .given .1, k .enum-told .given .1, lt-ltb (length s) (x .place + x .length) (omega arith))
+    simp (
+      le-ltb _ _ (e .before .before .before .if1 .left),
+      le-ltb _ _ (e .before .before .if2 .left),
+      e .entry .given .1,
+      k .enum-told .given .1,
+      lt-ltb (length s) (x .place + x .length) (omega arith),
+    )
 
 returns-9 : tie.Need-returns-9
 unfolding parseOf idBytes
@@ -84,7 +126,13 @@ returns-9 c =
     let e = k .before .before .before in
     let x = e .entry .given .0 .0 in
     let s = e .before .before .before .before .before .before .args .ipi .now in
-    simp (le-ltb _ _ (e .before .before .before .if1 .left), le-ltb _ _ (e .before .before .if2 .left), e .entry .given .1, k .enum-told .given .1, lt-ltb (length s) (x .place + x .length) (omega arith))
+    simp (
+      le-ltb _ _ (e .before .before .before .if1 .left),
+      le-ltb _ _ (e .before .before .if2 .left),
+      e .entry .given .1,
+      k .enum-told .given .1,
+      lt-ltb (length s) (x .place + x .length) (omega arith),
+    )
 
 returns-10 : tie.Need-returns-10
 unfolding parseOf idBytes
@@ -95,7 +143,14 @@ returns-10 c =
     let s = e .before .before .before .before .before .before .args .ipi .now in
     let n : x .place + x .length - x .place ≡ x .length = omega arith in
     let t = rw n at (told saidIdData (c .before .before .before .id-data .ensures) (c .before .d2 .given .1)) in
-    simp (le-ltb _ _ (e .before .before .before .if1 .left), le-ltb _ _ (e .before .before .if2 .left), e .entry .given .1, k .enum-told .given .1, le-ltb (length s) (x .place + x .length) (omega arith), t)
+    simp (
+      le-ltb _ _ (e .before .before .before .if1 .left),
+      le-ltb _ _ (e .before .before .if2 .left),
+      e .entry .given .1,
+      k .enum-told .given .1,
+      le-ltb (length s) (x .place + x .length) (omega arith),
+      t,
+    )
 
 returns-11 : tie.Need-returns-11
 unfolding parseOf idBytes
@@ -106,13 +161,25 @@ returns-11 c =
     let s = e .before .before .before .before .before .before .args .ipi .now in
     let n : x .place + x .length - x .place ≡ x .length = omega arith in
     let t = rw n at (told saidIdData (c .before .before .before .id-data .ensures) (c .before .e2 .given .1)) in
-    simp (le-ltb _ _ (e .before .before .before .if1 .left), le-ltb _ _ (e .before .before .if2 .left), e .entry .given .1, k .enum-told .given .1, le-ltb (length s) (x .place + x .length) (omega arith), t)
+    simp (
+      le-ltb _ _ (e .before .before .before .if1 .left),
+      le-ltb _ _ (e .before .before .if2 .left),
+      e .entry .given .1,
+      k .enum-told .given .1,
+      le-ltb (length s) (x .place + x .length) (omega arith),
+      t,
+    )
 
 returns-12 : tie.Need-returns-12
 unfolding parseOf
 returns-12 c =
     let e = c .before .before .before .before .before in
-    simp (le-ltb _ _ (e .before .before .before .if1 .left), le-ltb _ _ (e .before .before .if2 .left), e .entry2 .given .1, c .before .before .index2 .given .1) (c .type-marker .ensures)
+    simp (
+      le-ltb _ _ (e .before .before .before .if1 .left),
+      le-ltb _ _ (e .before .before .if2 .left),
+      e .entry2 .given .1,
+      c .before .before .index2 .given .1,
+    ) (c .type-marker .ensures)
 
 returns-13 : tie.Need-returns-13
 unfolding parseOf
