@@ -4,8 +4,9 @@
 #   build.sh SOURCE OUT
 #
 # SOURCE  the folder of the crate's published source, the one that holds src/common.rs and src/tpi/
-# OUT     gets two programs: oracle (release: no debug assertions, sums wrap)
-#                            oracle-debug (debug assertions and overflow checks on)
+# OUT     gets three programs: oracle (release: no debug assertions, sums wrap)
+#                              oracle-debug (debug assertions and overflow checks on)
+#                              speed (release): the crate's half of speed.sh
 #
 # Wanted on the machine: rustc, and the two libraries that the crate stands on. On Debian 12:
 #   apt-get install rustc librust-scroll-dev librust-fallible-iterator-dev
@@ -35,8 +36,8 @@ for f in $files; do
   cp "$source/src/$f.rs" "$out/src/$f.rs"
 done
 
-# 3. The driver. Most of what it asks is private to the crate's modules, so four of the copies get one
-#    child module each, declared after their last line. Nothing that was published is altered.
+# 3. The driver. Most of what it asks is private to the crate's modules, so four of the copies get
+#    child modules, declared after their last line. Nothing that was published is altered.
 cp "$here"/driver/*.rs "$out/src/"
 reach() {
   printf '\n#[path = "%s/src/%s.rs"]\npub(crate) mod %s;\n' "$out" "$2" "$2" >> "$out/src/$1.rs"
@@ -45,6 +46,8 @@ reach tpi/mod tpi_access
 reach tpi/data data_access
 reach tpi/id id_access
 reach msf/mod msf_access
+reach tpi/mod speed_header
+reach tpi/data speed_data
 for f in $files; do
   cmp -n "$(stat -c %s "$source/src/$f.rs")" "$source/src/$f.rs" "$out/src/$f.rs"
 done
@@ -61,12 +64,19 @@ build() { # folder flags...
   shift
   library "$d" scroll scroll-0.10.1 "$@"
   library "$d" fallible_iterator fallible-iterator-0.2.0 "$@"
-  rustc --crate-type bin --crate-name oracle --edition 2018 --cap-lints allow "$@" \
+  program "$d" oracle "$@"
+}
+program() { # folder name flags...
+  d=$1 name=$2
+  shift 2
+  rustc --crate-type bin --crate-name "$name" --edition 2018 --cap-lints allow "$@" \
     --extern scroll="$d/libscroll.rlib" --extern fallible_iterator="$d/libfallible_iterator.rlib" \
-    "$out/src/oracle.rs" -o "$d/oracle"
+    "$out/src/$name.rs" -o "$d/$name"
 }
 build release -C opt-level=3
+program "$out/release" speed -C opt-level=3 -C codegen-units=1
 build debug -C opt-level=0 -C debug-assertions=on -C overflow-checks=on
 cp "$out/release/oracle" "$out/oracle"
 cp "$out/debug/oracle" "$out/oracle-debug"
-echo "built $out/oracle and $out/oracle-debug"
+cp "$out/release/speed" "$out/speed"
+echo "built $out/oracle, $out/oracle-debug and $out/speed"

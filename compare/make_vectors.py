@@ -565,7 +565,7 @@ def stream_commands(rng):
             yield f"marker {which} {index}"
     # Real streams: walked, parsed and looked up.
     for name in STREAMS:
-        with open(os.path.join(HERE, "streams", name), "rb") as f:
+        with open(os.path.join(HERE, "..", "samples", name), "rb") as f:
             s = f.read()
         ids = name.endswith(".ipi")
         low, high = struct.unpack_from("<II", s, 8)

@@ -30,49 +30,6 @@ fn numbered(i: TypeIndex) -> ParseAnswer
     }
 }
 
-// The type record at place, of this length; 1 if it passes the end.
-fn type_bytes(s: &[u8], place: usize, length: usize) -> ParseAnswer
-    ensures { λ r. ⌜ saidParse r ≡ typeBytes (now (s .entry)) place length ⌝ }
-{
-    if place > s.len() {
-        return ParseAnswer::Refused(Refusal::Ended);
-    }
-    if length > s.len() - place {
-        return ParseAnswer::Refused(Refusal::Ended);
-    }
-    let end = place + length;
-    match data::type_data(&s[place..end]) {
-        TypeAnswer::Answered(d) => ParseAnswer::Type(d),
-        TypeAnswer::Refused(e) => ParseAnswer::Refused(e),
-    }
-}
-
-// The id record at place, of this length; 1 if it passes the end.
-fn id_bytes(s: &[u8], place: usize, length: usize) -> ParseAnswer
-    ensures { λ r. ⌜ saidParse r ≡ idBytes (now (s .entry)) place length ⌝ }
-{
-    if place > s.len() {
-        return ParseAnswer::Refused(Refusal::Ended);
-    }
-    if length > s.len() - place {
-        return ParseAnswer::Refused(Refusal::Ended);
-    }
-    let end = place + length;
-    match id::id_data(&s[place..end]) {
-        IdAnswer::Answered(d) => ParseAnswer::Id(d),
-        IdAnswer::Refused(e) => ParseAnswer::Refused(e),
-    }
-}
-
-fn type_item(s: &[u8], i: TypeIndex, place: usize, length: usize) -> ParseAnswer
-    ensures { λ r. ⌜ saidParse r ≡ typeItem (now (s .entry)) (i .0) place length ⌝ }
-{
-    if i.0 < 0x1000 {
-        return numbered(i);
-    }
-    type_bytes(s, place, length)
-}
-
 fn type_marker(i: TypeIndex) -> ParseAnswer
     ensures { λ r. ⌜ saidParse r ≡ typeMarker (i .0) ⌝ }
 {
@@ -82,7 +39,8 @@ fn type_marker(i: TypeIndex) -> ParseAnswer
     ParseAnswer::Refused(Refusal::LeafUnknown(0xffff))
 }
 
-// The entry's data, from the stream that it names.
+// The entry's data, from the stream that it names. Each answer is returned where it is found: an answer is large, and branches that meet
+// would copy it.
 pub fn parse(tpi: &[u8], ipi: &[u8], entry: Entry) -> ParseAnswer
     ensures { λ r. ⌜ saidParse r ≡ parseOf (now (tpi .entry)) (now (ipi .entry)) entry ⌝ }
 {
@@ -98,13 +56,54 @@ pub fn parse(tpi: &[u8], ipi: &[u8], entry: Entry) -> ParseAnswer
             let length = item.length;
             let index = item.index;
             match index {
-                ItemIndex::Types(i) => type_item(tpi, i, place, length),
-                ItemIndex::Ids(_) => id_bytes(ipi, place, length),
+                ItemIndex::Types(i) => {
+                    if i.0 < 0x1000 {
+                        let answer = numbered(i);
+                        return answer;
+                    }
+                    if place > tpi.len() {
+                        return ParseAnswer::Refused(Refusal::Ended);
+                    }
+                    if length > tpi.len() - place {
+                        return ParseAnswer::Refused(Refusal::Ended);
+                    }
+                    let end = place + length;
+                    match data::type_data(&tpi[place..end]) {
+                        TypeAnswer::Answered(d) => {
+                            return ParseAnswer::Type(d);
+                        }
+                        TypeAnswer::Refused(e) => {
+                            return ParseAnswer::Refused(e);
+                        }
+                    }
+                }
+                ItemIndex::Ids(_) => {
+                    if place > ipi.len() {
+                        return ParseAnswer::Refused(Refusal::Ended);
+                    }
+                    if length > ipi.len() - place {
+                        return ParseAnswer::Refused(Refusal::Ended);
+                    }
+                    let end = place + length;
+                    match id::id_data(&ipi[place..end]) {
+                        IdAnswer::Answered(d) => {
+                            return ParseAnswer::Id(d);
+                        }
+                        IdAnswer::Refused(e) => {
+                            return ParseAnswer::Refused(e);
+                        }
+                    }
+                }
             }
         }
         Entry::Marker(index) => match index {
-            ItemIndex::Types(i) => type_marker(i),
-            ItemIndex::Ids(_) => ParseAnswer::Refused(Refusal::LeafUnknown(0xffff)),
+            ItemIndex::Types(i) => {
+                let answer = type_marker(i);
+                return answer;
+            }
+            ItemIndex::Ids(_) => {
+                return ParseAnswer::Refused(Refusal::LeafUnknown(0xffff));
+            }
         },
     }
 }

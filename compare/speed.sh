@@ -1,0 +1,56 @@
+#!/bin/sh
+# Counts instructions of the port and of crate pdb 0.8.0 on the same operations, and prints a table of instructions a record.
+#
+#   speed.sh SPEED [STREAM..]
+#
+# SPEED   the program speed that build.sh made
+# STREAM  raw streams of at most 262,144 bytes, .tpi or .ipi; without any: the larger ones of samples/
+#
+# Wanted: valgrind, and the port's program measure, which `rt check measure` makes.
+# Each operation is done 10 times and 20 times; the difference over 10 times the records is what one record costs, and what both runs do
+# once (starting, reading the input, a finder for `find`) is not in it. `header` is counted by the header and not by the record.
+# valgrind's callgrind counts every instruction of the program, so that a run can be repeated and gives the same numbers.
+set -e
+if [ $# -lt 1 ]; then
+  echo "usage: speed.sh SPEED [STREAM..]" >&2
+  exit 2
+fi
+speed=$1
+shift
+root=$(cd "$(dirname "$0")/.." && pwd)
+measure=$root/target/bin/measure
+if [ $# -eq 0 ]; then
+  set -- "$root/samples/gen400-x64.tpi" "$root/samples/rich-x64.tpi" "$root/samples/rich-x64.ipi"
+fi
+
+count() { # program operation times stream
+  valgrind --tool=callgrind --callgrind-out-file=/dev/null "$1" "$2" "$3" < "$4" 2>&1 >/dev/null | sed -n 's/.*Collected : //p'
+}
+
+word() { # stream offset: the u32 there
+  od -An -t u4 -j "$2" -N 4 "$1" | tr -d ' '
+}
+
+echo "| stream | operation | port | crate | port / crate | checksums |"
+echo "|---|---|---|---|---|---|"
+for stream; do
+  records=$(($(word "$stream" 12) - $(word "$stream" 8)))
+  case $stream in
+    *.ipi) operations="parseids" ;;
+    *) operations="header walk index find parse elements" ;;
+  esac
+  for op in $operations; do
+    n=10 over=$((10 * records))
+    if [ $op = header ]; then
+      n=1000 over=1000
+    fi
+    same=alike
+    if [ "$("$measure" $op $n < "$stream")" != "$("$speed" $op $n < "$stream")" ]; then
+      same=differ
+    fi
+    port=$(($(count "$measure" $op $((2 * n)) "$stream") - $(count "$measure" $op $n "$stream")))
+    crate=$(($(count "$speed" $op $((2 * n)) "$stream") - $(count "$speed" $op $n "$stream")))
+    awk -v s="$(basename "$stream")" -v op=$op -v p=$port -v c=$crate -v over=$over -v same=$same \
+      'BEGIN { printf "| %s | %s | %.1f | %.1f | %.2f | %s |\n", s, op, p / over, c / over, p / c, same }'
+  done
+done

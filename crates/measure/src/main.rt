@@ -1,0 +1,365 @@
+// Does one operation of the reader many times on the stream that stands on standard input, and prints a checksum that depends on every
+// answer: what compare/speed.sh counts the instructions of. The arguments are the operation's name and how many times.
+mod sums;
+
+ghost use mathlib.Core.Path.{_≡_};
+ghost use lib.ListN.{length};
+use common::index::TypeIndex;
+use data::TypeData;
+use finder::FindAnswer;
+use finder::ItemFinder;
+use header::Header;
+use header::HeaderAnswer;
+use id::IdData;
+use item::Entry;
+use item::Item;
+use item::Stream;
+use item::iter::ItemIter;
+use item::iter::IterAnswer;
+use item::iter::NextAnswer;
+use item::view::KindAnswer;
+use libc::STDIN_FILENO;
+use libc::STDOUT_FILENO;
+use lists::IdStepAnswer;
+use lists::ListCursor;
+use lists::StartAnswer;
+use lists::StepAnswer;
+use record::ParseAnswer;
+use sums::add;
+use walk::WalkAnswer;
+
+// The operations, by the letters that their names start with; parseids has one of its own. Any other is `elements`.
+const HEADER: u8 = b'h';
+
+const WALK: u8 = b'w';
+
+const INDEX: u8 = b'i';
+
+const FIND: u8 = b'f';
+
+const PARSE: u8 = b'p';
+
+const IDS: u8 = b'd';
+
+// The longest stream, and the places that its finder holds at most: a record takes four bytes or more.
+const LONGEST: usize = 262144;
+
+const PLACES: usize = 8192;
+
+fn buffer() -> [u8; LONGEST]
+    ensures { λ r. ⌜ 262144 ≡ length r ⌝ }
+{
+    [0u8; LONGEST]
+}
+
+// Each operation, once ---------------------------------------------------------------------------------------------------------
+
+// Reads the header.
+fn header_once(s: &[u8]) -> u64 {
+    match Header::parse(s) {
+        HeaderAnswer::Answered(h) => sums::header(h),
+        HeaderAnswer::Refused(_) => 0,
+    }
+}
+
+// Goes through the stream's records.
+fn walk_from(s: &[u8], from: ItemIter) -> u64 {
+    let mut c = from;
+    let mut sum: u64 = 0;
+    loop {
+        match item::iter::next(s, c) {
+            NextAnswer::Yielded(i, behind) => {
+                sum = add(sum, sums::item(i));
+                c = behind;
+            }
+            NextAnswer::Done => {
+                return sum;
+            }
+            NextAnswer::Refused(_) => {
+                return sum;
+            }
+        }
+    }
+}
+
+fn walk_once(s: &[u8]) -> u64 {
+    match item::iter::types(s) {
+        IterAnswer::Answered(c) => walk_from(s, c),
+        IterAnswer::Refused(_) => 0,
+    }
+}
+
+// Reads the stream's records: for `parse` those that are no lists, else all, with the elements of the lists.
+fn read_from(op: u8, s: &[u8], from: ItemIter) -> u64 {
+    let mut c = from;
+    let mut sum: u64 = 0;
+    loop {
+        match item::iter::next(s, c) {
+            NextAnswer::Yielded(i, behind) => {
+                sum = add(sum, read(op, s, i));
+                c = behind;
+            }
+            NextAnswer::Done => {
+                return sum;
+            }
+            NextAnswer::Refused(_) => {
+                return sum;
+            }
+        }
+    }
+}
+
+fn read_once(op: u8, stream: Stream, s: &[u8]) -> u64 {
+    match item::iter::iter(stream, s) {
+        IterAnswer::Answered(c) => read_from(op, s, c),
+        IterAnswer::Refused(_) => 0,
+    }
+}
+
+fn read(op: u8, s: &[u8], i: Item) -> u64 {
+    if op == PARSE {
+        if is_list(item::view::raw_kind(s, s, Entry::Record(i))) {
+            return 0;
+        }
+    }
+    record_read(s, i)
+}
+
+fn is_list(k: KindAnswer) -> bool {
+    match k {
+        KindAnswer::Answered(leaf) => match leaf {
+            0x1201 | 0x1203 | 0x1206 => true,
+            _ => false,
+        },
+        KindAnswer::Refused(_) => false,
+    }
+}
+
+// A record with the elements of its list. The one stream is lent as both: an item says by its index in which it lies.
+fn record_read(s: &[u8], i: Item) -> u64 {
+    match record::parse(s, s, Entry::Record(i)) {
+        ParseAnswer::Type(d) => match d {
+            TypeData::Class(c) => sums::class(c),
+            TypeData::MemberFunction(f) => sums::member_function(f),
+            TypeData::Procedure(f) => sums::procedure(f),
+            TypeData::Pointer(p) => sums::pointer(p),
+            TypeData::Modifier(m) => sums::modifier(m),
+            TypeData::Enumeration(e) => sums::enumeration(e),
+            TypeData::Array(a) => sums::array(a),
+            TypeData::Union(u) => sums::union_type(u),
+            TypeData::Bitfield(b) => sums::bitfield(b),
+            TypeData::VirtualTableShape(_) => 0,
+            TypeData::FieldList => list_read(item::view::view(s, s, Entry::Record(i))),
+            TypeData::ArgumentList(_) => list_read(item::view::view(s, s, Entry::Record(i))),
+            TypeData::MethodList => list_read(item::view::view(s, s, Entry::Record(i))),
+        },
+        ParseAnswer::Id(d) => match d {
+            IdData::Function(f) => sums::function(f),
+            IdData::MemberFunction(f) => sums::member_function_id(f),
+            IdData::BuildInfo(_) => id_list_read(item::view::view(s, s, Entry::Record(i))),
+            IdData::StringList(_) => id_list_read(item::view::view(s, s, Entry::Record(i))),
+            IdData::String(t) => sums::string(t),
+            IdData::UserDefinedTypeSource(u) => sums::source(u),
+        },
+        _ => 0,
+    }
+}
+
+fn list_read(s: &[u8]) -> u64 {
+    match lists::start(s) {
+        StartAnswer::Answered(c) => list_from(s, c),
+        StartAnswer::Refused(_) => 0,
+    }
+}
+
+// An element takes a byte or more of a record of at most 65,535.
+fn list_from(s: &[u8], from: ListCursor) -> u64 {
+    let mut c = from;
+    let mut sum: u64 = 0;
+    let mut turns: u32 = 65536;
+    while 0 < turns {
+        turns -= 1;
+        match lists::step(s, c) {
+            StepAnswer::Answered(e, behind) => {
+                sum = add(sum, sums::element(e));
+                c = behind;
+            }
+            StepAnswer::Refused(_) => {
+                return sum;
+            }
+        }
+    }
+    sum
+}
+
+fn id_list_read(s: &[u8]) -> u64 {
+    match lists::start_ids(s) {
+        StartAnswer::Answered(c) => id_list_from(s, c),
+        StartAnswer::Refused(_) => 0,
+    }
+}
+
+fn id_list_from(s: &[u8], from: ListCursor) -> u64 {
+    let mut c = from;
+    let mut sum: u64 = 0;
+    let mut turns: u32 = 65536;
+    while 0 < turns {
+        turns -= 1;
+        match lists::step_ids(s, c) {
+            IdStepAnswer::Answered(e, behind) => {
+                sum = add(sum, sums::id_element(e));
+                c = behind;
+            }
+            IdStepAnswer::Refused(_) => {
+                return sum;
+            }
+        }
+    }
+    sum
+}
+
+// The finder of the whole stream.
+fn indexed(s: &[u8], t: &mut [u32; PLACES]) -> ItemFinder {
+    match walk::walk(Stream::Types, s, t) {
+        WalkAnswer::Answered(tour) => tour.finder,
+        WalkAnswer::Refused(_) => ItemFinder {
+            minimum_index: 0,
+            maximum_index: 0,
+            held: 0,
+            shift: 3,
+        },
+    }
+}
+
+// Fills a fresh finder; the sum is over the places that it holds.
+fn index_once(s: &[u8], t: &mut [u32; PLACES]) -> u64 {
+    let f = indexed(s, t);
+    places(t, f.held)
+}
+
+fn places(t: &[u32; PLACES], held: usize) -> u64 {
+    let mut i: usize = 0;
+    let mut sum: u64 = 0;
+    while i < held {
+        if PLACES <= i {
+            return sum;
+        }
+        sum = add(sum, sums::wide(t[i]));
+        i += 1;
+    }
+    sum
+}
+
+// Looks up each index of the stream.
+fn find_once(s: &[u8], t: &[u32; PLACES], f: ItemFinder) -> u64 {
+    let mut n = f.minimum_index;
+    let last = f.maximum_index;
+    let mut sum: u64 = 0;
+    while n < last {
+        sum = add(sum, found(finder::find_type(s, t, f, TypeIndex(n))));
+        n += 1;
+    }
+    sum
+}
+
+fn found(a: FindAnswer) -> u64 {
+    match a {
+        FindAnswer::Found(e, _) => match e {
+            Entry::Record(i) => sums::item(i),
+            Entry::Marker(_) => 0,
+        },
+        FindAnswer::Refused(_) => 0,
+    }
+}
+
+// Many times -------------------------------------------------------------------------------------------------------------------
+
+fn once(op: u8, s: &[u8], t: &mut [u32; PLACES], f: ItemFinder) -> u64 {
+    if op == HEADER {
+        return header_once(s);
+    }
+    if op == INDEX {
+        return index_once(s, t);
+    }
+    if op == FIND {
+        return find_once(s, t, f);
+    }
+    if op == IDS {
+        return read_once(op, Stream::Ids, s);
+    }
+    if op == WALK {
+        return walk_once(s);
+    }
+    read_once(op, Stream::Types, s)
+}
+
+// A byte of the stream is another one each time, so that no turn can stand for the next: at 0, where no third argument names another
+// place, a byte of the header's version, which no operation but `header` reads.
+fn repeat(op: u8, times: u64, at: usize, stream: &mut [u8], t: &mut [u32; PLACES]) -> u64 {
+    if stream.len() <= at {
+        return 0;
+    }
+    let f = indexed(stream, t);
+    let mut sum: u64 = 0;
+    let mut i: u64 = 0;
+    while i < times {
+        stream[at] = (i % 256) as u8;
+        sum = add(sum, once(op, stream, t, f));
+        i += 1;
+    }
+    sum
+}
+
+fn operation(word: &[u8; 16], n: usize) -> u8 {
+    let first = word[0];
+    if first == PARSE {
+        if n == 8 {
+            return IDS;
+        }
+    }
+    first
+}
+
+// Argument i as a number, 0 where there is none.
+fn number(i: usize) -> u64 {
+    let mut digits = [0u8; 16];
+    let n = os::arg(i, &mut digits);
+    numeral(&digits, n)
+}
+
+fn numeral(digits: &[u8; 16], n: usize) -> u64 {
+    let mut value: u64 = 0;
+    let mut i: usize = 0;
+    while i < n {
+        if 16 <= i {
+            return value;
+        }
+        value = ten_times(value, digits[i]);
+        i += 1;
+    }
+    value
+}
+
+fn ten_times(value: u64, digit: u8) -> u64 {
+    if 1000000000 < value {
+        return value;
+    }
+    if digit < b'0' {
+        return value;
+    }
+    add(10 * value, sums::wide8(digit - b'0'))
+}
+
+fn main() {
+    let mut word = [0u8; 16];
+    let a = os::arg(1, &mut word);
+    let op = operation(&word, a);
+    let times = number(2);
+    let at = number(3) as usize;
+    let mut stream = buffer();
+    let n = io::read_full(STDIN_FILENO, &mut stream);
+    let mut t = [0u32; PLACES];
+    let sum = repeat(op, times, at, &mut stream[0..n], &mut t);
+    io::print_decimal(STDOUT_FILENO, sum);
+    io::write_all(STDOUT_FILENO, b"\n");
+}
