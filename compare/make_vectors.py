@@ -371,6 +371,7 @@ LARGEST = ["type 011200000040", "type 01120000004074000000", "type 0112ffffffff"
 # Stream E of 01, and its examples: each command with the lines that 01 says.
 E = header() + packed("0800 0110 74000000 0100 0a00 0210 00100000 0c000100")
 POINTER = "member=0 ref=0 flat32=0 volatile=0 const=0 unaligned=0 restrict=0"
+NO_COMMANDS = ["frobnicate", "antidisestablishmentarianism 12"]
 EXAMPLES = [
     (f"walk {E.hex()}", ["4096 1001 58+8", "4097 1002 68+10", "done 4098 78"]),
     (f"parse {E.hex()}", ["4096 1001 58+8", "  0 1001 t=116 const=1 volatile=0 unaligned=0", "4097 1002 68+10", "  0 1002 t=4096 word=65548 class=-",
@@ -639,7 +640,7 @@ def lacking(vectors):
     for leaf, record in GOOD_IDS.items():
         if not answer[f"id {hexed(packed(record))}"][0].startswith(f"0 {leaf:04x}"):
             yield f"good record {leaf:04x}"
-    for command in LARGEST + [f"type {d.hex()}" for d in [CRATE_1609] + CRATE_ARRAYS] + [c for c, _ in EXAMPLES]:
+    for command in LARGEST + [f"type {d.hex()}" for d in [CRATE_1609] + CRATE_ARRAYS] + [c for c, _ in EXAMPLES] + NO_COMMANDS:
         if command not in asked:
             yield command[:80]
     for command, line in (("update 4096 4126 2 5,6 99 4112", "13 held=2 ; 5 6"), ("update 4096 4126 1 5,6 99 4104", "0 held=2 ; 5 99"),
@@ -660,7 +661,7 @@ def main():
     oracle, replay = (os.path.abspath(w) for w in words)
     make_inputs.rng.seed(seed)
     rng = make_inputs.rng
-    commands = [c for c, _ in EXAMPLES] + list(record_commands(rng)) + list(word_commands(rng)) + list(stream_commands(rng))
+    commands = [c for c, _ in EXAMPLES] + NO_COMMANDS + list(record_commands(rng)) + list(word_commands(rng)) + list(stream_commands(rng))
     commands = list(dict.fromkeys(commands))
     problems = compare.listed()
     crate = [c for c in commands if c.split()[0] not in PORT_ONLY]
