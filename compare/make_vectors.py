@@ -618,7 +618,7 @@ def lacking(vectors):
     for word in ("props", "field", "func", "ptr"):
         if not any(c.startswith(f"word {word} ") for c in asked):
             yield f"word {word}"
-    numbers = {n for c, lines in vectors for n in numbers_in(c.split(), lines)}
+    numbers = {n for c, lines in vectors if c not in NO_COMMANDS for n in numbers_in(c.split(), lines)}
     for n in set(range(17)) - numbers:
         yield f"number {n}"
     for leaf in list(layouts.RECORDS) + list(layouts.LISTS) + ID_LEAVES:
