@@ -210,6 +210,43 @@ def table_of(word):
     return [] if word == "-" else [int(n) for n in word.split(",")]
 
 
+def signs_line(s, p):
+    """The signs of the i8, i16, i32 and i64 at a place, `1` for one that passes the end."""
+    def sign(k):
+        if p + k > len(s):
+            return "1"
+        n = int.from_bytes(s[p:p + k], "little", signed=True)
+        return "-" if n < 0 else "+" if n > 0 else "0"
+    return "".join(sign(k) for k in (1, 2, 4, 8))
+
+
+def count_line(s):
+    """"The record count is maximum minus minimum.\""""
+    number = refused_header(s)
+    if number is not None:
+        return str(number)
+    low, high = struct.unpack_from("<2I", s, 8) if s else (0, 0)
+    return f"0 {high - low}" + (" empty" if high == low else "")
+
+
+def item_line(stream, index, length):
+    """An item's index, stream and length, the same of its entry, and those of the marker, which "has length 2"."""
+    of = f"{index}{stream} {length}" + (" empty" if length == 0 else "")
+    return f"{of} ; {of} ; {index}{stream} 2"
+
+
+NAMED_TYPES = ("1504", "1505", "1519", "1609", "1506", "1507")
+NAMED_MEMBERS = ("1502", "150d", "150e", "150f", "1510")
+
+
+def name_in(line, leaves):
+    """Of a record's line the name that the crate's `name` gives (docs/DECISIONS.md, 31)."""
+    if not line.startswith("0 "):
+        return line
+    name = re.search(r" name=(\S+)", line) if line.split()[1] in leaves else None
+    return "0 " + (name.group(1) if name else "-")
+
+
 def by_rule(words, primitive):
     """The line of a command that only the port takes."""
     kind, n = words[0], words[1:]
@@ -229,12 +266,23 @@ def by_rule(words, primitive):
         return marker_line(n[0] == "i", int(n[1]), primitive)
     if kind == "element":
         return element_line(blob(n[1]), int(n[0]))
-    if kind == "idelement":
+    if kind in ("idelement", "idat"):
         return id_element_line(blob(n[1]), int(n[0]))
+    if kind == "membername":
+        return name_in(element_line(blob(n[1]), int(n[0])), NAMED_MEMBERS)
+    if kind == "signs":
+        return signs_line(blob(n[1]), int(n[0]))
+    if kind == "count":
+        return count_line(blob(n[0]))
+    if kind == "cross":
+        return "ti." if int(n[0]) >= 2 ** 31 else "."
+    if kind == "item":
+        return item_line(n[0], int(n[1]), int(n[3]))
     return None
 
 
-PORT_ONLY = ("next", "create", "update", "findin", "maxindex", "view", "marker", "element", "idelement")
+PORT_ONLY = ("next", "create", "update", "findin", "maxindex", "view", "marker", "element", "idelement", "signs", "count", "cross", "item",
+             "membername", "idat")
 
 
 # ---- the crate's lines ----
@@ -310,6 +358,14 @@ def by_crate(words, o, why):
     kind = words[0]
     if kind == "type" or kind == "itemtype" and int(words[1]) >= 4096:
         return [record_line(o[0], blob(words[-1]), why)]
+    if kind == "name":
+        line, reasons = layouts.type_record(blob(words[1]))
+        name = name_in(line, NAMED_TYPES)
+        if o != [name] and not line.endswith(f" ; end {o[0]}"):
+            if not reasons:
+                raise Unexplained(f"{' '.join(words)}: the crate {o}, layouts.py {name}")
+            why.update(reasons)
+        return [name]
     if kind in ("unsigned", "signed"):
         return [number_line(o[0], blob(words[1]), kind == "signed", why)]
     if kind in ("walk", "parse", "parseids"):
@@ -495,6 +551,31 @@ def word_commands(rng):
         yield f"padding {data}"
 
 
+def small_commands():
+    """The functions that no other command asks."""
+    for p in (0, 1, 7, 8, 9, 15, 16, 17, 2 ** 64 - 1):
+        for s in ("-", "00" * 8, "ff" * 9, "80" + "00" * 7 + "80", "0000008000000000017f", "0100" * 4):
+            yield f"signs {p} {s}"
+    for s in (b"", header(), header(4096, 4096), header(4096, TOP), header()[:55], header(size=55), header(size=1025), header(4095), header(4096, 4095)):
+        yield f"count {hexed(s)}"
+    for n in (0, 4096, 2 ** 31 - 1, 2 ** 31, TOP):
+        yield f"cross {n}"
+    for stream in "ti":
+        for n, place, length in ((0, 0, 0), (4096, 56, 8), (TOP, 2 ** 64 - 1, 2 ** 64 - 1)):
+            yield f"item {stream} {n} {place} {length}"
+    for record in GOOD_TYPES.values():
+        yield f"name {hexed(packed(record))}"
+        yield f"name {hexed(packed(record)[:-1])}"
+        for k in (0, 1, 2):
+            yield f"membername {k} {hexed(packed(record))}"
+    for record in GOOD_MEMBERS.values():
+        yield f"membername 0 {hexed(packed('0312' + record))}"
+        yield f"membername 1 {hexed(packed('0312' + record))}"
+    for record in list(GOOD_IDS.values()) + ["", "01", GOOD_TYPES[0x1201]]:
+        for k in (0, 1, 2, TOP):
+            yield f"idat {k} {hexed(packed(record))}"
+
+
 def stream_commands(rng):
     good = header() + packed("0200 0000 0300 010203")
     for n in range(57):
@@ -591,7 +672,7 @@ def numbers_in(words, lines):
         elif words[0] in ("find", "findids", "prim"):
             if parts[0].isdigit() and len(parts) > 1:
                 yield int(parts[1])
-        elif words[0] not in ("word", "opttype", "optid", "maxindex"):
+        elif words[0] not in ("word", "opttype", "optid", "maxindex", "signs", "cross", "item"):
             yield int(parts[0])
         yield from (int(n) for n in re.findall(r" ; end (\d+)", line))
         yield from (12 for _ in re.findall(r"=r12", line))
@@ -661,7 +742,7 @@ def main():
     oracle, replay = (os.path.abspath(w) for w in words)
     make_inputs.rng.seed(seed)
     rng = make_inputs.rng
-    commands = [c for c, _ in EXAMPLES] + NO_COMMANDS + list(record_commands(rng)) + list(word_commands(rng)) + list(stream_commands(rng))
+    commands = [c for c, _ in EXAMPLES] + NO_COMMANDS + list(small_commands()) + list(record_commands(rng)) + list(word_commands(rng)) + list(stream_commands(rng))
     commands = list(dict.fromkeys(commands))
     problems = compare.listed()
     crate = [c for c in commands if c.split()[0] not in PORT_ONLY]

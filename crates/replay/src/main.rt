@@ -2,6 +2,7 @@
 // of vectors can be run against it. Each line comes from one public function of the libraries.
 mod items;
 mod numbers;
+mod small;
 
 use finder::ItemFinder;
 use input::Arguments;
@@ -181,7 +182,7 @@ fn find(
     let Begun::On(f) = b else {
         return from;
     };
-    stream_lines::places(places, f);
+    stream_lines::places(places, f, ids);
     lookups(buffer, from, s, ids, places, f)
 }
 
@@ -193,7 +194,8 @@ fn name_of(letters: &[u8; 16], n: usize) -> Name {
         b"header:a walk:a parse:a parseids:a type:a id:a kind:a padding:a unsigned:a signed:a \
           prim:nn opttype:n optid:n maxindex:nnn word:wnnn \
           itemtype:na itemid:na string:na element:na idelement:na \
-          next:ann create:at update:nnntnn findin:annntn view:abwnn marker:wn find:aun findids:aun ",
+          next:ann create:at update:nnntnn findin:annntn view:abwnn marker:wn find:aun findids:aun \
+          signs:na count:a cross:n item:wnnn name:a membername:na idat:na ",
     )
 }
 
@@ -208,6 +210,10 @@ fn carry_out<'a>(
 ) -> Input {
     if command < 26 {
         answer(command, tpi, ipi, places, a.places, n);
+        return a.input;
+    }
+    if 27 < command {
+        small::answer(command, tpi, n);
         return a.input;
     }
     find(buffer, a.input, tpi, command == 27, places, n[0] == 1, n[1])

@@ -5,6 +5,8 @@ use common::index::TypeIndex;
 use finder::FindAnswer;
 use finder::FinderAnswer;
 use finder::ItemFinder;
+use finder::lent::UpdateAnswer;
+use finder::lent::UpdateStep;
 use header::Header;
 use header::HeaderAnswer;
 use item::Entry;
@@ -204,18 +206,18 @@ pub fn create(s: &[u8], t: &mut [u32], n: usize) {
 }
 
 // The number, and the places held after the call.
-fn updated(f: ItemFinder, a: FinderAnswer) {
-    match a {
-        FinderAnswer::Answered(g) => lines::field(b"0 held=", g.held as u64),
-        FinderAnswer::Refused(e) => {
-            lines::refusal(e);
-            lines::field(b" held=", f.held as u64);
-        }
+fn updated(u: UpdateStep) {
+    let answer = u.answer;
+    let finder = u.finder;
+    match answer {
+        UpdateAnswer::Answered => lines::put(b"0"),
+        UpdateAnswer::Refused(e) => lines::refusal(e),
     }
+    lines::field(b" held=", finder.held as u64);
 }
 
 fn update_lent(f: ItemFinder, t: &mut [u32], c: ItemIter) {
-    updated(f, finder::update(t, f, c));
+    updated(finder::lent::update_local(f, t, c));
     lent(t);
 }
 
@@ -242,8 +244,8 @@ fn found(e: Entry, passed: u32) {
     }
 }
 
-fn find(s: &[u8], t: &[u32], f: ItemFinder, i: ItemIndex) {
-    match finder::find(s, t, f, i) {
+fn find_line(a: FindAnswer) {
+    match a {
         FindAnswer::Found(e, passed) => found(e, passed),
         FindAnswer::Refused(e) => lines::refusal(e),
     }
@@ -254,26 +256,36 @@ fn find(s: &[u8], t: &[u32], f: ItemFinder, i: ItemIndex) {
 pub fn lookup(s: &[u8], t: &[u32], f: ItemFinder, ids: bool, n: u32) {
     lines::number(n as u64);
     lines::put(b" ");
-    find(s, t, f, index_in(ids, n));
+    if ids {
+        find_line(finder::find_id(s, t, f, IdIndex(n)));
+        return;
+    }
+    find_line(finder::find_type(s, t, f, TypeIndex(n)));
 }
 
 // The same over the first n places.
 pub fn find_lent(s: &[u8], t: &[u32], n: usize, f: ItemFinder, i: ItemIndex) {
     if n <= t.len() {
-        find(s, &t[0..n], f, i);
+        find_line(finder::find(s, &t[0..n], f, i));
     }
 }
 
 pub fn max_index(f: ItemFinder) {
-    let t = f.max_type_index();
-    lines::form2(b"#\n", &[t.0 as u64, 0]);
+    let i = f.max_index(Stream::Types);
+    lines::form2(b"#\n", &[i.number() as u64, 0]);
 }
 
-pub fn places(t: &[u32], f: ItemFinder) {
+fn max_typed(f: ItemFinder, ids: bool) -> u32 {
+    if ids {
+        return f.max_id_index().0;
+    }
+    f.max_type_index().0
+}
+
+pub fn places(t: &[u32], f: ItemFinder, ids: bool) {
     lines::put(b"places [");
     table(t, f.held, b", ");
-    lines::put(b"]\nmax ");
-    max_index(f);
+    lines::form2(b"]\nmax #\n", &[max_typed(f, ids) as u64, 0]);
 }
 
 // The finder after n records. 65,536 bytes cannot fill a table of 8,192 places, so that a turn is refused only where the iterator refuses.

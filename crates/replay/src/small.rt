@@ -1,0 +1,204 @@
+// The lines of small functions that no other command asks: the signs of signed fields, counts, cross-module indices, items and entries, names,
+// and elements of ids by the functions on bytes.
+use common::field;
+use common::field::ReadI8;
+use common::field::ReadI16;
+use common::field::ReadI32;
+use common::field::ReadI64;
+use common::index::IdIndex;
+use common::index::TypeIndex;
+use common::text::OptString;
+use data::TypeAnswer;
+use item::Entry;
+use item::Item;
+use item::ItemIndex;
+use item::Stream;
+use item::information::EmptyAnswer;
+use item::information::LenAnswer;
+use lists::Element;
+use lists::ElementAnswer;
+use lists::IdElement;
+use lists::IdElementAnswer;
+
+fn put_if(b: bool, text: &[u8]) {
+    if b {
+        lines::put(text);
+    }
+}
+
+// `-`, `0` or `+`; `1` where the field passes the end.
+
+fn sign(negative: bool, zero: bool) {
+    if negative {
+        lines::put(b"-");
+        return;
+    }
+    if zero {
+        lines::put(b"0");
+        return;
+    }
+    lines::put(b"+");
+}
+
+fn sign8(s: &[u8], p: usize) {
+    match field::i8_at(s, p) {
+        ReadI8::Got(v, _) => sign(v < 0, v == 0),
+        ReadI8::Ended => lines::put(b"1"),
+    }
+}
+
+fn sign16(s: &[u8], p: usize) {
+    match field::i16_at(s, p) {
+        ReadI16::Got(v, _) => sign(v < 0, v == 0),
+        ReadI16::Ended => lines::put(b"1"),
+    }
+}
+
+fn sign32(s: &[u8], p: usize) {
+    match field::i32_at(s, p) {
+        ReadI32::Got(v, _) => sign(v < 0, v == 0),
+        ReadI32::Ended => lines::put(b"1"),
+    }
+}
+
+fn sign64(s: &[u8], p: usize) {
+    match field::i64_at(s, p) {
+        ReadI64::Got(v, _) => sign(v < 0, v == 0),
+        ReadI64::Ended => lines::put(b"1"),
+    }
+}
+
+fn signs(s: &[u8], p: usize) {
+    sign8(s, p);
+    sign16(s, p);
+    sign32(s, p);
+    sign64(s, p);
+}
+
+// A stream's count, and whether it is empty.
+
+fn empty(s: &[u8]) {
+    match item::information::is_empty(s) {
+        EmptyAnswer::Answered(b) => put_if(b, b" empty"),
+        EmptyAnswer::Refused(_) => {}
+    }
+}
+
+fn count(s: &[u8]) {
+    match item::information::len(s) {
+        LenAnswer::Answered(n) => {
+            lines::field(b"0 ", n as u64);
+            empty(s);
+        }
+        LenAnswer::Refused(e) => lines::refusal(e),
+    }
+}
+
+fn cross(n: u32) {
+    put_if(TypeIndex(n).is_cross_module(), b"t");
+    put_if(IdIndex(n).is_cross_module(), b"i");
+    lines::put(b".");
+}
+
+// An index with its stream, a length, and whether there is none of it: of an item, of its entry, and of the marker with its index.
+
+fn index(i: ItemIndex) {
+    lines::number(i.number() as u64);
+    match i.stream() {
+        Stream::Types => lines::put(b"t "),
+        Stream::Ids => lines::put(b"i "),
+    }
+}
+
+fn entry(e: Entry) {
+    lines::put(b" ; ");
+    index(e.index());
+    lines::number(e.len() as u64);
+    put_if(e.is_empty(), b" empty");
+}
+
+fn item(ids: bool, n: u32, place: usize, length: usize) {
+    let i = Item {
+        index: stream_lines::index_in(ids, n),
+        place: place,
+        length: length,
+    };
+    index(i.index());
+    lines::number(i.len() as u64);
+    put_if(i.is_empty(), b" empty");
+    entry(Entry::Record(i));
+    entry(Entry::Marker(i.index()));
+}
+
+// Names.
+
+fn optional(t: OptString) {
+    lines::put(b"0 ");
+    match t {
+        OptString::None => lines::put(b"-"),
+        OptString::Some(x) => lines::part(x.place as u64, x.length as u64),
+    }
+}
+
+fn name(s: &[u8]) {
+    match data::type_data(s) {
+        TypeAnswer::Answered(d) => optional(d.name()),
+        TypeAnswer::Refused(e) => lines::refusal(e),
+    }
+}
+
+fn element_name(e: Element) {
+    match e {
+        Element::Member(m) => optional(m.name()),
+        _ => lines::put(b"0 -"),
+    }
+}
+
+fn member_name(s: &[u8], k: u32) {
+    match lists::element_at(s, k) {
+        ElementAnswer::Answered(e) => element_name(e),
+        ElementAnswer::Refused(e) => lines::refusal(e),
+    }
+}
+
+fn id_at(s: &[u8], k: u32) {
+    match lists::element_at_ids(s, k) {
+        IdElementAnswer::Answered(e) => match e {
+            IdElement::Id(i) => lines::field(b"0 ", i.0 as u64),
+            IdElement::Type(t) => lines::field(b"0 ", t.0 as u64),
+        },
+        IdElementAnswer::Refused(e) => lines::refusal(e),
+    }
+}
+
+fn on_numbers(command: u8, n: &[u64; 8]) {
+    if command == 30 {
+        cross(input::low32(n[0]));
+        return;
+    }
+    item(
+        crate::is_ids(n[0]),
+        input::low32(n[1]),
+        n[2] as usize,
+        n[3] as usize,
+    );
+}
+
+fn on_bytes(command: u8, s: &[u8], n: u64) {
+    match command {
+        28 => signs(s, n as usize),
+        29 => count(s),
+        32 => name(s),
+        33 => member_name(s, input::low32(n)),
+        _ => id_at(s, input::low32(n)),
+    }
+}
+
+pub fn answer(command: u8, s: &[u8], n: &[u64; 8]) {
+    if command == 30 || command == 31 {
+        on_numbers(command, n);
+    } else {
+        on_bytes(command, s, n[0]);
+    }
+    lines::put(b"\n");
+}
