@@ -1,4 +1,7 @@
 // The lines of items: a stream walked, with the records under its items, and an item that stands alone.
+use crate::lines;
+use crate::record_lines;
+use crate::stream_lines;
 use item::Entry;
 use item::Item;
 use item::iter::ItemIter;

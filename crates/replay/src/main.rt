@@ -1,8 +1,12 @@
 // Answers the commands of compare/PROTOCOL.md: reads them from standard input, one to a line, and prints the port's answers, so that any list
 // of vectors can be run against it. Each line comes from one public function of the libraries.
+mod input;
 mod items;
+mod lines;
 mod numbers;
+mod record_lines;
 mod small;
+mod stream_lines;
 
 use finder::ItemFinder;
 use input::Arguments;

@@ -1,4 +1,6 @@
 // The lines of single numbers: primitives, attribute words, optional indices, strings, padding and numeric leaves.
+use crate::input;
+use crate::lines;
 use answer::Refusal;
 use common::index::IdIndex;
 use common::index::TypeIndex;

@@ -1,5 +1,8 @@
 // The lines of small functions that no other command asks: the signs of signed fields, counts, cross-module indices, items and entries, names,
 // and elements of ids by the functions on bytes.
+use crate::input;
+use crate::lines;
+use crate::stream_lines;
 use common::field;
 use common::field::ReadI8;
 use common::field::ReadI16;
