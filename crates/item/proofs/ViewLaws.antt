@@ -9,7 +9,7 @@ use lib.Dec.{ltb}
 use borrow.Author.Tests.{le-ltb, lt-ltb}
 use Rattle.answer.specs.Answer.{answered, refused, pick, stop}
 use Rattle.common.specs.Fields.{orZero}
-use Rattle.common.specs.Texts.{bytesAt}
+use Rattle.text.specs.Texts.{bytesAt}
 use Rattle.common.proofs.FieldLaws.{or-zero-there}
 use Rattle.item.specs.Views.{partOf, within, kindAt}
 
@@ -36,7 +36,7 @@ module _ (s : List ℕ) (p n : ℕ) where
       let w : p + 2 ≤ length s = omega arith in
       simp (le-ltb _ _ a, le-ltb _ _ h, or-zero-there 2 s p w)
 
--- the bytes of a part, as `common::text::bytes_at` gives them
+-- the bytes of a part, as `text::bytes_at` gives them
 pub within-bytes : (n : ℕ) (s : List ℕ) (p : ℕ) → bytesAt n s p ≡ within s (partOf s p n)
 unfolding bytesAt partOf
 within-bytes n s p = go (ltb (length s) (p + n))

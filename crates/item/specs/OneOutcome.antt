@@ -2,7 +2,7 @@
 use mathlib.Core.Path.{_≡_, refl}
 use Rattle.answer.specs.OneOutcome.{one-of, heard, heard-no}
 use Rattle.item.specs.Iterator.{Next, done, yielded, saidIter, saidNext}
-use Rattle.common.specs.Texts.{Part}
+use Rattle.text.specs.Texts.{Part}
 use Rattle.item.specs.Views.{saidView, saidKind}
 use Rattle.item.specs.Information.{saidLen, saidEmpty}
 use Rattle.item.specs.declared.iter.IterAnswer.{IterAnswer}

@@ -6,7 +6,7 @@ use lib.Dec.{ltb}
 use Rattle.answer.specs.Answer.{Answer, answered, refused, stop}
 use Rattle.answer.specs.Refusals.{no}
 use Rattle.common.specs.Fields.{le}
-use Rattle.common.specs.Texts.{Part}
+use Rattle.text.specs.Texts.{Part}
 use Rattle.header.specs.Header.{longest}
 use Rattle.item.specs.Items.{numberIn, indexOf}
 use Rattle.item.specs.declared.ItemIndex.{ItemIndex}

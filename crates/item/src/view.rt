@@ -5,7 +5,6 @@ use crate::Entry;
 use crate::ItemIndex;
 use answer::Refusal;
 use common::field;
-use common::text;
 use header::LONGEST;
 
 // The payload's place and length in the stream that the entry names.

@@ -3,10 +3,6 @@
 use attributes::FieldAttributes;
 use common::index::OptIdIndex;
 use common::index::OptTypeIndex;
-use common::number::Number;
-use common::number::Variant;
-use common::text::OptString;
-use common::text::RawString;
 use data::ArrayType;
 use data::BitfieldType;
 use data::ClassKind;
@@ -32,6 +28,10 @@ use member::MethodListEntry;
 use member::MethodType;
 use member::OptOffset;
 use member::VirtualBaseClassType;
+use number::Number;
+use number::Variant;
+use text::OptString;
+use text::RawString;
 
 // The sum of two numbers, from the start again past the largest.
 pub fn add(a: u64, b: u64) -> u64 {

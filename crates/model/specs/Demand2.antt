@@ -13,7 +13,7 @@ use Rattle.common.specs.declared.index.TypeIndex.{TypeIndex}
 use Rattle.common.specs.declared.index.IdIndex.{IdIndex}
 use Rattle.common.specs.Fields.{le}
 use Rattle.common.specs.Indices.{noType, noId, optionalAt}
-use Rattle.common.specs.Texts.{stringOf, paddingAfter}
+use Rattle.text.specs.Texts.{stringOf, paddingAfter}
 use Rattle.primitive.specs.Primitive.{primitiveOf}
 use Rattle.attributes.specs.Bits.{bit, bits}
 use Rattle.attributes.specs.Words.{mocomOf, methodProperty, introducing}

@@ -14,8 +14,8 @@ use Rattle.answer.specs.Answer.{got, ended, pick}
 use Rattle.answer.specs.Tables.{among}
 use Rattle.common.specs.Fields.{le}
 use Rattle.common.specs.Indices.{noType, noId, optionalOf, optionalAt}
-use Rattle.common.specs.Texts.{toZero, stringAt, bytesAfter, countedStringAt, stringOf, more, pad, paddingAfter}
-use Rattle.common.proofs.PadLaws.{pad-end, pad-stop, pad-more, pad-cut}
+use Rattle.text.specs.Texts.{toZero, stringAt, bytesAfter, countedStringAt, stringOf, more, pad, paddingAfter}
+use Rattle.text.proofs.PadLaws.{pad-end, pad-stop, pad-more, pad-cut}
 use Rattle.model.specs.Rust.{Rust, gives, errs, if, or, UnexpectedEof, usize}
 use Rattle.model.specs.ParseBuffer.{ParseBuffer, at, Bytes, beyond, parse, position, parse-cstring, parse-u8-pascal-string}
 use Rattle.model.specs.TpiHelpers.{parse-optional-type-index, parse-optional-id-index, parse-string, pad-byte, padding-loop, parse-padding, is-cross-module}

@@ -12,7 +12,7 @@ use Rattle.answer.specs.Answer.{answered}
 use Rattle.answer.specs.Tables.{find}
 use Rattle.common.specs.Fields.{le}
 use Rattle.common.specs.Indices.{noId, optionalOf, idSaid}
-use Rattle.common.specs.Texts.{bytesAfter}
+use Rattle.text.specs.Texts.{bytesAfter}
 use Rattle.layout.specs.Fields.{readField, readFields}
 use Rattle.layout.specs.Layouts.{idLeaves, readLeaf, leafOf, recordOf}
 use Rattle.layout.specs.OneOutcome.{option-back}

@@ -11,7 +11,7 @@ use lib.Dec.{eqb}
 use borrow.Author.Tests.{le-ltb, lt-ltb, ne-eqb}
 use Rattle.answer.specs.Answer.{Answer, answered, refused, pick}
 use Rattle.common.specs.Fields.{le}
-use Rattle.common.specs.Texts.{Part, bytesAfter}
+use Rattle.text.specs.Texts.{Part, bytesAfter}
 use Rattle.layout.specs.Fields.{Value, number, readField, readFields}
 use Rattle.layout.specs.OneOutcome.{nth, numberIn}
 use Rattle.lists.specs.Lists.{Entry, typeEntry, idEntry, methodEntry, memberEntry, inCounted, elementsAt, counted, startIdsOf, countedStep, stepIdsOf, elementBy, elementIdsOf}

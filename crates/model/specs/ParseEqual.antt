@@ -6,7 +6,7 @@ use native.Mathlib.Omega.{arith}
 use lib.ListN.{length, take as front, drop}
 use borrow.Author.Tests.{le-ltb, lt-ltb}
 use Rattle.answer.specs.Answer.{Answer, answered, refused, then}
-use Rattle.common.specs.Texts.{Part}
+use Rattle.text.specs.Texts.{Part}
 use Rattle.common.specs.Fields.{le, fixedAt}
 use Rattle.common.specs.declared.index.TypeIndex.{TypeIndex}
 use Rattle.common.specs.declared.index.IdIndex.{IdIndex}

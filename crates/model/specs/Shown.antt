@@ -7,7 +7,7 @@ use lib.ListN.{length, take as front, drop}
 use lib.Dec.{eqb}
 use Rattle.answer.specs.Answer.{Answer, answered, refused, Got, pick}
 use Rattle.common.specs.Fields.{le}
-use Rattle.common.specs.Texts.{Part}
+use Rattle.text.specs.Texts.{Part}
 use Rattle.item.specs.Items.{numberIn as indexShown}
 use Rattle.item.specs.Iterator.{Next, done, yielded}
 use Rattle.item.specs.declared.Item.{Item as PortItem}
@@ -16,7 +16,7 @@ use Rattle.item.specs.declared.Entry.the-variants.{Record, Marker}
 use Rattle.item.specs.declared.iter.ItemIter.{ItemIter as PortIter}
 use Rattle.finder.specs.Finder.{State, Found}
 use Rattle.common.specs.Indices.{idSaid}
-use Rattle.common.specs.declared.text.RawString.{RawString}
+use Rattle.text.specs.declared.RawString.{RawString}
 use Rattle.answer.specs.Refusals.{no}
 use Rattle.layout.specs.Fields.{Value}
 use Rattle.layout.specs.OneOutcome.{nth, numberIn, optionIn, stringIn}

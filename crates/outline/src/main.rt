@@ -3,7 +3,6 @@
 use answer::Refusal;
 use common::index::OptTypeIndex;
 use common::index::TypeIndex;
-use common::text::OptString;
 use data::ClassType;
 use data::TypeData;
 use finder::FindAnswer;
@@ -19,6 +18,7 @@ use lists::StepAnswer;
 use member::Member;
 use member::MemberType;
 use record::ParseAnswer;
+use text::OptString;
 use walk::WalkAnswer;
 
 fn put(text: &[u8]) {

@@ -13,8 +13,8 @@ use Rattle.answer.specs.OneOutcome.{in-table}
 use Rattle.answer.specs.declared.Refusal.{Refusal}
 use Rattle.common.specs.Fields.{fixedAt, signedAt}
 use Rattle.common.specs.Indices.{noType, noId, optionalAt}
-use Rattle.common.specs.Texts.{stringAt, countedStringAt, stringOf, bytesAfter, paddingAfter}
-use Rattle.common.specs.Numbers.{numericAt, sizeAt}
+use Rattle.text.specs.Texts.{stringAt, countedStringAt, stringOf, bytesAfter, paddingAfter}
+use Rattle.number.specs.Numbers.{numericAt, sizeAt}
 use Rattle.primitive.specs.Primitive.{primitiveOf}
 use Rattle.attributes.specs.Pointers.{kindOf, modeOf, toMemberOf, referenceOf, sizeOf}
 use Rattle.header.specs.Header.{headerOf}

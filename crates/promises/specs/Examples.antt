@@ -7,7 +7,7 @@ use lib.ListN.{take}
 use Rattle.answer.specs.Answer.{Answer, answered, refused, then}
 use Rattle.answer.specs.Tables.{find}
 use Rattle.common.specs.Fields.{le}
-use Rattle.common.specs.Texts.{pad, paddingAfter}
+use Rattle.text.specs.Texts.{pad, paddingAfter}
 use Rattle.primitive.specs.Kinds.{kinds, indirections}
 use Rattle.primitive.specs.Primitive.{primitiveOf}
 use Rattle.primitive.specs.declared.PrimitiveKind.{PrimitiveKind}

@@ -9,9 +9,11 @@ use Rattle.answer.specs.OneOutcome.{one-details}
 use Rattle.answer.specs.declared.Refusal.{Refusal}
 use Rattle.common.specs.Fields.{fixedAt, signedAt, said8, said16, said32, said64, saidI8, saidI16, saidI32, saidI64}
 use Rattle.common.specs.Indices.{noType, noId, optionalOf, optionalAt, saidType, saidId, saidStringRef, typeSaid, idSaid, saidOptType, saidOptId}
-use Rattle.common.specs.Texts.{stringAt, countedStringAt, stringOf, bytesAfter, paddingAfter, stringSaid, saidString, saidAfter}
-use Rattle.common.specs.Numbers.{numericAt, sizeAt, saidVariant, saidSize}
-use Rattle.common.specs.OneOutcome.{one-u8, one-u16, one-u32, one-u64, one-i8, one-i16, one-i32, one-i64, one-type, one-id, one-string-ref, one-optional-type, one-optional-id, one-read-type, one-read-id, one-optional-string, one-string, one-after, one-variant, one-size}
+use Rattle.text.specs.Texts.{stringAt, countedStringAt, stringOf, bytesAfter, paddingAfter, stringSaid, saidString, saidAfter}
+use Rattle.number.specs.Numbers.{numericAt, sizeAt, saidVariant, saidSize}
+use Rattle.common.specs.OneOutcome.{one-u8, one-u16, one-u32, one-u64, one-i8, one-i16, one-i32, one-i64, one-type, one-id, one-string-ref, one-optional-type, one-optional-id, one-read-type, one-read-id}
+use Rattle.text.specs.OneOutcome.{one-optional-string, one-string, one-after}
+use Rattle.number.specs.OneOutcome.{one-variant, one-size}
 use Rattle.common.specs.declared.index.TypeIndex.{TypeIndex}
 use Rattle.common.specs.declared.index.IdIndex.{IdIndex}
 use Rattle.primitive.specs.Primitive.{primitiveOf, saidPrimitive}

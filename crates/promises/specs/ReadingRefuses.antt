@@ -12,8 +12,8 @@ use Rattle.answer.specs.Tables.{Line, _is_, find, among}
 use Rattle.answer.specs.Refusals.{listed, detailCounts}
 use Rattle.common.specs.Fields.{fixedAt, signedAt}
 use Rattle.common.specs.Indices.{noType, noId, optionalAt}
-use Rattle.common.specs.Texts.{toZero, partOr, stringAt, bytesAfter, countedStringAt, stringOf, pad, more, paddingAfter}
-use Rattle.common.specs.Numbers.{Wide, signed, unsigned, prefixes, unsignedAt, wideAt, numericAt, natural, sizeAt}
+use Rattle.text.specs.Texts.{toZero, partOr, stringAt, bytesAfter, countedStringAt, stringOf, pad, more, paddingAfter}
+use Rattle.number.specs.Numbers.{Wide, signed, unsigned, prefixes, unsignedAt, wideAt, numericAt, natural, sizeAt}
 use Rattle.layout.specs.Fields.{Field, fixed, type, optionalType, optionalId, word, gap, numeric, size, string, run, when, bytesOf, wordAfter, readField, readFields}
 use Rattle.layout.specs.Layouts.{Layout, Table, class as classLayout, kind, mode, typeLeaves, memberLeaves, method, idLeaves, byLayout, readLeaf, readRecord, leafOf, recordOf}
 use Rattle.promises.specs.ByTable.{fits, gives, refuses, by-pick, by-stop, by-then, within, wider, Refuses}

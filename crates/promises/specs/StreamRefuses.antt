@@ -10,7 +10,7 @@ use Rattle.answer.specs.Answer.{Answer, answered, refused, pick, stop, then}
 use Rattle.answer.specs.Tables.{Line, find, among}
 use Rattle.answer.specs.Refusals.{listed, detailCounts}
 use Rattle.common.specs.Fields.{le, fixedAt}
-use Rattle.common.specs.Texts.{bytesAfter, paddingAfter}
+use Rattle.text.specs.Texts.{bytesAfter, paddingAfter}
 use Rattle.primitive.specs.Kinds.{kinds, indirections}
 use Rattle.primitive.specs.Primitive.{known, primitiveOf}
 use Rattle.attributes.specs.Bits.{bits}
@@ -34,7 +34,7 @@ use Rattle.finder.specs.Finder.{State, distance, begunBy, createOf, createBy, d
 use Rattle.walk.specs.Walk.{Turn, updating, turnBy, turnOf}
 use Rattle.layout.specs.Fields.{Value, Field, readFields}
 use Rattle.layout.specs.Layouts.{T, id, typeLeaves, idLeaves, memberLeaves, method, readRecord, recordOf}
-use Rattle.common.specs.Texts.{Part}
+use Rattle.text.specs.Texts.{Part}
 use Rattle.lists.specs.Lists.{Entry as Element, Step, elementsAt, counted, startOf, startIdsOf, countedStep, methodStep, memberStep, nextMember, stepOf, stepIdsOf, elementBy, elementOf, elementIdsOf, typeEntry, idEntry}
 use Rattle.lists.specs.declared.ListCursor.{ListCursor}
 use Rattle.record.specs.Record.{bytes, numberedOf, typeBytes, idBytes, typeItem, typeMarker, itemOf, markerOf, entryOf as parsedOf, parseOf}

@@ -5,7 +5,7 @@ use lib.ListN.{length, take, drop}
 use lib.Dec.{ltb}
 use Rattle.answer.specs.Answer.{Answer, answered, refused, pick, stop, then}
 use Rattle.answer.specs.Refusals.{no}
-use Rattle.common.specs.Texts.{Part}
+use Rattle.text.specs.Texts.{Part}
 use Rattle.primitive.specs.Primitive.{primitiveOf}
 use Rattle.primitive.specs.declared.PrimitiveType.{PrimitiveType}
 use Rattle.layout.specs.Fields.{Value}

@@ -4,11 +4,11 @@ use crate::lines;
 use answer::Refusal;
 use common::index::IdIndex;
 use common::index::TypeIndex;
-use common::number::ReadSize;
-use common::number::ReadVariant;
-use common::text::After;
-use common::text::ReadString;
+use number::ReadSize;
+use number::ReadVariant;
 use primitive::PrimitiveAnswer;
+use text::After;
+use text::ReadString;
 
 fn primitive_line(n: u32) {
     lines::form2(b"# ", &[n as u64, 0]);
@@ -66,7 +66,7 @@ fn ended() {
 }
 
 pub fn string(leaf: u16, s: &[u8]) {
-    match common::text::string_of(leaf, s, 0) {
+    match text::string_of(leaf, s, 0) {
         ReadString::Got(t, q) => lines::form4(
             b"0 @ next=#\n",
             &[t.place as u64, t.length as u64, q as u64, 0],
@@ -76,14 +76,14 @@ pub fn string(leaf: u16, s: &[u8]) {
 }
 
 pub fn padding(s: &[u8]) {
-    match common::text::after_padding(s, 0) {
+    match text::after_padding(s, 0) {
         After::At(q) => lines::form2(b"0 #\n", &[q as u64, 0]),
         After::Ended => ended(),
     }
 }
 
 pub fn unsigned(s: &[u8]) {
-    match common::number::size_at(s, 0) {
+    match number::size_at(s, 0) {
         ReadSize::Got(n, q) => lines::form2(b"0 # next=#", &[n.value, q as u64]),
         ReadSize::Refused(e) => lines::refusal(e),
     }
@@ -91,7 +91,7 @@ pub fn unsigned(s: &[u8]) {
 }
 
 pub fn signed(s: &[u8]) {
-    match common::number::number_at(s, 0) {
+    match number::number_at(s, 0) {
         ReadVariant::Got(v, q) => {
             let value = v.value;
             lines::put(b"0 ");

@@ -3,8 +3,6 @@
 use crate::lines;
 use answer::Refusal;
 use common::index::TypeIndex;
-use common::text::OptString;
-use common::text::RawString;
 use data::ArrayType;
 use data::BitfieldType;
 use data::ClassKind;
@@ -44,6 +42,8 @@ use member::OverloadedMethodType;
 use member::StaticMemberType;
 use member::VirtualBaseClassType;
 use record::ParseAnswer;
+use text::OptString;
+use text::RawString;
 
 // The place and the length of a string that may be absent, as a form takes them.
 

@@ -10,7 +10,6 @@ use common::field::ReadI32;
 use common::field::ReadI64;
 use common::index::IdIndex;
 use common::index::TypeIndex;
-use common::text::OptString;
 use data::TypeAnswer;
 use item::Entry;
 use item::Item;
@@ -22,6 +21,7 @@ use lists::Element;
 use lists::ElementAnswer;
 use lists::IdElement;
 use lists::IdElementAnswer;
+use text::OptString;
 
 fn put_if(b: bool, text: &[u8]) {
     if b {
