@@ -138,6 +138,30 @@ pub fn next_id_of(bytes: &[u8], cursor: ListCursor) -> IdStepAnswer
     ListReader::new(bytes, cursor).next_id()
 }
 
+// A step in place, through a reader: what it answers, and where the reader stands after it. Of the type side.
+pub fn step_of(bytes: &[u8], cursor: ListCursor) -> Stepped
+    ensures { λ u. ⌜ Steps cursor (stepOf (now (bytes .entry)) cursor) (u .answer) (u .cursor) ⌝ }
+{
+    let mut r = ListReader { bytes, cursor };
+    let answer = r.step();
+    Stepped {
+        cursor: r.cursor,
+        answer,
+    }
+}
+
+// The same of the id side.
+pub fn step_id_of(bytes: &[u8], cursor: ListCursor) -> SteppedIds
+    ensures { λ u. ⌜ StepsIds cursor (stepIdsOf (now (bytes .entry)) cursor) (u .answer) (u .cursor) ⌝ }
+{
+    let mut r = ListReader { bytes, cursor };
+    let answer = r.step_id();
+    SteppedIds {
+        cursor: r.cursor,
+        answer,
+    }
+}
+
 // Element k from a cursor on, of the type side, through a reader.
 pub fn element_of(bytes: &[u8], cursor: ListCursor, k: u32) -> ElementAnswer
     ensures { λ r. ⌜ saidElement r ≡ elementBy (stepOf (now (bytes .entry))) k cursor ⌝ }
