@@ -143,7 +143,7 @@ pub record OneOutcome : Type 1 where
   pub element-from-ids : (s : List ℕ) (c : ListCursor) (k : ℕ) → Once (λ r. saidElementIds r ≡ elementBy (stepIdsOf s) k c)
   pub element-at : (s : List ℕ) (k : ℕ) → Once (λ r. saidElement r ≡ elementOf s k)
   pub element-at-ids : (s : List ℕ) (k : ℕ) → Once (λ r. saidElementIds r ≡ elementIdsOf s k)
-  -- reader: `new` and `moved` by the bytes and the cursor; the lent steps
+  -- reader: `new` by the bytes and the cursor; the lent steps
   pub reader-of : (x : ListReader) → Once (λ (r : ListReader). (r .bytes ≡ x .bytes) × (r .cursor ≡ x .cursor))
   pub reader-step : (s : List ℕ) (c : ListCursor) → OnceLent (Steps c (stepOf s c))
   pub reader-step-id : (s : List ℕ) (c : ListCursor) → OnceLent (StepsIds c (stepIdsOf s c))

@@ -1,4 +1,4 @@
--- A reader is its bytes and its cursor, so that the contracts of `new` and `moved` admit one outcome. What the other answers say fixes them
+-- A reader is its bytes and its cursor, so that the contract of `new` admits one outcome. What the other answers say fixes them
 -- by the laws of lists. Assumes nothing.
 use mathlib.Core.Path.{_≡_}
 use Rattle.reader.specs.declared.ListReader.{ListReader}

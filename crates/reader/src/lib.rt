@@ -67,16 +67,6 @@ impl<'a> ListReader<'a> {
         ListReader { bytes, cursor }
     }
 
-    // The same bytes at another cursor: the reader, advanced.
-    pub fn moved(self, cursor: ListCursor) -> ListReader<'a>
-        ensures { λ q. ⌜ (q .bytes ≡ self .entry .bytes) × (q .cursor ≡ cursor) ⌝ }
-    {
-        ListReader {
-            bytes: self.bytes,
-            cursor,
-        }
-    }
-
     // The element at the cursor, and the cursor for the next one, of the type side.
     pub fn next(self) -> StepAnswer
         ensures { λ r. ⌜ saidStep r ≡ stepOf (now (self .entry .bytes)) (self .entry .cursor) ⌝ }
