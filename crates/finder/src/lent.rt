@@ -1,5 +1,6 @@
 // The finder lent, by `&mut` as document 01 has it ("`update` changes the finder in place") and by `&`. Each function is thin over the one
-// by value.
+// by value; above each stands one with plain parameters, `.._local`, which makes the finder in a local and lends it. Who calls that one
+// needs no walk.
 ghost use mathlib.Core.Path.{_≡_};
 ghost use Rattle.finder.specs.Finder.{state, maxIndexOf, findOf, saidFind};
 ghost use Rattle.item.specs.Items.{indexIn};
@@ -58,7 +59,7 @@ impl ItemFinder {
     }
 }
 
-// Above `update`, with plain parameters: it makes the finder in a local and lends it. Who calls this one needs no walk.
+// Above `update`, with plain parameters.
 pub fn update_local(f: ItemFinder, t: &mut [u32], c: ItemIter) -> UpdateStep
     ensures { λ u. ⌜ Updates (state f (now (t .entry))) c (u .answer) (state (u .finder) (now (t .exit))) ⌝ }
 {
@@ -67,9 +68,25 @@ pub fn update_local(f: ItemFinder, t: &mut [u32], c: ItemIter) -> UpdateStep
     UpdateStep { answer, finder: g }
 }
 
+// Above `find`, with plain parameters.
+pub fn find_local(f: ItemFinder, s: &[u8], t: &[u32], i: ItemIndex) -> FindAnswer
+    ensures { λ r. ⌜ saidFind r ≡ findOf (now (s .entry)) (state f (now (t .entry))) i ⌝ }
+{
+    let g = f;
+    g.find(s, t, i)
+}
+
 // The highest index that the held places serve, in the finder's stream; the method of this name takes the finder by value.
 pub fn max_index(f: &ItemFinder, stream: Stream) -> ItemIndex
     ensures { λ r. ⌜ r ≡ indexIn stream (maxIndexOf (now (f .entry))) ⌝ }
 {
     (*f).max_index(stream)
+}
+
+// Above `max_index`, with plain parameters.
+pub fn max_index_local(f: ItemFinder, stream: Stream) -> ItemIndex
+    ensures { λ r. ⌜ r ≡ indexIn stream (maxIndexOf f) ⌝ }
+{
+    let g = f;
+    max_index(&g, stream)
 }
