@@ -17,8 +17,9 @@ Where an expected line comes from:
 - 01's examples: 01's lines, written out below. They must be what the rules above give too.
 
 No expected line is taken from REPLAY. It is run at the end, and must answer every line. The exit status is 1, and nothing is written, if an answer
-of the crate is not explained, if an example fails, if REPLAY answers otherwise, or if the list lacks one of: a command of PROTOCOL.md; a number 0 to
-16; a leaf of 01; every prefix of a good record of every leaf; a record of the crate's tests; the largest counts; a table exactly full and one short.
+of the crate is not explained, if an example fails, if REPLAY answers otherwise or has no call of some public function, or if the list lacks one of:
+a command of PROTOCOL.md; a number 0 to 16; a leaf of 01; every prefix of a good record of every leaf; a record of the crate's tests; the largest
+counts; a table exactly full and one short.
 """
 import os
 import random
@@ -37,6 +38,8 @@ HERE = os.path.dirname(os.path.abspath(__file__))
 STREAMS = ["plain-x64.tpi", "plain-x64.ipi", "rich-x64.tpi", "rich-x64.ipi", "hand.tpi", "hand.ipi"]
 ID_LEAVES = list(range(0x1601, 0x1608))
 LONGEST = 4294967294
+# More records than 65,536 bytes can have: `find` walks the whole stream.
+WHOLE = 65536
 
 
 class Unexplained(Exception):
@@ -206,6 +209,12 @@ def id_element_line(data, k):
     return f"0 {int.from_bytes(data[start + 4 * k:start + 4 * k + 4], 'little')}" if k < count else "15"
 
 
+def spelt(data, line):
+    """A line that gives a name of this record as `place+length`, with the name's bytes after it."""
+    part = re.fullmatch(r"0 (\d+)\+(\d+)", line)
+    return line if part is None else f"{line} {hexed(data[int(part[1]):int(part[1]) + int(part[2])])}"
+
+
 def table_of(word):
     return [] if word == "-" else [int(n) for n in word.split(",")]
 
@@ -269,7 +278,7 @@ def by_rule(words, primitive):
     if kind in ("idelement", "idat"):
         return id_element_line(blob(n[1]), int(n[0]))
     if kind == "membername":
-        return name_in(element_line(blob(n[1]), int(n[0])), NAMED_MEMBERS)
+        return spelt(blob(n[1]), name_in(element_line(blob(n[1]), int(n[0])), NAMED_MEMBERS))
     if kind == "signs":
         return signs_line(blob(n[1]), int(n[0]))
     if kind == "count":
@@ -601,6 +610,8 @@ def stream_commands(rng):
         yield f"find {s.hex()} 0 {low - 1},{low},{TOP}"
     yield "walk -"
     yield "parse -"
+    for s in (b"", header(), header()[:40]):
+        yield f"find {hexed(s)} {WHOLE} 0,4096"
     yield "find - u0 0,1"
     yield "find - 3 0,1"
     # next: any cursor.
@@ -656,6 +667,7 @@ def stream_commands(rng):
         asked = {low - 1, low, low + 1, high - 1, high, high + 1} | set(range(low, high, max(1, (high - low) // 40)))
         asked = ",".join(str(i) for i in sorted(asked))
         yield f"{'findids' if ids else 'find'} {s.hex()} {high - low} {asked}"
+        yield f"{'findids' if ids else 'find'} {s.hex()} {WHOLE} {asked}"
         if len(s) < 2000:
             yield f"{'findids' if ids else 'find'} {s.hex()} {(high - low) // 2} {low},{(low + high) // 2 + 9},{high - 1}"
 
@@ -690,8 +702,37 @@ def protocol_commands():
     return found
 
 
+def public_functions():
+    """The public functions of the libraries, by the names that `rt mir` has."""
+    crates = os.path.join(HERE, "..", "crates")
+    for crate in sorted(os.listdir(crates)):
+        source = os.path.join(crates, crate, "src")
+        if not os.path.exists(os.path.join(source, "lib.rt")):
+            continue
+        for name in sorted(os.listdir(source)):
+            module, methods_of = [] if name == "lib.rt" else [name[:-3]], []
+            with open(os.path.join(source, name), encoding="utf-8") as f:
+                for line in f:
+                    if line.startswith("impl"):
+                        methods_of = re.findall(r"^impl(?:<'a>)? (\w+)", line)
+                    elif line.startswith("}"):
+                        methods_of = []
+                    for function in re.findall(r"^\s*pub fn (\w+)", line):
+                        yield "::".join([crate] + module + methods_of + [function])
+
+
+def never_called():
+    """The public functions that the program `replay` has no call of."""
+    mir = subprocess.run(["rt", "mir", "replay"], cwd=HERE, check=True, capture_output=True, encoding="utf-8").stdout
+    called = set(re.findall(r'fn-def "([^"]*)"', mir))
+    # A method goes by its type's crate: `finder::ItemFinder::find` stands in lent.rt.
+    return [f for f in public_functions() if f not in called and "::".join([f.split("::")[0]] + f.split("::")[2:]) not in called]
+
+
 def lacking(vectors):
     """What the list should have and has not."""
+    for name in never_called():
+        yield f"a call of {name}"
     asked = {c for c, _ in vectors}
     shown = "\n".join(line for _, lines in vectors for line in lines)
     for name in protocol_commands() - {c.split()[0] for c in asked}:

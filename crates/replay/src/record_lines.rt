@@ -459,8 +459,9 @@ fn list_end(e: Refusal) {
     lines::refusal(e);
 }
 
-fn list_turn(s: &[u8], c: ListCursor) -> Onward {
-    lines::put(b" ; ");
+// The arguments of 0x1201 are read by `next_of`, the members of other lists by steps in place: each is tried.
+
+fn list_next(s: &[u8], c: ListCursor) -> Onward {
     match reader::next_of(s, c) {
         StepAnswer::Answered(e, behind) => {
             element(e);
@@ -473,8 +474,33 @@ fn list_turn(s: &[u8], c: ListCursor) -> Onward {
     }
 }
 
-fn id_list_turn(s: &[u8], c: ListCursor) -> Onward {
+fn list_step(s: &[u8], c: ListCursor) -> Onward {
+    let t = reader::step_of(s, c);
+    let behind = t.cursor;
+    let answer = t.answer;
+    match answer {
+        ElementAnswer::Answered(e) => {
+            element(e);
+            Onward::To(behind)
+        }
+        ElementAnswer::Refused(e) => {
+            list_end(e);
+            Onward::Over
+        }
+    }
+}
+
+fn list_turn(s: &[u8], c: ListCursor) -> Onward {
     lines::put(b" ; ");
+    if c.leaf == 0x1201 {
+        return list_next(s, c);
+    }
+    list_step(s, c)
+}
+
+// The types of 0x1604 are read by `next_id_of`, the ids of 0x1603 by steps in place.
+
+fn id_list_next(s: &[u8], c: ListCursor) -> Onward {
     match reader::next_id_of(s, c) {
         IdStepAnswer::Answered(e, behind) => {
             id_element(e);
@@ -485,6 +511,30 @@ fn id_list_turn(s: &[u8], c: ListCursor) -> Onward {
             Onward::Over
         }
     }
+}
+
+fn id_list_step(s: &[u8], c: ListCursor) -> Onward {
+    let t = reader::step_id_of(s, c);
+    let behind = t.cursor;
+    let answer = t.answer;
+    match answer {
+        IdElementAnswer::Answered(e) => {
+            id_element(e);
+            Onward::To(behind)
+        }
+        IdElementAnswer::Refused(e) => {
+            list_end(e);
+            Onward::Over
+        }
+    }
+}
+
+fn id_list_turn(s: &[u8], c: ListCursor) -> Onward {
+    lines::put(b" ; ");
+    if c.leaf == 0x1604 {
+        return id_list_next(s, c);
+    }
+    id_list_step(s, c)
 }
 
 // Each element takes two bytes at least, so that 65,536 bytes end before the turns do.

@@ -150,16 +150,28 @@ fn name(s: &[u8]) {
     }
 }
 
-fn element_name(e: Element) {
+// A name of this record, and its bytes.
+fn spelt(s: &[u8], t: OptString) {
+    optional(t);
+    match t {
+        OptString::None => {}
+        OptString::Some(x) => {
+            lines::put(b" ");
+            stream_lines::hex(x.bytes(s));
+        }
+    }
+}
+
+fn element_name(s: &[u8], e: Element) {
     match e {
-        Element::Member(m) => optional(m.name()),
+        Element::Member(m) => spelt(s, m.name()),
         _ => lines::put(b"0 -"),
     }
 }
 
 fn member_name(s: &[u8], k: u32) {
     match lists::element_at(s, k) {
-        ElementAnswer::Answered(e) => element_name(e),
+        ElementAnswer::Answered(e) => element_name(s, e),
         ElementAnswer::Refused(e) => lines::refusal(e),
     }
 }

@@ -1,6 +1,7 @@
 // The lines that the program `replay` writes for streams: header, iterator, finder and views (compare/PROTOCOL.md). A part of that program:
 // its functions are proved safe, and what they print is tested and not proved.
 use crate::lines;
+use answer::Refusal;
 use common::index::IdIndex;
 use common::index::TypeIndex;
 use finder::FindAnswer;
@@ -21,6 +22,7 @@ use item::view::KindAnswer;
 use item::view::ViewAnswer;
 use libc::STDOUT_FILENO;
 use walk::TurnAnswer;
+use walk::WalkAnswer;
 
 // The stream that a command is about.
 pub fn index_in(ids: bool, n: u32) -> ItemIndex {
@@ -28,6 +30,13 @@ pub fn index_in(ids: bool, n: u32) -> ItemIndex {
         return ItemIndex::Ids(IdIndex(n));
     }
     ItemIndex::Types(TypeIndex(n))
+}
+
+fn stream_of(ids: bool) -> Stream {
+    if ids {
+        return Stream::Ids;
+    }
+    Stream::Types
 }
 
 // The header. Its offsets are read once more as numbers without a sign, which is what a form takes.
@@ -267,12 +276,12 @@ pub fn lookup(s: &[u8], t: &[u32], f: ItemFinder, ids: bool, n: u32) {
 // The same over the first n places.
 pub fn find_lent(s: &[u8], t: &[u32], n: usize, f: ItemFinder, i: ItemIndex) {
     if n <= t.len() {
-        find_line(finder::find(s, &t[0..n], f, i));
+        find_line(finder::lent::find_local(f, s, &t[0..n], i));
     }
 }
 
 pub fn max_index(f: ItemFinder) {
-    let i = f.max_index(Stream::Types);
+    let i = finder::lent::max_index_local(f, Stream::Types);
     lines::form2(b"#\n", &[i.number() as u64, 0]);
 }
 
@@ -346,22 +355,45 @@ fn began(s: &[u8], ids: bool, t: &mut [u32; 8192], f: ItemFinder, early: bool, n
     }
 }
 
-// A fresh finder and a fresh iterator: one update first if it is asked for, then n records with an update behind each.
-pub fn begin(s: &[u8], ids: bool, t: &mut [u32; 8192], early: bool, n: u64) -> Begun {
+fn refused(e: Refusal) -> Begun {
+    lines::refusal(e);
+    lines::put(b"\n");
+    Begun::Over
+}
+
+fn begin_by_turns(s: &[u8], ids: bool, t: &mut [u32; 8192], early: bool, n: u64) -> Begun {
     match finder::create(s, t) {
         FinderAnswer::Answered(f) => began(s, ids, t, f, early, n),
-        FinderAnswer::Refused(e) => {
-            lines::refusal(e);
-            lines::put(b"\n");
-            Begun::Over
-        }
+        FinderAnswer::Refused(e) => refused(e),
     }
+}
+
+fn whole(s: &[u8], stream: Stream, t: &mut [u32; 8192]) -> Begun {
+    match walk::walk(stream, s, t) {
+        WalkAnswer::Answered(tour) => {
+            let f = tour.finder;
+            Begun::On(f)
+        }
+        WalkAnswer::Refused(e) => refused(e),
+    }
+}
+
+// A fresh finder and a fresh iterator: one update first if it is asked for, then n records with an update behind each. 65,536 bytes have no
+// 65,536 records, so that as many are the whole stream.
+pub fn begin(s: &[u8], ids: bool, t: &mut [u32; 8192], early: bool, n: u64) -> Begun {
+    if early {
+        return begin_by_turns(s, ids, t, early, n);
+    }
+    if n < 65536 {
+        return begin_by_turns(s, ids, t, early, n);
+    }
+    whole(s, stream_of(ids), t)
 }
 
 // Views.
 
 // The bytes of a slice in hex, `-` for none.
-fn hex(s: &[u8]) {
+pub fn hex(s: &[u8]) {
     if s.len() == 0 {
         lines::put(b"-");
     }
