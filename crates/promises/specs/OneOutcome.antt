@@ -57,6 +57,8 @@ use Rattle.lists.specs.declared.ListCursor.{ListCursor}
 use Rattle.reader.specs.Reader.{Steps, StepsIds, one-steps, one-steps-ids}
 use Rattle.reader.specs.OneOutcome.{one-reader}
 use Rattle.reader.specs.declared.ListReader.{ListReader}
+use Rattle.reader.specs.declared.Stepped.{Stepped}
+use Rattle.reader.specs.declared.SteppedIds.{SteppedIds}
 use Rattle.record.specs.Record.{parseOf, saidParse}
 use Rattle.record.specs.OneOutcome.{one-parse}
 
@@ -70,7 +72,7 @@ OnceLent {R = R} {M = M} C = (r q : R) (m k : M) → C r m → C q k → (r ≡ 
 
 pub record OneOutcome : Type 1 where
   -- a contract `r ≡ x` does of itself: the attribute words, `Refusal::number`, `Header::count`, the readers with zero for the end, links,
-  -- the small methods of indices, items and entries, `view`, `bytes_at` and `RawString::bytes` by their bytes, `ItemFinder::max_index`
+  -- the small methods of indices, items and entries, `view`, `bytes_at` and `RawString::bytes` by their bytes, `max_index` by value, lent and local
   pub plain : {R : Type 0} (x : R) → Once (λ (r : R). r ≡ x)
   -- answer
   pub details : (e : Refusal) → Once (λ r. detailsSaid r ≡ detailsOf e)
@@ -114,7 +116,7 @@ pub record OneOutcome : Type 1 where
   pub raw-kind : (t p : List ℕ) (e : Entry) → Once (λ r. saidKind r ≡ rawKindOf t p e)
   pub len : (s : List ℕ) → Once (λ r. saidLen r ≡ lenOf s)
   pub is-empty : (s : List ℕ) → Once (λ r. saidEmpty r ≡ isEmptyOf s)
-  -- finder: `find_type`, `find_id` and the lent `find` are `find`
+  -- finder: `find_type`, `find_id`, the lent `find` and `find_local` are `find`
   pub create : (s t : List ℕ) → OnceLent (Leaves t (createOf s t))
   pub update : (f : ItemFinder) (t : List ℕ) (c : ItemIter) → OnceLent (Leaves t (updateOf (state f t) c))
   pub lent-update : (σ : State) (c : ItemIter) → OnceLent (Updates σ c)
@@ -143,10 +145,12 @@ pub record OneOutcome : Type 1 where
   pub element-from-ids : (s : List ℕ) (c : ListCursor) (k : ℕ) → Once (λ r. saidElementIds r ≡ elementBy (stepIdsOf s) k c)
   pub element-at : (s : List ℕ) (k : ℕ) → Once (λ r. saidElement r ≡ elementOf s k)
   pub element-at-ids : (s : List ℕ) (k : ℕ) → Once (λ r. saidElementIds r ≡ elementIdsOf s k)
-  -- reader: `new` by the bytes and the cursor; the lent steps
+  -- reader: `new` by the bytes and the cursor; the lent steps, and those above them
   pub reader-of : (x : ListReader) → Once (λ (r : ListReader). (r .bytes ≡ x .bytes) × (r .cursor ≡ x .cursor))
   pub reader-step : (s : List ℕ) (c : ListCursor) → OnceLent (Steps c (stepOf s c))
   pub reader-step-id : (s : List ℕ) (c : ListCursor) → OnceLent (StepsIds c (stepIdsOf s c))
+  pub reader-step-of : (s : List ℕ) (c : ListCursor) → Once (λ (u : Stepped). Steps c (stepOf s c) (u .answer) (u .cursor))
+  pub reader-step-id-of : (s : List ℕ) (c : ListCursor) → Once (λ (u : SteppedIds). StepsIds c (stepIdsOf s c) (u .answer) (u .cursor))
 
 -- what an answer says fixes it
 once : {R S : Type 0} {said : R → S} → ((r q : R) → said r ≡ said q → r ≡ q) → (x : S) → Once (λ r. said r ≡ x)
@@ -167,6 +171,16 @@ one-update-step f t c u v m k x y =
 
 one-reader-of : (x : ListReader) → Once (λ (r : ListReader). (r .bytes ≡ x .bytes) × (r .cursor ≡ x .cursor))
 one-reader-of x r q a b = one-reader r q (a .0 ∙ sym (b .0)) (a .1 ∙ sym (b .1))
+
+one-stepped : (s : List ℕ) (c : ListCursor) → Once (λ (u : Stepped). Steps c (stepOf s c) (u .answer) (u .cursor))
+one-stepped s c u v x y =
+    let h = one-steps c (stepOf s c) (u .answer) (v .answer) (u .cursor) (v .cursor) x y in
+    λ i. record { cursor = h .1 i; answer = h .0 i }
+
+one-stepped-ids : (s : List ℕ) (c : ListCursor) → Once (λ (u : SteppedIds). StepsIds c (stepIdsOf s c) (u .answer) (u .cursor))
+one-stepped-ids s c u v x y =
+    let h = one-steps-ids c (stepIdsOf s c) (u .answer) (v .answer) (u .cursor) (v .cursor) x y in
+    λ i. record { cursor = h .1 i; answer = h .0 i }
 
 pub one-outcome : OneOutcome
 one-outcome = record {
@@ -235,4 +249,6 @@ one-outcome = record {
   reader-of = one-reader-of;
   reader-step = λ s c. one-steps c (stepOf s c);
   reader-step-id = λ s c. one-steps-ids c (stepIdsOf s c);
+  reader-step-of = one-stepped;
+  reader-step-id-of = one-stepped-ids;
 }
