@@ -1,5 +1,5 @@
 // The list reader of document 01: it "holds the record's bytes and walks them", by a cursor. Each function over it is thin over the one on
-// bytes and cursor; those with plain parameters stand above them, and who calls these needs no walk.
+// bytes and cursor; those with plain parameters stand above them, and callers of these need no proof by hand.
 ghost use mathlib.Core.Path.{_≡_};
 ghost use Rattle.lists.specs.Lists.{stepOf, stepIdsOf, elementBy, elementOf, elementIdsOf};
 ghost use Rattle.lists.specs.Said.{saidStep, saidStepIds, saidElement, saidElementIds};
