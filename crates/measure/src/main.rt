@@ -179,7 +179,7 @@ fn list_from(s: &[u8], from: ListCursor) -> u64 {
     let mut turns: u32 = 65536;
     while 0 < turns {
         turns -= 1;
-        match lists::step(s, c) {
+        match reader::next_of(s, c) {
             StepAnswer::Answered(e, behind) => {
                 sum = add(sum, sums::element(e));
                 c = behind;
@@ -205,7 +205,7 @@ fn id_list_from(s: &[u8], from: ListCursor) -> u64 {
     let mut turns: u32 = 65536;
     while 0 < turns {
         turns -= 1;
-        match lists::step_ids(s, c) {
+        match reader::next_id_of(s, c) {
             IdStepAnswer::Answered(e, behind) => {
                 sum = add(sum, sums::id_element(e));
                 c = behind;

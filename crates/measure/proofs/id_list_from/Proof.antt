@@ -15,8 +15,8 @@ loop-holds c = search needs
 sub-turns : tie.Need-sub-turns Inv-loop μ-loop
 sub-turns c = search needs
 
-step-ids-requires : tie.Need-step-ids-requires Inv-loop μ-loop
-step-ids-requires c κs = search needs
+next-id-of-requires : tie.Need-next-id-of-requires Inv-loop μ-loop
+next-id-of-requires c κs = search needs
 
 enum-known-e : tie.Need-enum-known-e Inv-loop μ-loop
 enum-known-e c = search needs
@@ -50,7 +50,7 @@ id-list-from-spec =
     μ-loop
     loop-holds
     sub-turns
-    step-ids-requires
+    next-id-of-requires
     enum-known-e
     id-element-requires
     add-requires
