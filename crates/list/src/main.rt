@@ -8,9 +8,9 @@ use item::Stream;
 use item::iter::ItemIter;
 use item::iter::IterAnswer;
 use item::iter::NextAnswer;
-use item::view::KindAnswer;
 use libc::STDIN_FILENO;
 use libc::STDOUT_FILENO;
+use view::KindAnswer;
 
 fn put(text: &[u8]) {
     io::write_all(STDOUT_FILENO, text);
@@ -40,7 +40,7 @@ fn put_record(s: &[u8], item: Item) {
     let index = item.index;
     put_number(index.number() as u64);
     put(b" ");
-    put_leaf(item::view::raw_kind(s, &s[0..0], Entry::Record(item)));
+    put_leaf(view::raw_kind(s, &s[0..0], Entry::Record(item)));
     put(b" ");
     put_number(item.length as u64);
     put(b"\n");

@@ -17,7 +17,6 @@ use item::Stream;
 use item::iter::ItemIter;
 use item::iter::IterAnswer;
 use item::iter::NextAnswer;
-use item::view::KindAnswer;
 use libc::STDIN_FILENO;
 use libc::STDOUT_FILENO;
 use lists::IdStepAnswer;
@@ -26,6 +25,7 @@ use lists::StartAnswer;
 use lists::StepAnswer;
 use record::ParseAnswer;
 use sums::add;
+use view::KindAnswer;
 use walk::WalkAnswer;
 
 // The operations, by the letters that their names start with; parseids has one of its own. Any other is `elements`.
@@ -118,7 +118,7 @@ fn read_once(op: u8, stream: Stream, s: &[u8]) -> u64 {
 
 fn read(op: u8, s: &[u8], i: Item) -> u64 {
     if op == PARSE {
-        if is_list(item::view::raw_kind(s, s, Entry::Record(i))) {
+        if is_list(view::raw_kind(s, s, Entry::Record(i))) {
             return 0;
         }
     }
@@ -149,15 +149,15 @@ fn record_read(s: &[u8], i: Item) -> u64 {
             TypeData::Union(u) => sums::union_type(u),
             TypeData::Bitfield(b) => sums::bitfield(b),
             TypeData::VirtualTableShape(_) => 0,
-            TypeData::FieldList => list_read(item::view::view(s, s, Entry::Record(i))),
-            TypeData::ArgumentList(_) => list_read(item::view::view(s, s, Entry::Record(i))),
-            TypeData::MethodList => list_read(item::view::view(s, s, Entry::Record(i))),
+            TypeData::FieldList => list_read(view::view(s, s, Entry::Record(i))),
+            TypeData::ArgumentList(_) => list_read(view::view(s, s, Entry::Record(i))),
+            TypeData::MethodList => list_read(view::view(s, s, Entry::Record(i))),
         },
         ParseAnswer::Id(d) => match d {
             IdData::Function(f) => sums::function(f),
             IdData::MemberFunction(f) => sums::member_function_id(f),
-            IdData::BuildInfo(_) => id_list_read(item::view::view(s, s, Entry::Record(i))),
-            IdData::StringList(_) => id_list_read(item::view::view(s, s, Entry::Record(i))),
+            IdData::BuildInfo(_) => id_list_read(view::view(s, s, Entry::Record(i))),
+            IdData::StringList(_) => id_list_read(view::view(s, s, Entry::Record(i))),
             IdData::String(t) => sums::string(t),
             IdData::UserDefinedTypeSource(u) => sums::source(u),
         },

@@ -22,7 +22,7 @@ use Rattle.header.specs.Header.{longest, headerOf}
 use Rattle.header.specs.declared.Header.{Header}
 use Rattle.item.specs.Items.{numberIn, indexOf, lengthOf}
 use Rattle.item.specs.Iterator.{nextOf}
-use Rattle.item.specs.Views.{named, rawKindOf}
+use Rattle.view.specs.Views.{named, rawKindOf}
 use Rattle.item.specs.Information.{lenOf, isEmptyOf}
 use Rattle.item.specs.declared.Stream.{Stream}
 use Rattle.item.specs.declared.ItemIndex.{ItemIndex}

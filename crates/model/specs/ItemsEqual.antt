@@ -14,7 +14,7 @@ use Rattle.common.specs.Fields.{le}
 use Rattle.header.specs.Header.{headerOf}
 use Rattle.header.specs.declared.Header.{Header}
 use Rattle.item.specs.Items.{numberIn, indexOf, lengthOf}
-use Rattle.item.specs.Views.{named, kindAt, rawKindOf}
+use Rattle.view.specs.Views.{named, kindAt, rawKindOf}
 use Rattle.item.specs.Information.{lenOf, isEmptyOf}
 use Rattle.item.specs.declared.Entry.{Entry}
 use Rattle.item.specs.declared.Entry.the-variants.{Record, Marker}

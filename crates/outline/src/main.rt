@@ -36,7 +36,7 @@ fn put_index(t: TypeIndex) {
 
 // A record's bytes in the type stream; the id stream is not at hand.
 fn bytes_of<'a>(tpi: &'a [u8], entry: Entry) -> &'a [u8] {
-    item::view::view(tpi, &tpi[0..0], entry)
+    view::view(tpi, &tpi[0..0], entry)
 }
 
 // The name of a type whose record is at hand.

@@ -19,7 +19,7 @@ use Rattle.primitive.specs.Primitive.{primitiveOf}
 use Rattle.attributes.specs.Pointers.{kindOf, modeOf, toMemberOf, referenceOf, sizeOf}
 use Rattle.header.specs.Header.{headerOf}
 use Rattle.item.specs.Iterator.{iterOf, nextOf}
-use Rattle.item.specs.Views.{viewOf, rawKindOf}
+use Rattle.view.specs.Views.{viewOf, rawKindOf}
 use Rattle.item.specs.Information.{lenOf, isEmptyOf}
 use Rattle.item.specs.declared.Stream.{Stream}
 use Rattle.item.specs.declared.ItemIndex.{ItemIndex}

@@ -24,9 +24,10 @@ use Rattle.attributes.specs.OneOutcome.{one-kind as one-pointer-kind, one-mode,
 use Rattle.header.specs.Header.{headerOf, saidHeader}
 use Rattle.header.specs.OneOutcome.{one-header}
 use Rattle.item.specs.Iterator.{iterOf, nextOf, saidIter, saidNext}
-use Rattle.item.specs.Views.{viewOf, rawKindOf, saidView, saidKind}
+use Rattle.view.specs.Views.{viewOf, rawKindOf, saidView, saidKind}
 use Rattle.item.specs.Information.{lenOf, isEmptyOf, saidLen, saidEmpty}
-use Rattle.item.specs.OneOutcome.{one-iter, one-next, one-view, one-kind, one-len, one-empty}
+use Rattle.item.specs.OneOutcome.{one-iter, one-next, one-len, one-empty}
+use Rattle.view.specs.OneOutcome.{one-view, one-kind}
 use Rattle.item.specs.declared.Stream.{Stream}
 use Rattle.item.specs.declared.ItemIndex.{ItemIndex}
 use Rattle.item.specs.declared.Entry.{Entry}
@@ -112,10 +113,11 @@ pub record OneOutcome : Type 1 where
   -- item: `types` and `ids` are `iter` of a stream
   pub iter : (tag : Stream) (s : List ℕ) → Once (λ r. saidIter r ≡ iterOf tag s)
   pub next : (s : List ℕ) (c : ItemIter) → Once (λ r. saidNext r ≡ nextOf s c)
-  pub view-answer : (t p : List ℕ) (e : Entry) → Once (λ r. saidView r ≡ viewOf t p e)
-  pub raw-kind : (t p : List ℕ) (e : Entry) → Once (λ r. saidKind r ≡ rawKindOf t p e)
   pub len : (s : List ℕ) → Once (λ r. saidLen r ≡ lenOf s)
   pub is-empty : (s : List ℕ) → Once (λ r. saidEmpty r ≡ isEmptyOf s)
+  -- view
+  pub view-answer : (t p : List ℕ) (e : Entry) → Once (λ r. saidView r ≡ viewOf t p e)
+  pub raw-kind : (t p : List ℕ) (e : Entry) → Once (λ r. saidKind r ≡ rawKindOf t p e)
   -- finder: `find_type`, `find_id`, the lent `find` and `find_local` are `find`
   pub create : (s t : List ℕ) → OnceLent (Leaves t (createOf s t))
   pub update : (f : ItemFinder) (t : List ℕ) (c : ItemIter) → OnceLent (Leaves t (updateOf (state f t) c))
@@ -217,10 +219,10 @@ one-outcome = record {
   header-parse = λ s. once one-header (headerOf s);
   iter = λ tag s. once one-iter (iterOf tag s);
   next = λ s c. once one-next (nextOf s c);
-  view-answer = λ t p e. once one-view (viewOf t p e);
-  raw-kind = λ t p e. once one-kind (rawKindOf t p e);
   len = λ s. once one-len (lenOf s);
   is-empty = λ s. once one-empty (isEmptyOf s);
+  view-answer = λ t p e. once one-view (viewOf t p e);
+  raw-kind = λ t p e. once one-kind (rawKindOf t p e);
   create = λ s t. one-leaves t (createOf s t);
   update = λ f t c. one-leaves t (updateOf (state f t) c);
   lent-update = λ σ c. one-change σ (updateOf σ c);

@@ -20,7 +20,7 @@ use Rattle.header.specs.declared.Header.{Header}
 use Rattle.item.specs.Items.{numberIn}
 use Rattle.item.specs.Links.{linkOf}
 use Rattle.item.specs.Iterator.{iterOf, Next, done, yielded, nextOf}
-use Rattle.item.specs.Views.{partOf, named, shortOf, entryOf, viewOf, kindAt, kindOf as kindIn, rawKindOf}
+use Rattle.view.specs.Views.{partOf, named, shortOf, entryOf, viewOf, kindAt, kindOf as kindIn, rawKindOf}
 use Rattle.item.specs.Information.{lenOf, isEmptyOf}
 use Rattle.item.specs.declared.Stream.{Stream}
 use Rattle.item.specs.declared.ItemIndex.{ItemIndex}

@@ -12,7 +12,7 @@ use Rattle.layout.specs.Fields.{Value}
 use Rattle.layout.specs.Layouts.{recordOf, typeLeaves, idLeaves}
 use Rattle.data.specs.Said.{typeValues}
 use Rattle.id.specs.Said.{idValues}
-use Rattle.item.specs.Views.{shortOf}
+use Rattle.view.specs.Views.{shortOf}
 use Rattle.item.specs.declared.ItemIndex.{ItemIndex}
 use Rattle.item.specs.declared.ItemIndex.the-variants as index
 use Rattle.item.specs.declared.Entry.{Entry}

@@ -18,9 +18,9 @@ use item::Stream;
 use item::iter::ItemIter;
 use item::iter::IterAnswer;
 use item::iter::NextAnswer;
-use item::view::KindAnswer;
-use item::view::ViewAnswer;
 use libc::STDOUT_FILENO;
+use view::KindAnswer;
+use view::ViewAnswer;
 use walk::TurnAnswer;
 use walk::WalkAnswer;
 
@@ -114,7 +114,7 @@ pub fn item_line(tpi: &[u8], ipi: &[u8], i: Item) {
     let index = i.index;
     lines::number(index.number() as u64);
     lines::put(b" ");
-    kind(item::view::raw_kind(tpi, ipi, Entry::Record(i)));
+    kind(view::raw_kind(tpi, ipi, Entry::Record(i)));
     lines::form2(b" @\n", &[i.place as u64, i.length as u64]);
 }
 
@@ -416,10 +416,10 @@ fn kind_part(k: KindAnswer) {
 }
 
 fn view_part<'a>(tpi: &'a [u8], ipi: &'a [u8], e: Entry) {
-    match item::view::view_answer(tpi, ipi, e) {
+    match view::view_answer(tpi, ipi, e) {
         ViewAnswer::Answered(_, _) => {
             lines::put(b"0 ");
-            hex(item::view::view(tpi, ipi, e));
+            hex(view::view(tpi, ipi, e));
         }
         ViewAnswer::Refused(x) => lines::refusal(x),
     }
@@ -428,17 +428,17 @@ fn view_part<'a>(tpi: &'a [u8], ipi: &'a [u8], e: Entry) {
 pub fn view<'a>(tpi: &'a [u8], ipi: &'a [u8], i: Item) {
     let e = Entry::Record(i);
     view_part(tpi, ipi, e);
-    kind_part(item::view::raw_kind(tpi, ipi, e));
+    kind_part(view::raw_kind(tpi, ipi, e));
 }
 
 // The marker's view and its kind.
 pub fn marker(none: &[u8], e: Entry) {
-    match item::view::view_answer(none, none, e) {
+    match view::view_answer(none, none, e) {
         ViewAnswer::Answered(_, _) => lines::put(b"0"),
         ViewAnswer::Refused(x) => lines::refusal(x),
     }
     lines::put(b" ; kind ");
-    kind(item::view::raw_kind(none, none, e));
+    kind(view::raw_kind(none, none, e));
     lines::put(b" ; ");
 }
 
@@ -449,7 +449,7 @@ pub fn raw_kind(s: &[u8]) {
         place: 0,
         length: s.len(),
     };
-    match item::view::raw_kind(s, &s[0..0], Entry::Record(i)) {
+    match view::raw_kind(s, &s[0..0], Entry::Record(i)) {
         KindAnswer::Answered(n) => lines::form2(b"0 #", &[n as u64, 0]),
         KindAnswer::Refused(e) => lines::refusal(e),
     }

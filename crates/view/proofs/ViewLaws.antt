@@ -11,7 +11,7 @@ use Rattle.answer.specs.Answer.{answered, refused, pick, stop}
 use Rattle.common.specs.Fields.{orZero}
 use Rattle.text.specs.Texts.{bytesAt}
 use Rattle.common.proofs.FieldLaws.{or-zero-there}
-use Rattle.item.specs.Views.{partOf, within, kindAt}
+use Rattle.view.specs.Views.{partOf, within, kindAt}
 
 module _ (s : List ℕ) (p n : ℕ) where
   pub part-past : length s < p + n → partOf s p n ≡ refused 1 []

@@ -8,15 +8,15 @@ use Rattle.answer.specs.Refusals.{no}
 use Rattle.common.specs.Fields.{le}
 use Rattle.text.specs.Texts.{Part}
 use Rattle.header.specs.Header.{longest}
 use Rattle.item.specs.Items.{numberIn, indexOf}
 use Rattle.item.specs.declared.ItemIndex.{ItemIndex}
 use Rattle.item.specs.declared.ItemIndex.the-variants as index
 use Rattle.item.specs.declared.Entry.{Entry}
 use Rattle.item.specs.declared.Entry.the-variants as entry
-use Rattle.item.specs.declared.view.ViewAnswer.{ViewAnswer}
-use Rattle.item.specs.declared.view.ViewAnswer.the-variants as view
-use Rattle.item.specs.declared.view.KindAnswer.{KindAnswer}
-use Rattle.item.specs.declared.view.KindAnswer.the-variants as kind
+use Rattle.view.specs.declared.ViewAnswer.{ViewAnswer}
+use Rattle.view.specs.declared.ViewAnswer.the-variants as view
+use Rattle.view.specs.declared.KindAnswer.{KindAnswer}
+use Rattle.view.specs.declared.KindAnswer.the-variants as kind
 
 -- 1 if it passes the end
 unfoldable pub partOf : List ℕ → ℕ → ℕ → Answer Part

@@ -1,8 +1,8 @@
--- `item::view::view_answer` meets its contract: 16 for either stream first, then by cases of the entry and of its stream. Assumes nothing.
+-- `view::view_answer` meets its contract: 16 for either stream first, then by cases of the entry and of its stream. Assumes nothing.
 use borrow.Author.Needs.{needs}
 use borrow.Author.Tests.{le-ltb, lt-ltb}
-use Rattle.item.proofs.view.view_answer.Statement.{statement}
-use Rattle.item.proofs.view.view_answer.Tie as tie
+use Rattle.view.proofs.view_answer.Statement.{statement}
+use Rattle.view.proofs.view_answer.Tie as tie
 
 returns : tie.Need-returns
 returns c = simp (lt-ltb _ _ (c .if1 .taken))

@@ -1,11 +1,11 @@
 // An entry's bytes: a part of the TPI stream or of the IPI stream, both lent, and the leaf that they start with.
 ghost use mathlib.Core.Path.{_≡_};
-ghost use Rattle.item.specs.Views.{partOf, viewOf, saidView, bytesOf, kindAt, rawKindOf, saidKind};
-use crate::Entry;
-use crate::ItemIndex;
+ghost use Rattle.view.specs.Views.{partOf, viewOf, saidView, bytesOf, kindAt, rawKindOf, saidKind};
 use answer::Refusal;
 use common::field;
 use header::LONGEST;
+use item::Entry;
+use item::ItemIndex;
 
 // The payload's place and length in the stream that the entry names.
 pub enum ViewAnswer {

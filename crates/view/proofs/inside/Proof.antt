@@ -1,10 +1,10 @@
--- `item::view::inside` meets its contract: each return is an outcome of `partOf`. Assumes nothing.
+-- `view::inside` meets its contract: each return is an outcome of `partOf`. Assumes nothing.
 use borrow.Author.Needs.{needs}
 use native.Mathlib.Omega.{arith}
 use mathlib.Core.Path.{sym}
-use Rattle.item.proofs.ViewLaws.{part-past, part-there}
-use Rattle.item.proofs.view.inside.Statement.{statement}
-use Rattle.item.proofs.view.inside.Tie as tie
+use Rattle.view.proofs.ViewLaws.{part-past, part-there}
+use Rattle.view.proofs.inside.Statement.{statement}
+use Rattle.view.proofs.inside.Tie as tie
 
 returns : tie.Need-returns
 returns c = sym (part-past _ _ _ (omega arith))

@@ -1,10 +1,10 @@
--- `item::view::view` meets its contract: 16 for either stream first, then by cases of the entry and of its stream. Assumes nothing.
+-- `view::view` meets its contract: 16 for either stream first, then by cases of the entry and of its stream. Assumes nothing.
 use borrow.Author.Needs.{needs}
 use borrow.Author.Tests.{le-ltb, lt-ltb}
 use mathlib.Core.Path.{_∙_}
-use Rattle.item.proofs.ViewLaws.{within-bytes}
-use Rattle.item.proofs.view.view.Statement.{statement}
-use Rattle.item.proofs.view.view.Tie as tie
+use Rattle.view.proofs.ViewLaws.{within-bytes}
+use Rattle.view.proofs.view.Statement.{statement}
+use Rattle.view.proofs.view.Tie as tie
 
 returns : tie.Need-returns
 returns c = simp (lt-ltb _ _ (c .before .if1 .taken))

@@ -1,10 +1,10 @@
--- `item::view::kind_at` meets its contract: each return is an outcome of `kindAt`. Assumes nothing.
+-- `view::kind_at` meets its contract: each return is an outcome of `kindAt`. Assumes nothing.
 use borrow.Author.Needs.{needs}
 use native.Mathlib.Omega.{arith}
 use mathlib.Core.Path.{sym}
-use Rattle.item.proofs.ViewLaws.{kind-past, kind-small, kind-there}
-use Rattle.item.proofs.view.kind_at.Statement.{statement}
-use Rattle.item.proofs.view.kind_at.Tie as tie
+use Rattle.view.proofs.ViewLaws.{kind-past, kind-small, kind-there}
+use Rattle.view.proofs.kind_at.Statement.{statement}
+use Rattle.view.proofs.kind_at.Tie as tie
 
 returns : tie.Need-returns
 returns c = sym (kind-past _ _ _ (omega arith))

@@ -1,0 +1,3 @@
+pub mod Views
+pub mod OneOutcome
+pub mod Examples
