@@ -1,16 +1,16 @@
 // Document 01's program: reads a TPI stream of at most 65,536 bytes from standard input and lists its records.
 use answer::Refusal;
-use header::Header;
-use header::HeaderAnswer;
-use item::Entry;
-use item::Item;
-use item::Stream;
-use item::iter::ItemIter;
-use item::iter::IterAnswer;
-use item::iter::NextAnswer;
 use libc::STDIN_FILENO;
 use libc::STDOUT_FILENO;
-use view::KindAnswer;
+use stream_header::Header;
+use stream_header::HeaderAnswer;
+use stream_item::Entry;
+use stream_item::Item;
+use stream_item::Stream;
+use stream_item::iter::ItemIter;
+use stream_item::iter::IterAnswer;
+use stream_item::iter::NextAnswer;
+use stream_view::KindAnswer;
 
 fn put(text: &[u8]) {
     io::write_all(STDOUT_FILENO, text);
@@ -40,7 +40,7 @@ fn put_record(s: &[u8], item: Item) {
     let index = item.index;
     put_number(index.number() as u64);
     put(b" ");
-    put_leaf(view::raw_kind(s, &s[0..0], Entry::Record(item)));
+    put_leaf(stream_view::raw_kind(s, &s[0..0], Entry::Record(item)));
     put(b" ");
     put_number(item.length as u64);
     put(b"\n");
@@ -53,7 +53,7 @@ enum Onward {
 }
 
 fn turn(s: &[u8], c: ItemIter, listed: u64) -> Onward {
-    match item::iter::next(s, c) {
+    match stream_item::iter::next(s, c) {
         NextAnswer::Yielded(item, behind) => {
             put_record(s, item);
             Onward::On(behind)
@@ -96,7 +96,7 @@ fn put_head(h: Header, length: usize) {
 }
 
 fn begin(s: &[u8]) {
-    match item::iter::iter(Stream::Types, s) {
+    match stream_item::iter::iter(Stream::Types, s) {
         IterAnswer::Answered(c) => walk(s, c),
         IterAnswer::Refused(e) => put_refused(e),
     }

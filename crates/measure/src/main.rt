@@ -4,29 +4,29 @@ mod sums;
 
 ghost use mathlib.Core.Path.{_≡_};
 ghost use lib.ListN.{length};
-use common::index::TypeIndex;
-use data::TypeData;
-use finder::FindAnswer;
-use finder::ItemFinder;
-use header::Header;
-use header::HeaderAnswer;
-use id::IdData;
-use item::Entry;
-use item::Item;
-use item::Stream;
-use item::iter::ItemIter;
-use item::iter::IterAnswer;
-use item::iter::NextAnswer;
+use field::index::TypeIndex;
 use libc::STDIN_FILENO;
 use libc::STDOUT_FILENO;
-use lists::IdStepAnswer;
-use lists::ListCursor;
-use lists::StartAnswer;
-use lists::StepAnswer;
-use record::ParseAnswer;
+use record_data::TypeData;
+use record_id::IdData;
+use record_list::IdStepAnswer;
+use record_list::ListCursor;
+use record_list::StartAnswer;
+use record_list::StepAnswer;
+use record_parse::ParseAnswer;
+use stream_finder::FindAnswer;
+use stream_finder::ItemFinder;
+use stream_header::Header;
+use stream_header::HeaderAnswer;
+use stream_index::WalkAnswer;
+use stream_item::Entry;
+use stream_item::Item;
+use stream_item::Stream;
+use stream_item::iter::ItemIter;
+use stream_item::iter::IterAnswer;
+use stream_item::iter::NextAnswer;
+use stream_view::KindAnswer;
 use sums::add;
-use view::KindAnswer;
-use walk::WalkAnswer;
 
 // The operations, by the letters that their names start with; parseids has one of its own. Any other is `elements`.
 const HEADER: u8 = b'h';
@@ -67,7 +67,7 @@ fn walk_from(s: &[u8], from: ItemIter) -> u64 {
     let mut c = from;
     let mut sum: u64 = 0;
     loop {
-        match item::iter::next(s, c) {
+        match stream_item::iter::next(s, c) {
             NextAnswer::Yielded(i, behind) => {
                 sum = add(sum, sums::item(i));
                 c = behind;
@@ -83,7 +83,7 @@ fn walk_from(s: &[u8], from: ItemIter) -> u64 {
 }
 
 fn walk_once(s: &[u8]) -> u64 {
-    match item::iter::types(s) {
+    match stream_item::iter::types(s) {
         IterAnswer::Answered(c) => walk_from(s, c),
         IterAnswer::Refused(_) => 0,
     }
@@ -94,7 +94,7 @@ fn read_from(op: u8, s: &[u8], from: ItemIter) -> u64 {
     let mut c = from;
     let mut sum: u64 = 0;
     loop {
-        match item::iter::next(s, c) {
+        match stream_item::iter::next(s, c) {
             NextAnswer::Yielded(i, behind) => {
                 sum = add(sum, read(op, s, i));
                 c = behind;
@@ -110,7 +110,7 @@ fn read_from(op: u8, s: &[u8], from: ItemIter) -> u64 {
 }
 
 fn read_once(op: u8, stream: Stream, s: &[u8]) -> u64 {
-    match item::iter::iter(stream, s) {
+    match stream_item::iter::iter(stream, s) {
         IterAnswer::Answered(c) => read_from(op, s, c),
         IterAnswer::Refused(_) => 0,
     }
@@ -118,7 +118,7 @@ fn read_once(op: u8, stream: Stream, s: &[u8]) -> u64 {
 
 fn read(op: u8, s: &[u8], i: Item) -> u64 {
     if op == PARSE {
-        if is_list(view::raw_kind(s, s, Entry::Record(i))) {
+        if is_list(stream_view::raw_kind(s, s, Entry::Record(i))) {
             return 0;
         }
     }
@@ -137,7 +137,7 @@ fn is_list(k: KindAnswer) -> bool {
 
 // A record with the elements of its list. The one stream is lent as both: an item says by its index in which it lies.
 fn record_read(s: &[u8], i: Item) -> u64 {
-    match record::parse(s, s, Entry::Record(i)) {
+    match record_parse::parse(s, s, Entry::Record(i)) {
         ParseAnswer::Type(d) => match d {
             TypeData::Class(c) => sums::class(c),
             TypeData::MemberFunction(f) => sums::member_function(f),
@@ -149,15 +149,15 @@ fn record_read(s: &[u8], i: Item) -> u64 {
             TypeData::Union(u) => sums::union_type(u),
             TypeData::Bitfield(b) => sums::bitfield(b),
             TypeData::VirtualTableShape(_) => 0,
-            TypeData::FieldList => list_read(view::view(s, s, Entry::Record(i))),
-            TypeData::ArgumentList(_) => list_read(view::view(s, s, Entry::Record(i))),
-            TypeData::MethodList => list_read(view::view(s, s, Entry::Record(i))),
+            TypeData::FieldList => list_read(stream_view::view(s, s, Entry::Record(i))),
+            TypeData::ArgumentList(_) => list_read(stream_view::view(s, s, Entry::Record(i))),
+            TypeData::MethodList => list_read(stream_view::view(s, s, Entry::Record(i))),
         },
         ParseAnswer::Id(d) => match d {
             IdData::Function(f) => sums::function(f),
             IdData::MemberFunction(f) => sums::member_function_id(f),
-            IdData::BuildInfo(_) => id_list_read(view::view(s, s, Entry::Record(i))),
-            IdData::StringList(_) => id_list_read(view::view(s, s, Entry::Record(i))),
+            IdData::BuildInfo(_) => id_list_read(stream_view::view(s, s, Entry::Record(i))),
+            IdData::StringList(_) => id_list_read(stream_view::view(s, s, Entry::Record(i))),
             IdData::String(t) => sums::string(t),
             IdData::UserDefinedTypeSource(u) => sums::source(u),
         },
@@ -166,7 +166,7 @@ fn record_read(s: &[u8], i: Item) -> u64 {
 }
 
 fn list_read(s: &[u8]) -> u64 {
-    match lists::start(s) {
+    match record_list::start(s) {
         StartAnswer::Answered(c) => list_from(s, c),
         StartAnswer::Refused(_) => 0,
     }
@@ -179,7 +179,7 @@ fn list_from(s: &[u8], from: ListCursor) -> u64 {
     let mut turns: u32 = 65536;
     while 0 < turns {
         turns -= 1;
-        match reader::next_of(s, c) {
+        match record_reader::next_of(s, c) {
             StepAnswer::Answered(e, behind) => {
                 sum = add(sum, sums::element(e));
                 c = behind;
@@ -193,7 +193,7 @@ fn list_from(s: &[u8], from: ListCursor) -> u64 {
 }
 
 fn id_list_read(s: &[u8]) -> u64 {
-    match lists::start_ids(s) {
+    match record_list::start_ids(s) {
         StartAnswer::Answered(c) => id_list_from(s, c),
         StartAnswer::Refused(_) => 0,
     }
@@ -205,7 +205,7 @@ fn id_list_from(s: &[u8], from: ListCursor) -> u64 {
     let mut turns: u32 = 65536;
     while 0 < turns {
         turns -= 1;
-        match reader::next_id_of(s, c) {
+        match record_reader::next_id_of(s, c) {
             IdStepAnswer::Answered(e, behind) => {
                 sum = add(sum, sums::id_element(e));
                 c = behind;
@@ -220,7 +220,7 @@ fn id_list_from(s: &[u8], from: ListCursor) -> u64 {
 
 // The finder of the whole stream.
 fn indexed(s: &[u8], t: &mut [u32; PLACES]) -> ItemFinder {
-    match walk::walk(Stream::Types, s, t) {
+    match stream_index::walk(Stream::Types, s, t) {
         WalkAnswer::Answered(tour) => tour.finder,
         WalkAnswer::Refused(_) => ItemFinder {
             minimum_index: 0,
@@ -256,7 +256,7 @@ fn find_once(s: &[u8], t: &[u32; PLACES], f: ItemFinder) -> u64 {
     let last = f.maximum_index;
     let mut sum: u64 = 0;
     while n < last {
-        sum = add(sum, found(finder::find_type(s, t, f, TypeIndex(n))));
+        sum = add(sum, found(stream_finder::find_type(s, t, f, TypeIndex(n))));
         n += 1;
     }
     sum

@@ -1,25 +1,25 @@
 // An outline of a type stream, as a generator of bindings would read one: each class, structure and interface that the stream defines, with
 // its size, and under it its data members, with their offsets and types. A type stands by its name, or by its index where it has none.
 use answer::Refusal;
-use common::index::OptTypeIndex;
-use common::index::TypeIndex;
-use data::ClassType;
-use data::TypeData;
-use finder::FindAnswer;
-use finder::ItemFinder;
-use item::Entry;
-use item::Stream;
+use field::index::OptTypeIndex;
+use field::index::TypeIndex;
+use field_text::OptString;
 use libc::STDIN_FILENO;
 use libc::STDOUT_FILENO;
-use lists::Element;
-use lists::ListCursor;
-use lists::StartAnswer;
-use lists::StepAnswer;
-use member::Member;
-use member::MemberType;
-use record::ParseAnswer;
-use text::OptString;
-use walk::WalkAnswer;
+use record_data::ClassType;
+use record_data::TypeData;
+use record_list::Element;
+use record_list::ListCursor;
+use record_list::StartAnswer;
+use record_list::StepAnswer;
+use record_member::Member;
+use record_member::MemberType;
+use record_parse::ParseAnswer;
+use stream_finder::FindAnswer;
+use stream_finder::ItemFinder;
+use stream_index::WalkAnswer;
+use stream_item::Entry;
+use stream_item::Stream;
 
 fn put(text: &[u8]) {
     io::write_all(STDOUT_FILENO, text);
@@ -36,7 +36,7 @@ fn put_index(t: TypeIndex) {
 
 // A record's bytes in the type stream; the id stream is not at hand.
 fn bytes_of<'a>(tpi: &'a [u8], entry: Entry) -> &'a [u8] {
-    view::view(tpi, &tpi[0..0], entry)
+    stream_view::view(tpi, &tpi[0..0], entry)
 }
 
 // The name of a type whose record is at hand.
@@ -48,14 +48,14 @@ fn put_name(record: &[u8], d: TypeData, t: TypeIndex) {
 }
 
 fn put_entry(tpi: &[u8], entry: Entry, t: TypeIndex) {
-    match record::parse(tpi, &tpi[0..0], entry) {
+    match record_parse::parse(tpi, &tpi[0..0], entry) {
         ParseAnswer::Type(d) => put_name(bytes_of(tpi, entry), d, t),
         _ => put_index(t),
     }
 }
 
 fn put_type(tpi: &[u8], places: &[u32], f: ItemFinder, t: TypeIndex) {
-    match finder::find_type(tpi, places, f, t) {
+    match stream_finder::find_type(tpi, places, f, t) {
         FindAnswer::Found(entry, _) => put_entry(tpi, entry, t),
         FindAnswer::Refused(_) => put_index(t),
     }
@@ -89,7 +89,7 @@ enum Onward {
 }
 
 fn step(tpi: &[u8], places: &[u32], f: ItemFinder, fields: &[u8], c: ListCursor) -> Onward {
-    match reader::next_of(fields, c) {
+    match record_reader::next_of(fields, c) {
         StepAnswer::Answered(e, behind) => {
             put_element(tpi, places, f, fields, e);
             Onward::To(behind)
@@ -113,14 +113,14 @@ fn put_members(tpi: &[u8], places: &[u32], f: ItemFinder, fields: &[u8], from: L
 }
 
 fn put_list(tpi: &[u8], places: &[u32], f: ItemFinder, fields: &[u8]) {
-    match lists::start(fields) {
+    match record_list::start(fields) {
         StartAnswer::Answered(c) => put_members(tpi, places, f, fields, c),
         StartAnswer::Refused(_) => {}
     }
 }
 
 fn put_fields(tpi: &[u8], places: &[u32], f: ItemFinder, t: TypeIndex) {
-    match finder::find_type(tpi, places, f, t) {
+    match stream_finder::find_type(tpi, places, f, t) {
         FindAnswer::Found(entry, _) => put_list(tpi, places, f, bytes_of(tpi, entry)),
         FindAnswer::Refused(_) => {}
     }
@@ -145,7 +145,7 @@ fn put_class(tpi: &[u8], places: &[u32], f: ItemFinder, record: &[u8], c: ClassT
 }
 
 fn put_record(tpi: &[u8], places: &[u32], f: ItemFinder, entry: Entry) {
-    match record::parse(tpi, &tpi[0..0], entry) {
+    match record_parse::parse(tpi, &tpi[0..0], entry) {
         ParseAnswer::Type(d) => match d {
             TypeData::Class(c) => put_class(tpi, places, f, bytes_of(tpi, entry), c),
             _ => {}
@@ -155,7 +155,7 @@ fn put_record(tpi: &[u8], places: &[u32], f: ItemFinder, entry: Entry) {
 }
 
 fn put_indexed(tpi: &[u8], places: &[u32], f: ItemFinder, t: TypeIndex) {
-    match finder::find_type(tpi, places, f, t) {
+    match stream_finder::find_type(tpi, places, f, t) {
         FindAnswer::Found(entry, _) => put_record(tpi, places, f, entry),
         FindAnswer::Refused(_) => {}
     }
@@ -178,7 +178,7 @@ fn put_refused(e: Refusal) {
 
 // The whole stream is indexed once; after that any type is found in at most eight steps.
 fn run(tpi: &[u8], places: &mut [u32; 2048]) {
-    match walk::walk(Stream::Types, tpi, places) {
+    match stream_index::walk(Stream::Types, tpi, places) {
         WalkAnswer::Answered(tour) => outline(tpi, places, tour.finder),
         WalkAnswer::Refused(e) => put_refused(e),
     }

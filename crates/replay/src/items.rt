@@ -2,11 +2,11 @@
 use crate::lines;
 use crate::record_lines;
 use crate::stream_lines;
-use item::Entry;
-use item::Item;
-use item::iter::ItemIter;
-use item::iter::IterAnswer;
-use item::iter::NextAnswer;
+use stream_item::Entry;
+use stream_item::Item;
+use stream_item::iter::ItemIter;
+use stream_item::iter::IterAnswer;
+use stream_item::iter::NextAnswer;
 
 enum Onward {
     To(ItemIter),
@@ -15,7 +15,7 @@ enum Onward {
 
 fn data_line<'a>(tpi: &'a [u8], ipi: &'a [u8], e: Entry) {
     lines::put(b"  ");
-    record_lines::entry(tpi, ipi, e, view::view(tpi, ipi, e));
+    record_lines::entry(tpi, ipi, e, stream_view::view(tpi, ipi, e));
 }
 
 // A record's line, and under it its data if they are asked for.
@@ -27,7 +27,7 @@ fn yielded<'a>(tpi: &'a [u8], ipi: &'a [u8], i: Item, data: bool) {
 }
 
 fn walk_turn<'a>(tpi: &'a [u8], ipi: &'a [u8], s: &'a [u8], c: ItemIter, data: bool) -> Onward {
-    match item::iter::next(s, c) {
+    match stream_item::iter::next(s, c) {
         NextAnswer::Yielded(i, behind) => {
             yielded(tpi, ipi, i, data);
             Onward::To(behind)
@@ -69,11 +69,11 @@ fn walk_from<'a>(tpi: &'a [u8], ipi: &'a [u8], s: &'a [u8], a: IterAnswer, data:
 }
 
 pub fn walk(s: &[u8], data: bool) {
-    walk_from(s, &s[0..0], s, item::iter::types(s), data);
+    walk_from(s, &s[0..0], s, stream_item::iter::types(s), data);
 }
 
 pub fn walk_ids(s: &[u8], data: bool) {
-    walk_from(&s[0..0], s, s, item::iter::ids(s), data);
+    walk_from(&s[0..0], s, s, stream_item::iter::ids(s), data);
 }
 
 // An item of this index whose bytes are all of s.

@@ -2,23 +2,23 @@
 // and attribute words. A part of that program: its functions are proved safe, and what they print is tested and not proved.
 use answer::Details;
 use answer::Refusal;
-use attributes::FieldAttributes;
-use attributes::FlagAnswer;
-use attributes::FunctionAttributes;
-use attributes::KindAnswer;
-use attributes::ModeAnswer;
-use attributes::PointerAttributes;
-use attributes::PointerKind;
-use attributes::PointerMode;
-use attributes::SizeAnswer;
-use attributes::TypeProperties;
-use common::index::OptIdIndex;
-use common::index::OptTypeIndex;
+use field::index::OptIdIndex;
+use field::index::OptTypeIndex;
+use field_number::Number;
 use libc::STDOUT_FILENO;
-use number::Number;
-use primitive::Indirection;
-use primitive::PrimitiveKind;
-use primitive::PrimitiveType;
+use word_attributes::FieldAttributes;
+use word_attributes::FlagAnswer;
+use word_attributes::FunctionAttributes;
+use word_attributes::KindAnswer;
+use word_attributes::ModeAnswer;
+use word_attributes::PointerAttributes;
+use word_attributes::PointerKind;
+use word_attributes::PointerMode;
+use word_attributes::SizeAnswer;
+use word_attributes::TypeProperties;
+use word_primitive::Indirection;
+use word_primitive::PrimitiveKind;
+use word_primitive::PrimitiveType;
 
 // In a form, the number that stands for an absent optional.
 pub const NONE: u64 = 18446744073709551615;

@@ -8,11 +8,11 @@ mod record_lines;
 mod small;
 mod stream_lines;
 
-use finder::ItemFinder;
 use input::Arguments;
 use input::Input;
 use input::Name;
-use item::Item;
+use stream_finder::ItemFinder;
+use stream_item::Item;
 use stream_lines::Begun;
 
 // The first n bytes of an array.

@@ -2,17 +2,17 @@
 use crate::input;
 use crate::lines;
 use answer::Refusal;
-use common::index::IdIndex;
-use common::index::TypeIndex;
-use number::ReadSize;
-use number::ReadVariant;
-use primitive::PrimitiveAnswer;
-use text::After;
-use text::ReadString;
+use field::index::IdIndex;
+use field::index::TypeIndex;
+use field_number::ReadSize;
+use field_number::ReadVariant;
+use field_text::After;
+use field_text::ReadString;
+use word_primitive::PrimitiveAnswer;
 
 fn primitive_line(n: u32) {
     lines::form2(b"# ", &[n as u64, 0]);
-    match primitive::primitive(TypeIndex(n)) {
+    match word_primitive::primitive(TypeIndex(n)) {
         PrimitiveAnswer::Answered(p) => lines::primitive(p),
         PrimitiveAnswer::Refused(e) => lines::refusal(e),
     }
@@ -66,7 +66,7 @@ fn ended() {
 }
 
 pub fn string(leaf: u16, s: &[u8]) {
-    match text::string_of(leaf, s, 0) {
+    match field_text::string_of(leaf, s, 0) {
         ReadString::Got(t, q) => lines::form4(
             b"0 @ next=#\n",
             &[t.place as u64, t.length as u64, q as u64, 0],
@@ -76,14 +76,14 @@ pub fn string(leaf: u16, s: &[u8]) {
 }
 
 pub fn padding(s: &[u8]) {
-    match text::after_padding(s, 0) {
+    match field_text::after_padding(s, 0) {
         After::At(q) => lines::form2(b"0 #\n", &[q as u64, 0]),
         After::Ended => ended(),
     }
 }
 
 pub fn unsigned(s: &[u8]) {
-    match number::size_at(s, 0) {
+    match field_number::size_at(s, 0) {
         ReadSize::Got(n, q) => lines::form2(b"0 # next=#", &[n.value, q as u64]),
         ReadSize::Refused(e) => lines::refusal(e),
     }
@@ -91,7 +91,7 @@ pub fn unsigned(s: &[u8]) {
 }
 
 pub fn signed(s: &[u8]) {
-    match number::number_at(s, 0) {
+    match field_number::number_at(s, 0) {
         ReadVariant::Got(v, q) => {
             let value = v.value;
             lines::put(b"0 ");

@@ -2,48 +2,48 @@
 // program: its functions are proved safe, and what they print is tested and not proved.
 use crate::lines;
 use answer::Refusal;
-use common::index::TypeIndex;
-use data::ArrayType;
-use data::BitfieldType;
-use data::ClassKind;
-use data::ClassType;
-use data::EnumerationType;
-use data::MemberFunctionType;
-use data::ModifierType;
-use data::PointerType;
-use data::ProcedureType;
-use data::TypeData;
-use data::UnionType;
-use data::VirtualTableShapeType;
-use id::FunctionId;
-use id::IdData;
-use id::MemberFunctionId;
-use id::StringId;
-use id::UserDefinedTypeSourceFileRef;
-use id::UserDefinedTypeSourceId;
-use item::Entry;
-use lists::Element;
-use lists::ElementAnswer;
-use lists::IdElement;
-use lists::IdElementAnswer;
-use lists::IdStepAnswer;
-use lists::ListCursor;
-use lists::StartAnswer;
-use lists::StepAnswer;
-use member::BaseClassType;
-use member::EnumerateType;
-use member::Member;
-use member::MemberType;
-use member::MethodListEntry;
-use member::MethodType;
-use member::NestedType;
-use member::OptOffset;
-use member::OverloadedMethodType;
-use member::StaticMemberType;
-use member::VirtualBaseClassType;
-use record::ParseAnswer;
-use text::OptString;
-use text::RawString;
+use field::index::TypeIndex;
+use field_text::OptString;
+use field_text::RawString;
+use record_data::ArrayType;
+use record_data::BitfieldType;
+use record_data::ClassKind;
+use record_data::ClassType;
+use record_data::EnumerationType;
+use record_data::MemberFunctionType;
+use record_data::ModifierType;
+use record_data::PointerType;
+use record_data::ProcedureType;
+use record_data::TypeData;
+use record_data::UnionType;
+use record_data::VirtualTableShapeType;
+use record_id::FunctionId;
+use record_id::IdData;
+use record_id::MemberFunctionId;
+use record_id::StringId;
+use record_id::UserDefinedTypeSourceFileRef;
+use record_id::UserDefinedTypeSourceId;
+use record_list::Element;
+use record_list::ElementAnswer;
+use record_list::IdElement;
+use record_list::IdElementAnswer;
+use record_list::IdStepAnswer;
+use record_list::ListCursor;
+use record_list::StartAnswer;
+use record_list::StepAnswer;
+use record_member::BaseClassType;
+use record_member::EnumerateType;
+use record_member::Member;
+use record_member::MemberType;
+use record_member::MethodListEntry;
+use record_member::MethodType;
+use record_member::NestedType;
+use record_member::OptOffset;
+use record_member::OverloadedMethodType;
+use record_member::StaticMemberType;
+use record_member::VirtualBaseClassType;
+use record_parse::ParseAnswer;
+use stream_item::Entry;
 
 // The place and the length of a string that may be absent, as a form takes them.
 
@@ -462,7 +462,7 @@ fn list_end(e: Refusal) {
 // The arguments of 0x1201 are read by `next_of`, the members of other lists by steps in place: each is tried.
 
 fn list_next(s: &[u8], c: ListCursor) -> Onward {
-    match reader::next_of(s, c) {
+    match record_reader::next_of(s, c) {
         StepAnswer::Answered(e, behind) => {
             element(e);
             Onward::To(behind)
@@ -475,7 +475,7 @@ fn list_next(s: &[u8], c: ListCursor) -> Onward {
 }
 
 fn list_step(s: &[u8], c: ListCursor) -> Onward {
-    let t = reader::step_of(s, c);
+    let t = record_reader::step_of(s, c);
     let behind = t.cursor;
     let answer = t.answer;
     match answer {
@@ -501,7 +501,7 @@ fn list_turn(s: &[u8], c: ListCursor) -> Onward {
 // The types of 0x1604 are read by `next_id_of`, the ids of 0x1603 by steps in place.
 
 fn id_list_next(s: &[u8], c: ListCursor) -> Onward {
-    match reader::next_id_of(s, c) {
+    match record_reader::next_id_of(s, c) {
         IdStepAnswer::Answered(e, behind) => {
             id_element(e);
             Onward::To(behind)
@@ -514,7 +514,7 @@ fn id_list_next(s: &[u8], c: ListCursor) -> Onward {
 }
 
 fn id_list_step(s: &[u8], c: ListCursor) -> Onward {
-    let t = reader::step_id_of(s, c);
+    let t = record_reader::step_id_of(s, c);
     let behind = t.cursor;
     let answer = t.answer;
     match answer {
@@ -565,14 +565,14 @@ fn id_list_walk(s: &[u8], from: ListCursor) {
 }
 
 fn elements(s: &[u8]) {
-    match lists::start(s) {
+    match record_list::start(s) {
         StartAnswer::Answered(c) => list_walk(s, c),
         StartAnswer::Refused(_) => {}
     }
 }
 
 fn id_elements(s: &[u8]) {
-    match lists::start_ids(s) {
+    match record_list::start_ids(s) {
         StartAnswer::Answered(c) => id_list_walk(s, c),
         StartAnswer::Refused(_) => {}
     }
@@ -680,7 +680,7 @@ fn fields(a: ParseAnswer) -> Lists {
 
 // The line of an entry whose record is the bytes s.
 pub fn entry(tpi: &[u8], ipi: &[u8], e: Entry, s: &[u8]) {
-    match fields(record::parse(tpi, ipi, e)) {
+    match fields(record_parse::parse(tpi, ipi, e)) {
         Lists::None => {}
         Lists::Types => elements(s),
         Lists::Ids => id_elements(s),
@@ -691,7 +691,7 @@ pub fn entry(tpi: &[u8], ipi: &[u8], e: Entry, s: &[u8]) {
 // One element by its number.
 
 pub fn nth(s: &[u8], k: u32) {
-    match reader::nth(s, k) {
+    match record_reader::nth(s, k) {
         ElementAnswer::Answered(e) => {
             lines::put(b"0 ");
             element(e);
@@ -702,7 +702,7 @@ pub fn nth(s: &[u8], k: u32) {
 }
 
 pub fn nth_id(s: &[u8], k: u32) {
-    match reader::nth_id(s, k) {
+    match record_reader::nth_id(s, k) {
         IdElementAnswer::Answered(e) => {
             lines::put(b"0 ");
             id_element(e);

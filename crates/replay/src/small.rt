@@ -3,25 +3,25 @@
 use crate::input;
 use crate::lines;
 use crate::stream_lines;
-use common::field;
-use common::field::ReadI8;
-use common::field::ReadI16;
-use common::field::ReadI32;
-use common::field::ReadI64;
-use common::index::IdIndex;
-use common::index::TypeIndex;
-use data::TypeAnswer;
-use item::Entry;
-use item::Item;
-use item::ItemIndex;
-use item::Stream;
-use item::information::EmptyAnswer;
-use item::information::LenAnswer;
-use lists::Element;
-use lists::ElementAnswer;
-use lists::IdElement;
-use lists::IdElementAnswer;
-use text::OptString;
+use field::fixed;
+use field::fixed::ReadI8;
+use field::fixed::ReadI16;
+use field::fixed::ReadI32;
+use field::fixed::ReadI64;
+use field::index::IdIndex;
+use field::index::TypeIndex;
+use field_text::OptString;
+use record_data::TypeAnswer;
+use record_list::Element;
+use record_list::ElementAnswer;
+use record_list::IdElement;
+use record_list::IdElementAnswer;
+use stream_item::Entry;
+use stream_item::Item;
+use stream_item::ItemIndex;
+use stream_item::Stream;
+use stream_item::information::EmptyAnswer;
+use stream_item::information::LenAnswer;
 
 fn put_if(b: bool, text: &[u8]) {
     if b {
@@ -44,28 +44,28 @@ fn sign(negative: bool, zero: bool) {
 }
 
 fn sign8(s: &[u8], p: usize) {
-    match field::i8_at(s, p) {
+    match fixed::i8_at(s, p) {
         ReadI8::Got(v, _) => sign(v < 0, v == 0),
         ReadI8::Ended => lines::put(b"1"),
     }
 }
 
 fn sign16(s: &[u8], p: usize) {
-    match field::i16_at(s, p) {
+    match fixed::i16_at(s, p) {
         ReadI16::Got(v, _) => sign(v < 0, v == 0),
         ReadI16::Ended => lines::put(b"1"),
     }
 }
 
 fn sign32(s: &[u8], p: usize) {
-    match field::i32_at(s, p) {
+    match fixed::i32_at(s, p) {
         ReadI32::Got(v, _) => sign(v < 0, v == 0),
         ReadI32::Ended => lines::put(b"1"),
     }
 }
 
 fn sign64(s: &[u8], p: usize) {
-    match field::i64_at(s, p) {
+    match fixed::i64_at(s, p) {
         ReadI64::Got(v, _) => sign(v < 0, v == 0),
         ReadI64::Ended => lines::put(b"1"),
     }
@@ -81,14 +81,14 @@ fn signs(s: &[u8], p: usize) {
 // A stream's count, and whether it is empty.
 
 fn empty(s: &[u8]) {
-    match item::information::is_empty(s) {
+    match stream_item::information::is_empty(s) {
         EmptyAnswer::Answered(b) => put_if(b, b" empty"),
         EmptyAnswer::Refused(_) => {}
     }
 }
 
 fn count(s: &[u8]) {
-    match item::information::len(s) {
+    match stream_item::information::len(s) {
         LenAnswer::Answered(n) => {
             lines::field(b"0 ", n as u64);
             empty(s);
@@ -144,7 +144,7 @@ fn optional(t: OptString) {
 }
 
 fn name(s: &[u8]) {
-    match data::type_data(s) {
+    match record_data::type_data(s) {
         TypeAnswer::Answered(d) => optional(d.name()),
         TypeAnswer::Refused(e) => lines::refusal(e),
     }
@@ -170,14 +170,14 @@ fn element_name(s: &[u8], e: Element) {
 }
 
 fn member_name(s: &[u8], k: u32) {
-    match lists::element_at(s, k) {
+    match record_list::element_at(s, k) {
         ElementAnswer::Answered(e) => element_name(s, e),
         ElementAnswer::Refused(e) => lines::refusal(e),
     }
 }
 
 fn id_at(s: &[u8], k: u32) {
-    match lists::element_at_ids(s, k) {
+    match record_list::element_at_ids(s, k) {
         IdElementAnswer::Answered(e) => match e {
             IdElement::Id(i) => lines::field(b"0 ", i.0 as u64),
             IdElement::Type(t) => lines::field(b"0 ", t.0 as u64),

@@ -2,27 +2,27 @@
 // its functions are proved safe, and what they print is tested and not proved.
 use crate::lines;
 use answer::Refusal;
-use common::index::IdIndex;
-use common::index::TypeIndex;
-use finder::FindAnswer;
-use finder::FinderAnswer;
-use finder::ItemFinder;
-use finder::lent::UpdateAnswer;
-use finder::lent::UpdateStep;
-use header::Header;
-use header::HeaderAnswer;
-use item::Entry;
-use item::Item;
-use item::ItemIndex;
-use item::Stream;
-use item::iter::ItemIter;
-use item::iter::IterAnswer;
-use item::iter::NextAnswer;
+use field::index::IdIndex;
+use field::index::TypeIndex;
 use libc::STDOUT_FILENO;
-use view::KindAnswer;
-use view::ViewAnswer;
-use walk::TurnAnswer;
-use walk::WalkAnswer;
+use stream_finder::FindAnswer;
+use stream_finder::FinderAnswer;
+use stream_finder::ItemFinder;
+use stream_finder::lent::UpdateAnswer;
+use stream_finder::lent::UpdateStep;
+use stream_header::Header;
+use stream_header::HeaderAnswer;
+use stream_index::TurnAnswer;
+use stream_index::WalkAnswer;
+use stream_item::Entry;
+use stream_item::Item;
+use stream_item::ItemIndex;
+use stream_item::Stream;
+use stream_item::iter::ItemIter;
+use stream_item::iter::IterAnswer;
+use stream_item::iter::NextAnswer;
+use stream_view::KindAnswer;
+use stream_view::ViewAnswer;
 
 // The stream that a command is about.
 pub fn index_in(ids: bool, n: u32) -> ItemIndex {
@@ -42,7 +42,7 @@ fn stream_of(ids: bool) -> Stream {
 // The header. Its offsets are read once more as numbers without a sign, which is what a form takes.
 
 fn bits(s: &[u8], p: usize) -> u64 {
-    common::field::u32_or_zero(s, p) as u64
+    field::fixed::u32_or_zero(s, p) as u64
 }
 
 fn slices(s: &[u8], n1: u32, n2: u32, n3: u32, count: u32) {
@@ -114,7 +114,7 @@ pub fn item_line(tpi: &[u8], ipi: &[u8], i: Item) {
     let index = i.index;
     lines::number(index.number() as u64);
     lines::put(b" ");
-    kind(view::raw_kind(tpi, ipi, Entry::Record(i)));
+    kind(stream_view::raw_kind(tpi, ipi, Entry::Record(i)));
     lines::form2(b" @\n", &[i.place as u64, i.length as u64]);
 }
 
@@ -141,7 +141,7 @@ pub fn next(s: &[u8], at: usize, index: u32) {
         at: at,
         index: index,
     };
-    match item::iter::next(s, c) {
+    match stream_item::iter::next(s, c) {
         NextAnswer::Yielded(i, behind) => yielded(i, behind),
         NextAnswer::Done => lines::put(b"0 done"),
         NextAnswer::Refused(e) => lines::refusal(e),
@@ -204,7 +204,7 @@ fn created(a: FinderAnswer) {
 }
 
 fn create_lent(s: &[u8], t: &mut [u32]) {
-    created(finder::create(s, t));
+    created(stream_finder::create(s, t));
     lent(t);
 }
 
@@ -227,7 +227,7 @@ fn updated(u: UpdateStep) {
 }
 
 fn update_lent(f: ItemFinder, t: &mut [u32], c: ItemIter) {
-    updated(finder::lent::update_local(f, t, c));
+    updated(stream_finder::lent::update_local(f, t, c));
     lent(t);
 }
 
@@ -267,21 +267,21 @@ pub fn lookup(s: &[u8], t: &[u32], f: ItemFinder, ids: bool, n: u32) {
     lines::number(n as u64);
     lines::put(b" ");
     if ids {
-        find_line(finder::find_id(s, t, f, IdIndex(n)));
+        find_line(stream_finder::find_id(s, t, f, IdIndex(n)));
         return;
     }
-    find_line(finder::find_type(s, t, f, TypeIndex(n)));
+    find_line(stream_finder::find_type(s, t, f, TypeIndex(n)));
 }
 
 // The same over the first n places.
 pub fn find_lent(s: &[u8], t: &[u32], n: usize, f: ItemFinder, i: ItemIndex) {
     if n <= t.len() {
-        find_line(finder::lent::find_local(f, s, &t[0..n], i));
+        find_line(stream_finder::lent::find_local(f, s, &t[0..n], i));
     }
 }
 
 pub fn max_index(f: ItemFinder) {
-    let i = finder::lent::max_index_local(f, Stream::Types);
+    let i = stream_finder::lent::max_index_local(f, Stream::Types);
     lines::form2(b"#\n", &[i.number() as u64, 0]);
 }
 
@@ -311,7 +311,7 @@ fn find_walk(
     let mut turns = n;
     while 0 < turns {
         turns -= 1;
-        let w = walk::turn(s, t, f, c);
+        let w = stream_index::turn(s, t, f, c);
         let TurnAnswer::Moved(g, behind) = w else {
             return f;
         };
@@ -329,14 +329,14 @@ pub enum Begun {
 
 fn iter_in(s: &[u8], ids: bool) -> IterAnswer {
     if ids {
-        return item::iter::ids(s);
+        return stream_item::iter::ids(s);
     }
-    item::iter::types(s)
+    stream_item::iter::types(s)
 }
 
 // The finder after one update from this cursor.
 fn early_update(t: &mut [u32; 8192], f: ItemFinder, c: ItemIter) -> ItemFinder {
-    match finder::update(t, f, c) {
+    match stream_finder::update(t, f, c) {
         FinderAnswer::Answered(g) => g,
         FinderAnswer::Refused(_) => f,
     }
@@ -362,14 +362,14 @@ fn refused(e: Refusal) -> Begun {
 }
 
 fn begin_by_turns(s: &[u8], ids: bool, t: &mut [u32; 8192], early: bool, n: u64) -> Begun {
-    match finder::create(s, t) {
+    match stream_finder::create(s, t) {
         FinderAnswer::Answered(f) => began(s, ids, t, f, early, n),
         FinderAnswer::Refused(e) => refused(e),
     }
 }
 
 fn whole(s: &[u8], stream: Stream, t: &mut [u32; 8192]) -> Begun {
-    match walk::walk(stream, s, t) {
+    match stream_index::walk(stream, s, t) {
         WalkAnswer::Answered(tour) => {
             let f = tour.finder;
             Begun::On(f)
@@ -416,10 +416,10 @@ fn kind_part(k: KindAnswer) {
 }
 
 fn view_part<'a>(tpi: &'a [u8], ipi: &'a [u8], e: Entry) {
-    match view::view_answer(tpi, ipi, e) {
+    match stream_view::view_answer(tpi, ipi, e) {
         ViewAnswer::Answered(_, _) => {
             lines::put(b"0 ");
-            hex(view::view(tpi, ipi, e));
+            hex(stream_view::view(tpi, ipi, e));
         }
         ViewAnswer::Refused(x) => lines::refusal(x),
     }
@@ -428,17 +428,17 @@ fn view_part<'a>(tpi: &'a [u8], ipi: &'a [u8], e: Entry) {
 pub fn view<'a>(tpi: &'a [u8], ipi: &'a [u8], i: Item) {
     let e = Entry::Record(i);
     view_part(tpi, ipi, e);
-    kind_part(view::raw_kind(tpi, ipi, e));
+    kind_part(stream_view::raw_kind(tpi, ipi, e));
 }
 
 // The marker's view and its kind.
 pub fn marker(none: &[u8], e: Entry) {
-    match view::view_answer(none, none, e) {
+    match stream_view::view_answer(none, none, e) {
         ViewAnswer::Answered(_, _) => lines::put(b"0"),
         ViewAnswer::Refused(x) => lines::refusal(x),
     }
     lines::put(b" ; kind ");
-    kind(view::raw_kind(none, none, e));
+    kind(stream_view::raw_kind(none, none, e));
     lines::put(b" ; ");
 }
 
@@ -449,7 +449,7 @@ pub fn raw_kind(s: &[u8]) {
         place: 0,
         length: s.len(),
     };
-    match view::raw_kind(s, &s[0..0], Entry::Record(i)) {
+    match stream_view::raw_kind(s, &s[0..0], Entry::Record(i)) {
         KindAnswer::Answered(n) => lines::form2(b"0 #", &[n as u64, 0]),
         KindAnswer::Refused(e) => lines::refusal(e),
     }

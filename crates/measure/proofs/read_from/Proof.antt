@@ -4,9 +4,9 @@ use lib.ListN.{length}
 use borrow.Author.Needs.{needs}
 use mathlib.Core.Path.{sym, ap, _∙_}
 use native.Mathlib.Omega.{arith}
-use Rattle.item.specs.Iterator.{saidNext}
-use Rattle.item.proofs.LinkLaws.{whole-is}
-use Rattle.item.proofs.NextLaws.{yields}
+use Rattle.stream_item.specs.Iterator.{saidNext}
+use Rattle.stream_item.proofs.LinkLaws.{whole-is}
+use Rattle.stream_item.proofs.NextLaws.{yields}
 use Rattle.measure.proofs.read_from.Statement.{statement}
 use Rattle.measure.proofs.read_from.Tie as tie
 

@@ -3,7 +3,7 @@ use Prim.Native.Nat.{_-_}
 use borrow.Author.Needs.{needs}
 use Rattle.replay.proofs.stream_lines.find_walk.Statement.{statement}
 use Rattle.replay.proofs.stream_lines.find_walk.Tie as tie
-use Rattle.walk.proofs.turn.Reads as turn-reads
+use Rattle.stream_index.proofs.turn.Reads as turn-reads
 
 abbrev Inv-loop : tie.InvT-loop
 Inv-loop s t₀ n f₀ c₀ turns₀ t f c turns = Unit {0}

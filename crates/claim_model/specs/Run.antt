@@ -1,0 +1,55 @@
+-- A whole use, in the crate and in the port: the header, a fresh finder, a fresh iterator, at most n records with an update behind each, then
+-- one lookup.
+use Prim.Native.Nat.{ℕ, zero, suc, _≤_}
+use mathlib.Core.List.{List}
+use lib.ListN.{length}
+use Rattle.answer.specs.Answer.{Answer, answered, then}
+use Rattle.stream_header.specs.Header.{longest}
+use Rattle.stream_item.specs.Items.{indexIn}
+use Rattle.stream_item.specs.Iterator.{iterOf, Next, done, yielded, nextOf}
+use Rattle.stream_item.specs.declared.Stream.{Stream}
+use Rattle.stream_item.specs.declared.iter.ItemIter.{ItemIter}
+use Rattle.stream_finder.specs.Finder.{State, createOf, updateOf, Found, findOf}
+use Rattle.claim_model.specs.Rust.{Rust, _>>=_}
+use Rattle.claim_model.specs.ParseBuffer.{Bytes}
+use Rattle.claim_model.specs.TpiHeader.{parse-information}
+use Rattle.claim_model.specs.TpiItems.{Item, iter, finder, tour, find}
+use Rattle.claim_model.specs.Equal.{Equal}
+use Rattle.claim_model.specs.Shown.{unlinked, Roomy}
+
+unfoldable pub crateRun : List ℕ → ℕ → ℕ → Rust Item
+crateRun s n i = do
+  info ← parse-information s
+  type-finder ← finder info
+  types ← iter info
+  (types, type-finder) ← tour n types type-finder
+  find type-finder i
+
+-- what follows a step: nothing after the end; after a record, the update with the cursor behind it, and the rest
+abbrev pub followed : ItemIter → State → (ItemIter → State → Answer (ItemIter × State)) → Next → Answer (ItemIter × State)
+followed c σ rest done = answered (c, σ)
+followed c σ rest (yielded i d) = then (updateOf σ d) (rest d)
+
+unfoldable pub turns : List ℕ → ℕ → ItemIter → State → Answer (ItemIter × State)
+turns s zero c σ = answered (c, σ)
+turns s (suc n) c σ = then (nextOf s c) (followed c σ (λ d τ. turns s n d τ))
+
+-- t is the lent table; the tag says which stream the bytes are
+unfoldable pub portRun : Stream → List ℕ → List ℕ → ℕ → ℕ → Answer Found
+portRun tag s t n i =
+    then (createOf s t) λ σ.
+    then (iterOf tag s) λ c.
+    then (turns s n c σ) λ (d, τ).
+    findOf s τ (indexIn tag i)
+
+-- a stream: bytes, and not over-long
+pub record Lent (s : List ℕ) : Type 0 where
+  pub bytes : Bytes s
+  pub short : length s ≤ longest
+
+-- demand 2 for a whole use. The domain: the Rust neither panics nor wraps (`Equal`), each stops at its iterator's first refusal (the runs
+-- themselves), every update comes from an iterator that has not refused (the runs again), and the lent table never lacks room (`Roomy`)
+unfoldable pub RunsEqual : Type 0
+RunsEqual =
+    (tag : Stream) (s t : List ℕ) (n i : ℕ) → Lent s → Roomy (portRun tag s t n i)
+    → Equal (crateRun s n i) (unlinked s (portRun tag s t n i))

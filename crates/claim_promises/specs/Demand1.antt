@@ -1,0 +1,167 @@
+-- Demand 1: "Every byte string and every number is answered or refused by document 01's table. A refusal gives nothing but its number and named
+-- detail, and all lent memory stays unchanged."
+--
+-- A contract is an equation between what an answer says and a definition, so what is said here of a definition holds of the function's answer.
+-- `Refuses ns a`: a is an answer, or a refusal by one of the numbers ns, with as many details as the table gives that number (ByTable.antt).
+use Prim.Native.Nat.{ℕ}
+use mathlib.Core.Bool.{true}
+use mathlib.Core.Path.{_≡_}
+use mathlib.Core.List.{List, [], _∷_}
+use Rattle.answer.specs.Answer.{refused}
+use Rattle.answer.specs.Refusals.{numberOf, detailsOf, listed}
+use Rattle.answer.specs.OneOutcome.{in-table}
+use Rattle.answer.specs.declared.Refusal.{Refusal}
+use Rattle.field.specs.Fields.{fixedAt, signedAt}
+use Rattle.field.specs.Indices.{noType, noId, optionalAt}
+use Rattle.field_text.specs.Texts.{stringAt, countedStringAt, stringOf, bytesAfter, paddingAfter}
+use Rattle.field_number.specs.Numbers.{numericAt, sizeAt}
+use Rattle.word_primitive.specs.Primitive.{primitiveOf}
+use Rattle.word_attributes.specs.Pointers.{kindOf, modeOf, toMemberOf, referenceOf, sizeOf}
+use Rattle.stream_header.specs.Header.{headerOf}
+use Rattle.stream_item.specs.Iterator.{iterOf, nextOf}
+use Rattle.stream_view.specs.Views.{viewOf, rawKindOf}
+use Rattle.stream_item.specs.Information.{lenOf, isEmptyOf}
+use Rattle.stream_item.specs.declared.Stream.{Stream}
+use Rattle.stream_item.specs.declared.ItemIndex.{ItemIndex}
+use Rattle.stream_item.specs.declared.Entry.{Entry}
+use Rattle.stream_item.specs.declared.iter.ItemIter.{ItemIter}
+use Rattle.stream_finder.specs.Finder.{State, state, saidFinder, createOf, updateOf, findOf, Leaves}
+use Rattle.stream_finder.specs.Lent.{saidUpdate, Updates}
+use Rattle.stream_finder.specs.declared.ItemFinder.{ItemFinder}
+use Rattle.stream_finder.specs.declared.FinderAnswer.{FinderAnswer}
+use Rattle.stream_finder.specs.declared.lent.UpdateAnswer.{UpdateAnswer}
+use Rattle.stream_index.specs.Walk.{saidTurn, turnOf, Leads, Indexes}
+use Rattle.stream_index.specs.declared.TurnAnswer.{TurnAnswer}
+use Rattle.stream_index.specs.declared.WalkAnswer.the-variants as walk
+use Rattle.record_layout.specs.Fields.{readFields}
+use Rattle.record_layout.specs.Layouts.{typeLeaves, memberLeaves, method, idLeaves, readRecord, recordOf}
+use Rattle.record_list.specs.Lists.{startOf, startIdsOf, stepOf, stepIdsOf, elementBy, elementOf, elementIdsOf}
+use Rattle.record_list.specs.Said.{saidElement, saidElementIds}
+use Rattle.record_list.specs.declared.ListCursor.{ListCursor}
+use Rattle.record_list.specs.declared.ElementAnswer.{ElementAnswer}
+use Rattle.record_list.specs.declared.IdElementAnswer.{IdElementAnswer}
+use Rattle.record_reader.specs.Reader.{Steps, StepsIds}
+use Rattle.record_parse.specs.Record.{parseOf}
+use Rattle.claim_promises.specs.ByTable.{Refuses, FindRefuses}
+use Rattle.claim_promises.specs.ReadingRefuses.{fixed-refuses, signed-refuses, optional-refuses, string-refuses, counted-refuses, string-of-refuses, bytes-refuses, padding-refuses, numeric-refuses, size-refuses}
+use Rattle.claim_promises.specs.StreamRefuses.{primitive-refuses, kind-refuses, mode-refuses, to-member-refuses, reference-refuses, pointer-size-refuses, header-refuses, iter-refuses, len-refuses, is-empty-refuses, next-refuses, view-refuses, raw-kind-refuses, create-refuses, update-refuses, find-refuses, turn-refuses, type-refuses, id-refuses, member-refuses, method-refuses, start-refuses, start-ids-refuses, step-refuses, step-ids-refuses, element-by-refuses, element-refuses, element-ids-refuses, parse-refuses}
+use Rattle.claim_promises.specs.LeftAlone.{leaves-alone, changes-nothing, leads-nowhere, steps-nowhere, steps-ids-nowhere}
+
+pub record Demand1 : Type 0 where
+  -- "Numbers a caller gets back": every case of the enum `Refusal`, which is all that a refused answer holds, is a line of the table
+  pub table : (e : Refusal) → listed (numberOf e) (detailsOf e) ≡ true
+  -- ---- every byte string and every number is answered, or refused by these numbers
+
+  -- fields at any place, over the width; strings, padding and numeric leaves
+  pub fields : (k : ℕ) (s : List ℕ) (p : ℕ) → Refuses (1 ∷ []) (fixedAt k s p)
+  pub signed-fields : (k : ℕ) (s : List ℕ) (p : ℕ) → Refuses (1 ∷ []) (signedAt k s p)
+  pub optional-indices : (nones s : List ℕ) (p : ℕ) → Refuses (1 ∷ []) (optionalAt nones s p)
+  pub strings : (s : List ℕ) (p : ℕ) → Refuses (1 ∷ []) (stringAt s p)
+  pub counted-strings : (s : List ℕ) (p : ℕ) → Refuses (1 ∷ []) (countedStringAt s p)
+  pub strings-by-leaf : (leaf : ℕ) (s : List ℕ) (p : ℕ) → Refuses (1 ∷ []) (stringOf leaf s p)
+  pub runs : (n : ℕ) (s : List ℕ) (p : ℕ) → Refuses (1 ∷ []) (bytesAfter n s p)
+  pub paddings : (s : List ℕ) (p : ℕ) → Refuses (1 ∷ []) (paddingAfter s p)
+  pub numbers : (s : List ℕ) (p : ℕ) → Refuses (1 ∷ 11 ∷ []) (numericAt s p)
+  pub sizes : (s : List ℕ) (p : ℕ) → Refuses (1 ∷ 11 ∷ []) (sizeAt s p)
+  -- primitives, and what a pointer word answers
+  pub primitives : (i : ℕ) → Refuses (8 ∷ []) (primitiveOf i)
+  pub pointer-kinds : (w : ℕ) → Refuses (12 ∷ []) (kindOf w)
+  pub pointer-modes : (w : ℕ) → Refuses (12 ∷ []) (modeOf w)
+  pub pointers-to-members : (w : ℕ) → Refuses (12 ∷ []) (toMemberOf w)
+  pub references : (w : ℕ) → Refuses (12 ∷ []) (referenceOf w)
+  pub pointer-sizes : (w : ℕ) → Refuses (12 ∷ []) (sizeOf w)
+  -- streams: header, count, iterator; items: view and raw kind
+  pub headers : (s : List ℕ) → Refuses (16 ∷ 1 ∷ 2 ∷ 3 ∷ 4 ∷ 5 ∷ []) (headerOf s)
+  pub counts : (s : List ℕ) → Refuses (16 ∷ 1 ∷ 2 ∷ 3 ∷ 4 ∷ 5 ∷ []) (lenOf s)
+  pub empties : (s : List ℕ) → Refuses (16 ∷ 1 ∷ 2 ∷ 3 ∷ 4 ∷ 5 ∷ []) (isEmptyOf s)
+  pub iterators : (tag : Stream) (s : List ℕ) → Refuses (16 ∷ 1 ∷ 2 ∷ 3 ∷ 4 ∷ 5 ∷ []) (iterOf tag s)
+  pub nexts : (s : List ℕ) (c : ItemIter) → Refuses (16 ∷ 1 ∷ 6 ∷ 7 ∷ []) (nextOf s c)
+  pub views : (t p : List ℕ) (e : Entry) → Refuses (16 ∷ 1 ∷ 8 ∷ []) (viewOf t p e)
+  pub raw-kinds : (t p : List ℕ) (e : Entry) → Refuses (16 ∷ 1 ∷ []) (rawKindOf t p e)
+  -- the finder; 1 has links passed from `find` only
+  pub creations : (s t : List ℕ) → Refuses (16 ∷ 1 ∷ 2 ∷ 3 ∷ 4 ∷ 5 ∷ 13 ∷ []) (createOf s t)
+  pub updates : (σ : State) (c : ItemIter) → Refuses (16 ∷ 13 ∷ 14 ∷ []) (updateOf σ c)
+  pub finds : (s : List ℕ) (σ : State) (i : ItemIndex) → FindRefuses (16 ∷ 13 ∷ 8 ∷ 9 ∷ 1 ∷ []) (findOf s σ i)
+  pub turns : (s : List ℕ) (σ : State) (c : ItemIter) → Refuses (16 ∷ 1 ∷ 6 ∷ 7 ∷ 13 ∷ 14 ∷ []) (turnOf s σ c)
+  -- records, members, methods, and entries of a stream
+  pub types : (s : List ℕ) → Refuses (1 ∷ 10 ∷ 11 ∷ 12 ∷ []) (recordOf typeLeaves s)
+  pub ids : (s : List ℕ) → Refuses (1 ∷ 10 ∷ []) (recordOf idLeaves s)
+  pub members : (s : List ℕ) (p : ℕ) → Refuses (1 ∷ 10 ∷ 11 ∷ []) (readRecord memberLeaves s p)
+  pub methods : (s : List ℕ) (p : ℕ) → Refuses (1 ∷ []) (readFields method 0 s p)
+  pub entries : (t s : List ℕ) (e : Entry) → Refuses (16 ∷ 1 ∷ 8 ∷ 10 ∷ 11 ∷ 12 ∷ []) (parseOf t s e)
+  -- lists: where they start, a step from any cursor, element k from any cursor, element k of a record
+  pub starts : (s : List ℕ) → Refuses (1 ∷ 10 ∷ []) (startOf s)
+  pub id-starts : (s : List ℕ) → Refuses (1 ∷ 10 ∷ []) (startIdsOf s)
+  pub steps : (s : List ℕ) (c : ListCursor) → Refuses (15 ∷ 1 ∷ 10 ∷ 11 ∷ []) (stepOf s c)
+  pub id-steps : (s : List ℕ) (c : ListCursor) → Refuses (15 ∷ 1 ∷ 10 ∷ []) (stepIdsOf s c)
+  pub elements-on : (s : List ℕ) (k : ℕ) (c : ListCursor) → Refuses (15 ∷ 1 ∷ 10 ∷ 11 ∷ []) (elementBy (stepOf s) k c)
+  pub id-elements-on : (s : List ℕ) (k : ℕ) (c : ListCursor) → Refuses (15 ∷ 1 ∷ 10 ∷ []) (elementBy (stepIdsOf s) k c)
+  pub elements : (s : List ℕ) (k : ℕ) → Refuses (15 ∷ 1 ∷ 10 ∷ 11 ∷ []) (elementOf s k)
+  pub id-elements : (s : List ℕ) (k : ℕ) → Refuses (15 ∷ 1 ∷ 10 ∷ []) (elementIdsOf s k)
+  -- ---- "all lent memory stays unchanged": where the function's answer r is a refusal, what was lent is after the call what it was before
+
+  -- the table, lent to creation, to `update` by value, to a turn and to a walk
+  pub create-leaves : (s t : List ℕ) (r : FinderAnswer) (t′ : List ℕ) (n : ℕ) (d : List ℕ) → Leaves t (createOf s t) r t′ → saidFinder r ≡ refused n d → t′ ≡ t
+  pub update-leaves : (f : ItemFinder) (t : List ℕ) (c : ItemIter) (r : FinderAnswer) (t′ : List ℕ) (n : ℕ) (d : List ℕ)
+      → Leaves t (updateOf (state f t) c) r t′ → saidFinder r ≡ refused n d → t′ ≡ t
+  pub turn-leaves : (s : List ℕ) (f : ItemFinder) (t : List ℕ) (c : ItemIter) (r : TurnAnswer) (t′ : List ℕ) (n : ℕ) (d : List ℕ)
+      → Leads t (turnOf s (state f t) c) r t′ → saidTurn r t′ ≡ refused n d → t′ ≡ t
+  pub walk-leaves : (tag : Stream) (s t : List ℕ) (e : Refusal) (t′ : List ℕ) → Indexes tag s t (walk.Refused e) t′ → t′ ≡ t
+  -- finder and table, lent to `update` in place
+  pub lent-update-leaves : (σ : State) (c : ItemIter) (r : UpdateAnswer) (τ : State) (n : ℕ) (d : List ℕ) → Updates σ c r τ → saidUpdate r ≡ refused n d → τ ≡ σ
+  -- the list reader, lent to its step: its bytes stay by the contract itself
+  pub step-leaves : (s : List ℕ) (c : ListCursor) (r : ElementAnswer) (c′ : ListCursor) (n : ℕ) (d : List ℕ) → Steps c (stepOf s c) r c′ → saidElement r ≡ refused n d → c′ ≡ c
+  pub id-step-leaves : (s : List ℕ) (c : ListCursor) (r : IdElementAnswer) (c′ : ListCursor) (n : ℕ) (d : List ℕ)
+      → StepsIds c (stepIdsOf s c) r c′ → saidElementIds r ≡ refused n d → c′ ≡ c
+
+pub demand1 : Demand1
+demand1 = record {
+  table = in-table;
+  fields = fixed-refuses;
+  signed-fields = signed-refuses;
+  optional-indices = optional-refuses;
+  strings = string-refuses;
+  counted-strings = counted-refuses;
+  strings-by-leaf = string-of-refuses;
+  runs = bytes-refuses;
+  paddings = padding-refuses;
+  numbers = numeric-refuses;
+  sizes = size-refuses;
+  primitives = primitive-refuses;
+  pointer-kinds = kind-refuses;
+  pointer-modes = mode-refuses;
+  pointers-to-members = to-member-refuses;
+  references = reference-refuses;
+  pointer-sizes = pointer-size-refuses;
+  headers = header-refuses;
+  counts = len-refuses;
+  empties = is-empty-refuses;
+  iterators = iter-refuses;
+  nexts = next-refuses;
+  views = view-refuses;
+  raw-kinds = raw-kind-refuses;
+  creations = create-refuses;
+  updates = update-refuses;
+  finds = find-refuses;
+  turns = turn-refuses;
+  types = type-refuses;
+  ids = id-refuses;
+  members = member-refuses;
+  methods = method-refuses;
+  entries = parse-refuses;
+  starts = start-refuses;
+  id-starts = start-ids-refuses;
+  steps = step-refuses;
+  id-steps = step-ids-refuses;
+  elements-on = λ s. element-by-refuses _ (stepOf s) (step-refuses s);
+  id-elements-on = λ s. element-by-refuses _ (stepIdsOf s) (step-ids-refuses s);
+  elements = element-refuses;
+  id-elements = element-ids-refuses;
+  create-leaves = λ s t. leaves-alone t (createOf s t);
+  update-leaves = λ f t c. leaves-alone t (updateOf (state f t) c);
+  turn-leaves = λ s f t c. leads-nowhere t (turnOf s (state f t) c);
+  walk-leaves = λ tag s t e t′ h. h .1;
+  lent-update-leaves = λ σ c. changes-nothing σ (updateOf σ c);
+  step-leaves = λ s c. steps-nowhere c (stepOf s c);
+  id-step-leaves = λ s c. steps-ids-nowhere c (stepIdsOf s c);
+}

@@ -1,0 +1,132 @@
+-- Document 01, "Examples": those marked P, together as one statement over their list, of the definitions that the contracts cite.
+-- Assumes nothing.
+use Prim.Native.Nat.{ℕ, zero, suc, _+_, _%_, _/_}
+use mathlib.Core.Path.{_≡_, refl}
+use mathlib.Core.List.{List, [], _∷_, map}
+use lib.ListN.{take}
+use Rattle.answer.specs.Answer.{Answer, answered, refused, then}
+use Rattle.answer.specs.Tables.{find}
+use Rattle.field.specs.Fields.{le}
+use Rattle.field_text.specs.Texts.{pad, paddingAfter}
+use Rattle.word_primitive.specs.Kinds.{kinds, indirections}
+use Rattle.word_primitive.specs.Primitive.{primitiveOf}
+use Rattle.word_primitive.specs.declared.PrimitiveKind.{PrimitiveKind}
+use Rattle.word_primitive.specs.declared.PrimitiveKind.the-variants.{I32}
+use Rattle.word_primitive.specs.declared.Indirection.{Indirection}
+use Rattle.word_primitive.specs.declared.Indirection.the-variants.{Near64}
+use Rattle.word_attributes.specs.Pointers.{pointerKinds, pointerModes, kindOf, modeOf, sizeOf}
+use Rattle.word_attributes.specs.declared.PointerKind.{PointerKind}
+use Rattle.word_attributes.specs.declared.PointerKind.the-variants.{Ptr64}
+use Rattle.word_attributes.specs.declared.PointerMode.{PointerMode}
+use Rattle.word_attributes.specs.declared.PointerMode.the-variants.{Pointer}
+use Rattle.stream_header.specs.Header.{headerOf}
+use Rattle.stream_header.specs.Examples.{four, headerE, streamE}
+use Rattle.stream_item.specs.Items.{indexIn, numberIn}
+use Rattle.stream_item.specs.Links.{linkAt, chain, linkOf}
+use Rattle.stream_item.specs.Iterator.{iterOf, Next, done, yielded, nextOf}
+use Rattle.stream_item.specs.declared.Stream.the-variants.{Types}
+use Rattle.stream_item.specs.declared.Entry.{Entry}
+use Rattle.stream_item.specs.declared.Entry.the-variants as entry
+use Rattle.stream_finder.specs.Finder.{begunBy, createBy, maxIndexBy, lookBy, createOf, findOf}
+
+-- what is asked: an entry and its input
+pub data Asked : Type 0 where
+  -- step k of a fresh iterator over a stream, the first being 0
+  step : ℕ → List ℕ → Asked
+  -- an index in a fresh finder of a stream, with room for one place
+  lookup : List ℕ → ℕ → Asked
+  -- a pointer word's kind, mode and size
+  kind mode size : ℕ → Asked
+  header : List ℕ → Asked
+  padding : List ℕ → Asked
+  primitive : ℕ → Asked
+
+-- what is shown where it is not refused
+pub data Shown : Type 0 where
+  -- an index, and where its payload starts and ends
+  item : ℕ → ℕ → ℕ → Shown
+  over : Shown
+  -- where the payload starts and ends, and the links passed
+  found : ℕ → ℕ → ℕ → Shown
+  marker : ℕ → Shown
+  pointer-kind : PointerKind → Shown
+  pointer-mode : PointerMode → Shown
+  number : ℕ → Shown
+  -- header_size, minimum and maximum
+  bounds : ℕ → ℕ → ℕ → Shown
+  by : PrimitiveKind → Indirection → Shown
+
+abbrev stepAgain : List ℕ → Next → Answer Next
+stepAgain s done = answered done
+stepAgain s (yielded i c) = nextOf s c
+
+abbrev stepped : ℕ → List ℕ → Answer Next
+stepped zero s = then (iterOf Types s) (nextOf s)
+stepped (suc k) s = then (stepped k s) (stepAgain s)
+
+abbrev nextShown : Next → Shown
+nextShown done = over
+nextShown (yielded i c) = item (numberIn (i .index)) (i .place) (i .place + i .length)
+
+abbrev entryShown : Entry → ℕ → Shown
+entryShown (entry.Record i) k = found (i .place) (i .place + i .length) k
+entryShown (entry.Marker i) k = marker (numberIn i)
+
+abbrev pub outcome : Asked → Answer Shown
+outcome (step k s) = then (stepped k s) (λ x. answered (nextShown x))
+outcome (lookup s i) = then (createOf s (0 ∷ [])) (λ σ. then (findOf s σ (indexIn Types i)) (λ x. answered (entryShown (x .entry) (x .passed))))
+outcome (kind w) = then (kindOf w) (λ k. answered (pointer-kind k))
+outcome (mode w) = then (modeOf w) (λ m. answered (pointer-mode m))
+outcome (size w) = then (sizeOf w) (λ n. answered (number n))
+outcome (header s) = then (headerOf s) (λ h. answered (bounds (h .«header_size») (h .«minimum_index») (h .«maximum_index»)))
+outcome (padding s) = then (paddingAfter s 0) (λ n. answered (number n))
+outcome (primitive i) = then (primitiveOf i) (λ t. answered (by (t .kind) (t .indirection)))
+
+-- a line of 01: what is asked, and what is answered, or the number and its details
+infix 15 _gives_
+pub data Example : Type 0 where
+  _gives_ : Asked → Answer Shown → Example
+
+unfoldable pub examples : List Example
+examples =
+    -- E iterates 4096 (payload 58 to 66) and 4097 (68 to 78), then done
+    (step 0 streamE gives answered (item 4096 58 66))
+    ∷ (step 1 streamE gives answered (item 4097 68 78))
+    ∷ (step 2 streamE gives answered over)
+    -- `find` 4097 in E passes 1 link; 4098 gives 1 with 2 passed; 4099 gives 8; 4095 the marker
+    ∷ (lookup streamE 4097 gives answered (found 68 78 1))
+    ∷ (lookup streamE 4098 gives refused 1 (2 ∷ []))
+    ∷ (lookup streamE 4099 gives refused 8 (4099 ∷ []))
+    ∷ (lookup streamE 4095 gives answered (marker 4095))
+    -- the pointer word 0x0001000c has kind 12, mode 0, size 8; 0x0d is 12
+    ∷ (kind 0x0001000c gives answered (pointer-kind Ptr64))
+    ∷ (mode 0x0001000c gives answered (pointer-mode Pointer))
+    ∷ (size 0x0001000c gives answered (number 8))
+    ∷ (kind 0x0d gives refused 12 [])
+    -- empty stream, `find` 0 gives 9 with 0 and 0; `find` 1 gives 8
+    ∷ (lookup [] 0 gives refused 9 (0 ∷ 0 ∷ []))
+    ∷ (lookup [] 1 gives refused 8 (1 ∷ []))
+    -- 55 bytes give 1; header_size 55 gives 2, 1025 gives 3
+    ∷ (header (take 55 streamE) gives refused 1 [])
+    ∷ (header (headerE (four 55 0)) gives refused 2 [])
+    ∷ (header (headerE (four 1 4)) gives refused 3 [])
+    -- padding f3 f2 f1 consumes 3; f0 41 consumes 1; f2 alone gives 1
+    ∷ (padding (0xf3 ∷ 0xf2 ∷ 0xf1 ∷ []) gives answered (number 3))
+    ∷ (padding (0xf0 ∷ 0x41 ∷ []) gives answered (number 1))
+    ∷ (padding (0xf2 ∷ []) gives refused 1 [])
+    -- 0x0674 is I32 by Near64; 0x0874 and 0x0004 give 8
+    ∷ (primitive 0x0674 gives answered (by I32 Near64))
+    ∷ (primitive 0x0874 gives refused 8 (0x0874 ∷ []))
+    ∷ (primitive 0x0004 gives refused 8 (0x0004 ∷ []))
+    ∷ []
+
+abbrev pub asked : Example → Answer Shown
+asked (a gives r) = outcome a
+
+abbrev pub given : Example → Answer Shown
+given (a gives r) = r
+
+-- every line holds
+pub examples-hold : map asked examples ≡ map given examples
+unfolding examples iterOf headerOf nextOf le createBy begunBy lookBy linkOf chain linkAt maxIndexBy kindOf modeOf sizeOf find pointerKinds pointerModes paddingAfter pad primitiveOf kinds indirections
+examples-hold = refl

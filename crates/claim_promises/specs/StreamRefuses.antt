@@ -1,0 +1,340 @@
+-- The numbers that headers, iterators, views, finders, walks, lists and entries are refused by. Assumes nothing.
+use Prim.Native.Nat.{ℕ, zero, suc, _+_, _-_, _*_, _/_, _%_, _^_}
+use mathlib.Core.Bool.{Bool, true, false}
+use mathlib.Core.Path.{_≡_, refl}
+use mathlib.Core.List.{List, [], _∷_}
+use mathlib.Core.Option.{Option, none, some}
+use lib.ListN.{length, getD}
+use lib.Dec.{leb, ltb, eqb}
+use Rattle.answer.specs.Answer.{Answer, answered, refused, pick, stop, then}
+use Rattle.answer.specs.Tables.{Line, find, among}
+use Rattle.answer.specs.Refusals.{listed, detailCounts}
+use Rattle.field.specs.Fields.{le, fixedAt}
+use Rattle.field_text.specs.Texts.{bytesAfter, paddingAfter}
+use Rattle.word_primitive.specs.Kinds.{kinds, indirections}
+use Rattle.word_primitive.specs.Primitive.{known, primitiveOf}
+use Rattle.word_attributes.specs.Bits.{bits}
+use Rattle.word_attributes.specs.Pointers.{pointerKinds, pointerModes, good, kindOf, modeOf, toMemberOf, referenceOf, sizeOf}
+use Rattle.stream_header.specs.Header.{longest, headerOf}
+use Rattle.stream_header.specs.declared.Header.{Header}
+use Rattle.stream_item.specs.Items.{numberIn}
+use Rattle.stream_item.specs.Links.{linkOf}
+use Rattle.stream_item.specs.Iterator.{iterOf, Next, done, yielded, nextOf}
+use Rattle.stream_view.specs.Views.{partOf, named, shortOf, entryOf, viewOf, kindAt, kindOf as kindIn, rawKindOf}
+use Rattle.stream_item.specs.Information.{lenOf, isEmptyOf}
+use Rattle.stream_item.specs.declared.Stream.{Stream}
+use Rattle.stream_item.specs.declared.ItemIndex.{ItemIndex}
+use Rattle.stream_item.specs.declared.ItemIndex.the-variants as index
+use Rattle.stream_item.specs.declared.Entry.{Entry}
+use Rattle.stream_item.specs.declared.Entry.the-variants as entry
+use Rattle.stream_item.specs.declared.iter.ItemIter.{ItemIter}
+use Rattle.stream_item.specs.declared.link.Hit.{Hit}
+use Rattle.stream_item.specs.declared.link.Hit.the-variants.{Landed, Missed}
+use Rattle.stream_finder.specs.Finder.{State, distance, begunBy, createOf, createBy, due, updateBy, updateOf, landed, maxIndexBy, lookBy, findOf}
+use Rattle.stream_index.specs.Walk.{Turn, updating, turnBy, turnOf}
+use Rattle.record_layout.specs.Fields.{Value, Field, readFields}
+use Rattle.record_layout.specs.Layouts.{T, id, typeLeaves, idLeaves, memberLeaves, method, readRecord, recordOf}
+use Rattle.field_text.specs.Texts.{Part}
+use Rattle.record_list.specs.Lists.{Entry as Element, Step, elementsAt, counted, startOf, startIdsOf, countedStep, methodStep, memberStep, nextMember, stepOf, stepIdsOf, elementBy, elementOf, elementIdsOf, typeEntry, idEntry}
+use Rattle.record_list.specs.declared.ListCursor.{ListCursor}
+use Rattle.record_parse.specs.Record.{bytes, numberedOf, typeBytes, idBytes, typeItem, typeMarker, itemOf, markerOf, entryOf as parsedOf, parseOf}
+use Rattle.claim_promises.specs.ByTable.{elsewhere, Refuses, FindRefuses, fits, gives, refuses, by-pick, by-stop, by-then, within, wider}
+use Rattle.claim_promises.specs.ReadingRefuses.{fixed-refuses, bytes-refuses, padding-refuses, TakesAll, no-more, _&_, fields-refuse, read-record-refuses, record-refuses, type-takes, member-takes, method-takes, id-takes}
+
+-- Primitives: 8. Pointer words: 12
+
+known-refuses : {A B : Type 0} (i : ℕ) (o : Option A) (f : A → Answer B) → ((a : A) → Refuses (8 ∷ []) (f a)) → Refuses (8 ∷ []) (known i o f)
+unfolding fits among listed find detailCounts
+known-refuses i none f h = refuses refl
+known-refuses i (some a) f h = h a
+
+pub primitive-refuses : (i : ℕ) → Refuses (8 ∷ []) (primitiveOf i)
+unfolding primitiveOf fits among listed find detailCounts
+primitive-refuses i =
+    by-pick (leb 0x1000 i) (refuses refl)
+    (known-refuses i (find (i / 2 ^ 8 % 2 ^ 4) indirections) _ (λ d.
+    known-refuses i (find (i % 2 ^ 8) kinds) _ (λ k. gives)))
+
+good-refuses : {A : Type 0} (o : Option A) → Refuses (12 ∷ []) (good o)
+unfolding fits among listed find detailCounts
+good-refuses none = refuses refl
+good-refuses (some a) = gives
+
+pub kind-refuses : (w : ℕ) → Refuses (12 ∷ []) (kindOf w)
+unfolding kindOf
+kind-refuses w = good-refuses (find (bits 0 4 w) pointerKinds)
+
+pub mode-refuses : (w : ℕ) → Refuses (12 ∷ []) (modeOf w)
+unfolding modeOf
+mode-refuses w = good-refuses (find (bits 5 7 w) pointerModes)
+
+pub to-member-refuses : (w : ℕ) → Refuses (12 ∷ []) (toMemberOf w)
+unfolding toMemberOf
+to-member-refuses w = by-then (mode-refuses w) (λ m. gives)
+
+pub reference-refuses : (w : ℕ) → Refuses (12 ∷ []) (referenceOf w)
+unfolding referenceOf
+reference-refuses w = by-then (mode-refuses w) (λ m. gives)
+
+pub pointer-size-refuses : (w : ℕ) → Refuses (12 ∷ []) (sizeOf w)
+unfolding sizeOf
+pointer-size-refuses w = by-pick (eqb (bits 13 18 w) 0) (by-then (kind-refuses w) (λ k. gives)) gives
+
+-- Headers and what is made of them: 16, 1, 2, 3, 4, 5
+
+abbrev pub ofHeaders : List ℕ
+ofHeaders = 16 ∷ 1 ∷ 2 ∷ 3 ∷ 4 ∷ 5 ∷ []
+
+pub header-refuses : (s : List ℕ) → Refuses ofHeaders (headerOf s)
+unfolding headerOf fits among listed find detailCounts
+header-refuses s =
+    by-stop (ltb longest (length s)) 16 refl
+    (by-pick (eqb (length s) 0) gives
+    (by-stop (ltb (length s) 56) 1 refl
+    (by-stop (ltb (le 4 s 4) 56) 2 refl
+    (by-stop (ltb 1024 (le 4 s 4)) 3 refl
+    (by-stop (ltb (length s) (le 4 s 4)) 1 refl
+    (by-stop (ltb (le 4 s 8) 4096) 4 refl
+    (by-stop (ltb (le 4 s 12) (le 4 s 8)) 5 refl
+    gives)))))))
+
+pub iter-refuses : (tag : Stream) (s : List ℕ) → Refuses ofHeaders (iterOf tag s)
+unfolding iterOf
+iter-refuses tag s = by-then (header-refuses s) (λ h. gives)
+
+pub len-refuses : (s : List ℕ) → Refuses ofHeaders (lenOf s)
+unfolding lenOf
+len-refuses s = by-then (header-refuses s) (λ h. gives)
+
+pub is-empty-refuses : (s : List ℕ) → Refuses ofHeaders (isEmptyOf s)
+unfolding isEmptyOf
+is-empty-refuses s = by-then (len-refuses s) (λ n. gives)
+
+-- The iterator: 16, 1, 6, 7
+
+pub next-refuses : (s : List ℕ) (c : ItemIter) → Refuses (16 ∷ 1 ∷ 6 ∷ 7 ∷ []) (nextOf s c)
+unfolding nextOf fits among listed find detailCounts
+next-refuses s c =
+    by-stop (ltb longest (length s)) 16 refl
+    (by-stop (ltb (length s) (c .at)) 1 refl
+    (by-pick (leb (length s) (c .at)) gives
+    (by-stop (ltb (length s) (c .at + 2)) 1 refl
+    (by-stop (ltb (le 2 s (c .at)) 2) 6 refl
+    (by-stop (ltb (length s) (c .at + 2 + le 2 s (c .at))) 1 refl
+    (by-stop (leb 4294967295 (c .index)) 7 refl
+    gives))))))
+
+-- Views: 16, 1, 8; kinds: 16, 1
+
+short-refuses : {A : Type 0} (ns t p : List ℕ) {a : Answer A} → fits elsewhere ns 16 [] ≡ true → Refuses ns a → Refuses ns (shortOf t p a)
+short-refuses ns t p h r = by-stop (ltb longest (length t)) 16 h (by-stop (ltb longest (length p)) 16 h r)
+
+entry-refuses : (t p : List ℕ) (e : Entry) → Refuses (16 ∷ 1 ∷ 8 ∷ []) (entryOf t p e)
+unfolding partOf fits among listed find detailCounts
+entry-refuses t p (entry.Record i) = by-stop (ltb (length (named t p (i .index))) (i .place + i .length)) 1 refl gives
+entry-refuses t p (entry.Marker i) = refuses refl
+
+pub view-refuses : (t p : List ℕ) (e : Entry) → Refuses (16 ∷ 1 ∷ 8 ∷ []) (viewOf t p e)
+unfolding fits among listed find detailCounts
+view-refuses t p e = short-refuses _ t p refl (entry-refuses t p e)
+
+kind-in-refuses : (t p : List ℕ) (e : Entry) → Refuses (16 ∷ 1 ∷ []) (kindIn t p e)
+unfolding kindAt fits among listed find detailCounts
+kind-in-refuses t p (entry.Record i) =
+    by-stop (ltb (length (named t p (i .index))) (i .place + i .length)) 1 refl
+    (by-stop (ltb (i .length) 2) 1 refl
+    gives)
+kind-in-refuses t p (entry.Marker i) = gives
+
+pub raw-kind-refuses : (t p : List ℕ) (e : Entry) → Refuses (16 ∷ 1 ∷ []) (rawKindOf t p e)
+unfolding fits among listed find detailCounts
+raw-kind-refuses t p e = short-refuses _ t p refl (kind-in-refuses t p e)
+
+-- The finder
+
+abbrev pub ofCreation : List ℕ
+ofCreation = 16 ∷ 1 ∷ 2 ∷ 3 ∷ 4 ∷ 5 ∷ 13 ∷ []
+
+begun-refuses : (t : List ℕ) (h : Header) → Refuses ofCreation (begunBy 3 t h)
+unfolding begunBy fits among listed find detailCounts
+begun-refuses t h = by-pick (ltb (h .«minimum_index») (h .«maximum_index»)) (by-stop (leb (length t) 0) 13 refl gives) gives
+
+pub create-refuses : (s t : List ℕ) → Refuses ofCreation (createOf s t)
+unfolding createBy within among
+create-refuses s t = by-then (wider refl (header-refuses s)) (λ h. begun-refuses t h)
+
+pub update-refuses : (σ : State) (c : ItemIter) → Refuses (16 ∷ 13 ∷ 14 ∷ []) (updateOf σ c)
+unfolding updateBy fits among listed find detailCounts
+update-refuses σ c =
+    by-stop (ltb longest (c .at)) 16 refl
+    (by-stop (ltb (length (σ .table)) (σ .finder .held)) 13 refl
+    (by-stop (ltb (c .index) (σ .finder .«minimum_index»)) 14 refl
+    (by-pick (due 8 (σ .finder) (c .index))
+    (by-stop (leb (length (σ .table)) (σ .finder .held)) 13 refl gives)
+    gives)))
+
+abbrev pub ofFind : List ℕ
+ofFind = 16 ∷ 13 ∷ 8 ∷ 9 ∷ 1 ∷ []
+
+landed-refuses : (i : ItemIndex) (k : ℕ) (h : Hit) → FindRefuses ofFind (landed i k h)
+unfolding fits among listed find detailCounts
+landed-refuses i k (Landed p n) = gives
+landed-refuses i k (Missed j) = refuses refl
+
+look-refuses : (s : List ℕ) (σ : State) (i : ItemIndex) (n : ℕ) → FindRefuses ofFind (lookBy 8 s σ i n)
+unfolding lookBy fits among listed find detailCounts
+look-refuses s σ i n =
+    by-stop (ltb longest (length s)) 16 refl
+    (by-stop (ltb (length (σ .table)) (σ .finder .held)) 13 refl
+    (by-pick (ltb n (σ .finder .«minimum_index»)) gives
+    (by-pick (ltb (σ .finder .«maximum_index») n) (refuses refl)
+    (by-pick (leb (σ .finder .held) (distance (σ .finder) n / 8)) (refuses refl)
+    (landed-refuses i (distance (σ .finder) n % 8)
+    (linkOf s (getD (σ .table) (distance (σ .finder) n / 8) 0) (distance (σ .finder) n % 8)))))))
+
+pub find-refuses : (s : List ℕ) (σ : State) (i : ItemIndex) → FindRefuses ofFind (findOf s σ i)
+find-refuses s σ i = look-refuses s σ i (numberIn i)
+
+abbrev pub ofTurns : List ℕ
+ofTurns = 16 ∷ 1 ∷ 6 ∷ 7 ∷ 13 ∷ 14 ∷ []
+
+updating-refuses : (σ : State) (x : Next) → Refuses ofTurns (updating 8 σ x)
+unfolding within among
+updating-refuses σ done = gives
+updating-refuses σ (yielded i d) = by-then (wider refl (update-refuses σ d)) (λ τ. gives)
+
+pub turn-refuses : (s : List ℕ) (σ : State) (c : ItemIter) → Refuses ofTurns (turnOf s σ c)
+unfolding turnBy within among
+turn-refuses s σ c = by-then (wider refl (next-refuses s c)) (λ x. updating-refuses σ x)
+
+-- Records
+
+pub type-refuses : (s : List ℕ) → Refuses (1 ∷ 10 ∷ 11 ∷ 12 ∷ []) (recordOf typeLeaves s)
+unfolding within among
+type-refuses s = record-refuses _ typeLeaves refl refl type-takes s
+
+pub id-refuses : (s : List ℕ) → Refuses (1 ∷ 10 ∷ []) (recordOf idLeaves s)
+unfolding within among
+id-refuses s = record-refuses _ idLeaves refl refl id-takes s
+
+pub member-refuses : (s : List ℕ) (p : ℕ) → Refuses (1 ∷ 10 ∷ 11 ∷ []) (readRecord memberLeaves s p)
+unfolding within among
+member-refuses s p = read-record-refuses _ memberLeaves refl refl member-takes s p
+
+pub method-refuses : (s : List ℕ) (p : ℕ) → Refuses (1 ∷ []) (readFields method 0 s p)
+method-refuses s p = fields-refuse _ method 0 s p method-takes
+
+-- Lists
+
+elements-refuse : (leaf n : ℕ) (s : List ℕ) (p : ℕ) → Refuses (1 ∷ 10 ∷ []) (elementsAt leaf n s p)
+unfolding elementsAt within among
+elements-refuse leaf n s p = by-then (wider refl (bytes-refuses (4 * n) s p)) (λ e. gives)
+
+list-refuses : (k leaf : ℕ) (s : List ℕ) (p : ℕ) → Refuses (1 ∷ 10 ∷ []) (counted k leaf s p)
+unfolding counted within among
+list-refuses k leaf s p = by-then (wider refl (fixed-refuses k s p)) (λ g. elements-refuse leaf (g .value) s (g .next))
+
+pub start-refuses : (s : List ℕ) → Refuses (1 ∷ 10 ∷ []) (startOf s)
+unfolding startOf fits within among listed find detailCounts
+start-refuses s =
+    by-then (wider refl (fixed-refuses 2 s 0)) (λ g.
+    by-pick (eqb (g .value) 0x1201) (list-refuses 4 0x1201 s (g .next))
+    (by-pick (eqb (g .value) 0x1206) gives
+    (by-pick (eqb (g .value) 0x1203) gives
+    (refuses refl))))
+
+pub start-ids-refuses : (s : List ℕ) → Refuses (1 ∷ 10 ∷ []) (startIdsOf s)
+unfolding startIdsOf fits within among listed find detailCounts
+start-ids-refuses s =
+    by-then (wider refl (fixed-refuses 2 s 0)) (λ g.
+    by-pick (eqb (g .value) 0x1603) (list-refuses 2 0x1603 s (g .next))
+    (by-pick (eqb (g .value) 0x1604) (list-refuses 4 0x1604 s (g .next))
+    (refuses refl)))
+
+abbrev pub ofIdSteps : List ℕ
+ofIdSteps = 15 ∷ 1 ∷ 10 ∷ []
+
+abbrev pub ofSteps : List ℕ
+ofSteps = 15 ∷ 1 ∷ 10 ∷ 11 ∷ []
+
+counted-step-refuses : (f : Field) (entry : List (Value Part) → Element) (leaf : ℕ) (s : List ℕ) (p left : ℕ) → TakesAll ofIdSteps (f ∷ []) → Refuses ofIdSteps (countedStep f entry leaf s p left)
+unfolding countedStep fits among listed find detailCounts
+counted-step-refuses f entry leaf s p left h = by-stop (eqb left 0) 15 refl (by-then (fields-refuse _ (f ∷ []) 0 s p h) (λ g. gives))
+
+method-step-refuses : (s : List ℕ) (p : ℕ) → Refuses ofSteps (methodStep s p)
+unfolding methodStep fits within among listed find detailCounts
+method-step-refuses s p = by-stop (leb (length s) p) 15 refl (by-then (wider refl (method-refuses s p)) (λ g. gives))
+
+member-step-refuses : (s : List ℕ) (p : ℕ) → Refuses ofSteps (memberStep s p)
+unfolding memberStep fits within among listed find detailCounts
+member-step-refuses s p = by-stop (leb (length s) p) 15 refl (by-then (wider refl (member-refuses s p)) (λ g. gives))
+
+next-member-refuses : (s : List ℕ) (p left : ℕ) (padded : Bool) → Refuses ofSteps (nextMember s p left padded)
+unfolding nextMember fits within among listed find detailCounts
+next-member-refuses s p left padded =
+    by-stop (eqb left 0) 15 refl
+    (by-then (by-pick padded (wider refl (padding-refuses s p)) gives) (λ q.
+    member-step-refuses s q))
+
+pub step-refuses : (s : List ℕ) (c : ListCursor) → Refuses ofSteps (stepOf s c)
+unfolding stepOf fits within among listed find detailCounts
+step-refuses s c =
+    by-pick (eqb (c .leaf) 0x1201) (wider refl (counted-step-refuses T typeEntry 0x1201 s (c .at) (c .left) (refl & no-more)))
+    (by-pick (eqb (c .leaf) 0x1206) (method-step-refuses s (c .at))
+    (by-pick (eqb (c .leaf) 0x1203) (next-member-refuses s (c .at) (c .left) (c .padded))
+    (refuses refl)))
+
+pub step-ids-refuses : (s : List ℕ) (c : ListCursor) → Refuses ofIdSteps (stepIdsOf s c)
+unfolding stepIdsOf fits within among listed find detailCounts
+step-ids-refuses s c =
+    by-pick (eqb (c .leaf) 0x1603) (counted-step-refuses id idEntry 0x1603 s (c .at) (c .left) (refl & no-more))
+    (by-pick (eqb (c .leaf) 0x1604) (counted-step-refuses T typeEntry 0x1604 s (c .at) (c .left) (refl & no-more))
+    (refuses refl))
+
+pub element-by-refuses : (ns : List ℕ) (step : ListCursor → Answer Step) → ((c : ListCursor) → Refuses ns (step c)) → (k : ℕ) (c : ListCursor) → Refuses ns (elementBy step k c)
+unfolding elementBy
+element-by-refuses ns step h zero c = by-then (h c) (λ x. gives)
+element-by-refuses ns step h (suc k) c = by-then (h c) (λ x. element-by-refuses ns step h k (x .next))
+
+pub element-refuses : (s : List ℕ) (k : ℕ) → Refuses ofSteps (elementOf s k)
+unfolding elementOf within among
+element-refuses s k = by-then (wider refl (start-refuses s)) (λ c. element-by-refuses _ (stepOf s) (step-refuses s) k c)
+
+pub element-ids-refuses : (s : List ℕ) (k : ℕ) → Refuses ofIdSteps (elementIdsOf s k)
+unfolding elementIdsOf within among
+element-ids-refuses s k = by-then (wider refl (start-ids-refuses s)) (λ c. element-by-refuses _ (stepIdsOf s) (step-ids-refuses s) k c)
+
+-- Entries
+
+abbrev pub ofEntries : List ℕ
+ofEntries = 16 ∷ 1 ∷ 8 ∷ 10 ∷ 11 ∷ 12 ∷ []
+
+numbered-refuses : (i : ℕ) → Refuses ofEntries (numberedOf i)
+unfolding within among
+numbered-refuses i = by-then (wider refl (primitive-refuses i)) (λ t. gives)
+
+type-bytes-refuses : (s : List ℕ) (p n : ℕ) → Refuses ofEntries (typeBytes s p n)
+unfolding typeBytes fits within among listed find detailCounts
+type-bytes-refuses s p n = by-stop (ltb (length s) (p + n)) 1 refl (by-then (wider refl (type-refuses (bytes s p n))) (λ vs. gives))
+
+id-bytes-refuses : (s : List ℕ) (p n : ℕ) → Refuses ofEntries (idBytes s p n)
+unfolding idBytes fits within among listed find detailCounts
+id-bytes-refuses s p n = by-stop (ltb (length s) (p + n)) 1 refl (by-then (wider refl (id-refuses (bytes s p n))) (λ vs. gives))
+
+item-refuses : (t s : List ℕ) (i : ItemIndex) (p n : ℕ) → Refuses ofEntries (itemOf t s i p n)
+unfolding typeItem
+item-refuses t s (index.Types i) p n = by-pick (ltb (i .0) 0x1000) (numbered-refuses (i .0)) (type-bytes-refuses t p n)
+item-refuses t s (index.Ids i) p n = id-bytes-refuses s p n
+
+marker-refuses : (i : ItemIndex) → Refuses ofEntries (markerOf i)
+unfolding typeMarker fits among listed find detailCounts
+marker-refuses (index.Types i) = by-pick (ltb (i .0) 0x1000) (numbered-refuses (i .0)) (refuses refl)
+marker-refuses (index.Ids i) = refuses refl
+
+parsed-refuses : (t s : List ℕ) (e : Entry) → Refuses ofEntries (parsedOf t s e)
+parsed-refuses t s (entry.Record i) = item-refuses t s (i .index) (i .place) (i .length)
+parsed-refuses t s (entry.Marker i) = marker-refuses i
+
+pub parse-refuses : (t s : List ℕ) (e : Entry) → Refuses ofEntries (parseOf t s e)
+unfolding parseOf fits among listed find detailCounts
+parse-refuses t s e = short-refuses _ t s refl (parsed-refuses t s e)

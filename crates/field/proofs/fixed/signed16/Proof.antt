@@ -1,0 +1,30 @@
+-- `field::fixed::signed16` meets its contract. Assumes nothing.
+use borrow.Author.Needs.{needs}
+use native.Mathlib.Omega.{arith}
+use Prim.Native.Nat.{_-_}
+use mir.Syntax.{w16}
+use Rattle.field.proofs.SignLaws.{high-fits, high-is}
+use Rattle.field.proofs.fixed.signed16.Statement.{statement}
+use Rattle.field.proofs.fixed.signed16.Tie as tie
+
+cast-result : tie.Need-cast-result
+cast-result c = search needs
+
+returns : tie.Need-returns
+returns c = search needs
+
+sub-result : tie.Need-sub-result
+sub-result c = search needs
+
+cast-result-2 : tie.Need-cast-result-2
+cast-result-2 c = search needs
+
+sub-result-2 : tie.Need-sub-result-2
+sub-result-2 c = high-fits w16 (65535 - c .before .args .x) (omega arith) (omega arith)
+
+returns-2 : tie.Need-returns-2
+returns-2 c = high-is w16 (65535 - c .before .args .x) (omega arith) (omega arith) (c .before .args .x) (omega arith) (omega arith)
+
+pub signed16-spec : {M : Type 1} → statement M
+signed16-spec =
+    tie.close (tie.spec cast-result returns sub-result cast-result-2 sub-result-2 returns-2)

@@ -1,0 +1,185 @@
+// Numeric leaves at a place of a slice of bytes: a u16 below 0x8000 is the number itself, and from there up a prefix that says which
+// number follows it.
+ghost use mathlib.Core.Path.{_≡_};
+ghost use Prim.Native.Nat.{_-_, _*_, _≤_, _<_, suc};
+ghost use lib.Dec.{ltb};
+ghost use lib.IntN.{pos, negsuc};
+ghost use Rattle.answer.specs.Answer.{pick};
+ghost use Rattle.field.specs.Fields.{signedAt};
+ghost use Rattle.field_number.specs.Numbers.{unsignedAt, numberSaid, saidVariant, saidSize, numericAt, wideAt, sizeAt, prefixes};
+ghost use Rattle.answer.specs.Tables.{find};
+use answer::Refusal;
+use field::fixed;
+use field::fixed::Read8;
+use field::fixed::Read16;
+use field::fixed::Read32;
+use field::fixed::Read64;
+
+// A number from -2^63 to 2^64 - 1: n, or -1 - n. Each number has one form.
+pub enum Number {
+    Natural(u64),
+    Negative(u64),
+}
+
+// What a numeric leaf holds.
+pub struct Variant {
+    pub value: Number,
+}
+
+// What a numeric leaf holds where a size or an offset is wanted.
+pub struct Size {
+    pub value: u64,
+}
+
+pub enum ReadVariant {
+    Got(Variant, usize),
+    Refused(Refusal),
+}
+
+pub enum ReadSize {
+    Got(Size, usize),
+    Refused(Refusal),
+}
+
+// The bits v as two's complement, where half is the sign bit.
+fn signed(v: u64, half: u64) -> Number
+    requires { ⌜ (half ≤ 9223372036854775808) × (v < 2 * half) ⌝ }
+    ensures { λ r. ⌜ numberSaid r ≡ pick (ltb v half) (pos v) (negsuc (2 * half - suc v)) ⌝ }
+{
+    if v < half {
+        return Number::Natural(v);
+    }
+    Number::Negative(half - 1 - (v - half))
+}
+
+// A signed number of k bytes, k = 1, 2, 4, 8.
+
+fn signed8_at(s: &[u8], p: usize) -> ReadVariant
+    ensures { λ r. ⌜ saidVariant r ≡ signedAt 1 (now (s .entry)) p ⌝ }
+{
+    let Read8::Got(v, q) = fixed::u8_at(s, p) else {
+        return ReadVariant::Refused(Refusal::Ended);
+    };
+    let value = signed(v as u64, 0x80);
+    ReadVariant::Got(Variant { value: value }, q)
+}
+
+fn signed16_at(s: &[u8], p: usize) -> ReadVariant
+    ensures { λ r. ⌜ saidVariant r ≡ signedAt 2 (now (s .entry)) p ⌝ }
+{
+    let Read16::Got(v, q) = fixed::u16_at(s, p) else {
+        return ReadVariant::Refused(Refusal::Ended);
+    };
+    let value = signed(v as u64, 0x8000);
+    ReadVariant::Got(Variant { value: value }, q)
+}
+
+fn signed32_at(s: &[u8], p: usize) -> ReadVariant
+    ensures { λ r. ⌜ saidVariant r ≡ signedAt 4 (now (s .entry)) p ⌝ }
+{
+    let Read32::Got(v, q) = fixed::u32_at(s, p) else {
+        return ReadVariant::Refused(Refusal::Ended);
+    };
+    let value = signed(v as u64, 0x8000_0000);
+    ReadVariant::Got(Variant { value: value }, q)
+}
+
+fn signed64_at(s: &[u8], p: usize) -> ReadVariant
+    ensures { λ r. ⌜ saidVariant r ≡ signedAt 8 (now (s .entry)) p ⌝ }
+{
+    let Read64::Got(v, q) = fixed::u64_at(s, p) else {
+        return ReadVariant::Refused(Refusal::Ended);
+    };
+    let value = signed(v, 0x8000_0000_0000_0000);
+    ReadVariant::Got(Variant { value: value }, q)
+}
+
+// An unsigned number of k bytes, k = 2, 4, 8.
+
+fn unsigned16_at(s: &[u8], p: usize) -> ReadVariant
+    ensures { λ r. ⌜ saidVariant r ≡ unsignedAt 2 (now (s .entry)) p ⌝ }
+{
+    let Read16::Got(v, q) = fixed::u16_at(s, p) else {
+        return ReadVariant::Refused(Refusal::Ended);
+    };
+    let value = Number::Natural(v as u64);
+    ReadVariant::Got(Variant { value: value }, q)
+}
+
+fn unsigned32_at(s: &[u8], p: usize) -> ReadVariant
+    ensures { λ r. ⌜ saidVariant r ≡ unsignedAt 4 (now (s .entry)) p ⌝ }
+{
+    let Read32::Got(v, q) = fixed::u32_at(s, p) else {
+        return ReadVariant::Refused(Refusal::Ended);
+    };
+    let value = Number::Natural(v as u64);
+    ReadVariant::Got(Variant { value: value }, q)
+}
+
+fn unsigned64_at(s: &[u8], p: usize) -> ReadVariant
+    ensures { λ r. ⌜ saidVariant r ≡ unsignedAt 8 (now (s .entry)) p ⌝ }
+{
+    let Read64::Got(v, q) = fixed::u64_at(s, p) else {
+        return ReadVariant::Refused(Refusal::Ended);
+    };
+    let value = Number::Natural(v);
+    ReadVariant::Got(Variant { value: value }, q)
+}
+
+// The number that follows a prefix; 11 for one that is unknown.
+fn wide_at(prefix: u16, s: &[u8], p: usize) -> ReadVariant
+    ensures { λ r. ⌜ saidVariant r ≡ wideAt (find prefix prefixes) (now (s .entry)) p ⌝ }
+{
+    if prefix == 0x8000 {
+        return signed8_at(s, p);
+    }
+    if prefix == 0x8001 {
+        return signed16_at(s, p);
+    }
+    if prefix == 0x8002 {
+        return unsigned16_at(s, p);
+    }
+    if prefix == 0x8003 {
+        return signed32_at(s, p);
+    }
+    if prefix == 0x8004 {
+        return unsigned32_at(s, p);
+    }
+    if prefix == 0x8009 {
+        return signed64_at(s, p);
+    }
+    if prefix == 0x800a {
+        return unsigned64_at(s, p);
+    }
+    ReadVariant::Refused(Refusal::NumberBad)
+}
+
+// A numeric leaf, which may be negative.
+pub fn number_at(s: &[u8], p: usize) -> ReadVariant
+    ensures { λ r. ⌜ saidVariant r ≡ numericAt (now (s .entry)) p ⌝ }
+{
+    let Read16::Got(n, q) = fixed::u16_at(s, p) else {
+        return ReadVariant::Refused(Refusal::Ended);
+    };
+    if n < 0x8000 {
+        let value = Number::Natural(n as u64);
+        return ReadVariant::Got(Variant { value: value }, q);
+    }
+    wide_at(n, s, q)
+}
+
+// A numeric leaf where a size or an offset is wanted; 11 if it is negative.
+pub fn size_at(s: &[u8], p: usize) -> ReadSize
+    ensures { λ r. ⌜ saidSize r ≡ sizeAt (now (s .entry)) p ⌝ }
+{
+    match number_at(s, p) {
+        ReadVariant::Refused(e) => ReadSize::Refused(e),
+        ReadVariant::Got(v, q) => {
+            let n = v.value;
+            match n {
+                Number::Natural(x) => ReadSize::Got(Size { value: x }, q),
+                Number::Negative(_) => ReadSize::Refused(Refusal::NumberBad),
+            }
+        }
+    }
+}

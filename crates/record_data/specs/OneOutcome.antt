@@ -1,0 +1,139 @@
+-- What a type's answer says fixes the answer: the record is read back from its leaf and its values. Assumes nothing.
+use Prim.Native.Nat.{ℕ}
+use mathlib.Core.Path.{_≡_, refl, ap, _∙_}
+use mathlib.Core.List.{List}
+use lib.Dec.{eqb}
+use Rattle.answer.specs.Answer.{Answer, answered, refused, pick}
+use Rattle.answer.specs.OneOutcome.{one-of, refusalIn, refusal-back}
+use Rattle.field_text.specs.Texts.{Part}
+use Rattle.field.specs.OneOutcome.{hear-optional-type}
+use Rattle.field.specs.declared.index.OptTypeIndex.{OptTypeIndex}
+use Rattle.record_layout.specs.Fields.{Value, number, integer, absent, many}
+use Rattle.record_layout.specs.OneOutcome.{nth, numberIn, stringIn, optionIn, type-back}
+use Rattle.record_data.specs.Said.{optString, classFrom, fieldsFrom, kindValues, typeValues, saidTypeData}
+use Rattle.record_data.specs.declared.ClassKind.{ClassKind}
+use Rattle.record_data.specs.declared.ClassKind.the-variants as kind
+use Rattle.field_text.specs.declared.OptString.{OptString}
+use Rattle.field_text.specs.declared.OptString.the-variants as opt
+use Rattle.record_data.specs.declared.ClassType.{ClassType}
+use Rattle.record_data.specs.declared.TypeData.{TypeData}
+use Rattle.record_data.specs.declared.TypeData.the-variants as type
+use Rattle.record_data.specs.declared.TypeAnswer.{TypeAnswer}
+use Rattle.record_data.specs.declared.TypeAnswer.the-variants as answer
+
+abbrev optIn : Value Part → OptString
+optIn (many x) = opt.Some (record { place = x .place; length = x .length })
+optIn (number n) = opt.None
+optIn (integer z) = opt.None
+optIn absent = opt.None
+
+opt-back : (t : OptString) → optIn (optString t) ≡ t
+opt-back opt.None = refl
+opt-back (opt.Some t) = refl
+
+pub one-name : (r q : OptString) → optString r ≡ optString q → r ≡ q
+one-name = one-of optString optIn opt-back
+
+abbrev typeIn : Value Part → OptTypeIndex
+typeIn v = hear-optional-type (optionIn v)
+
+abbrev classIn : ClassKind → List (Value Part) → TypeData
+classIn k vs = type.Class (record {
+  kind = k;
+  count = numberIn (nth 1 vs);
+  properties = record { 0 = numberIn (nth 2 vs) };
+  fields = typeIn (nth 3 vs);
+  «derived_from» = typeIn (nth 4 vs);
+  «vtable_shape» = typeIn (nth 5 vs);
+  size = record { value = numberIn (nth 6 vs) };
+  name = stringIn (nth 7 vs);
+  «unique_name» = optIn (nth 8 vs);
+})
+
+abbrev pub dataIn : List (Value Part) → TypeData
+dataIn vs =
+    let leaf = numberIn (nth 0 vs) in
+    let n1 = numberIn (nth 1 vs) in
+    let n2 = numberIn (nth 2 vs) in
+    let n3 = numberIn (nth 3 vs) in
+    let n4 = numberIn (nth 4 vs) in
+    pick (eqb leaf 0x1001) (type.Modifier (record { «underlying_type» = record { 0 = n1 }; flags = record { 0 = n2 } }))
+    (pick (eqb leaf 0x1002) (type.Pointer (record { «underlying_type» = record { 0 = n1 }; attributes = record { 0 = n2 }; «containing_class» = typeIn (nth 3 vs) }))
+    (pick (eqb leaf 0x1008) (type.Procedure (record { «return_type» = typeIn (nth 1 vs); attributes = record { 0 = n2 }; «parameter_count» = n3; «argument_list» = record { 0 = n4 } }))
+    (pick (eqb leaf 0x1009) (type.MemberFunction (record {
+      «return_type» = record { 0 = n1 };
+      «class_type» = record { 0 = n2 };
+      «this_pointer_type» = typeIn (nth 3 vs);
+      attributes = record { 0 = n4 };
+      «parameter_count» = numberIn (nth 5 vs);
+      «argument_list» = record { 0 = numberIn (nth 6 vs) };
+      «this_adjustment» = numberIn (nth 7 vs);
+    }))
+    (pick (eqb leaf 0x1205) (type.Bitfield (record { «underlying_type» = record { 0 = n1 }; length = n2; position = n3 }))
+    (pick (eqb leaf 0x1503) (type.Array (record { «element_type» = record { 0 = n1 }; «indexing_type» = record { 0 = n2 }; size = record { value = n3 }; name = stringIn (nth 4 vs) }))
+    (pick (eqb leaf 0x1504) (classIn kind.Class vs)
+    (pick (eqb leaf 0x1505) (classIn kind.Struct vs)
+    (pick (eqb leaf 0x1519) (classIn kind.Interface vs)
+    (pick (eqb leaf 0x1506) (type.Union (record {
+      count = n1;
+      properties = record { 0 = n2 };
+      fields = record { 0 = n3 };
+      size = record { value = n4 };
+      name = stringIn (nth 5 vs);
+      «unique_name» = optIn (nth 6 vs);
+    }))
+    (pick (eqb leaf 0x1507) (type.Enumeration (record {
+      count = n1;
+      properties = record { 0 = n2 };
+      «underlying_type» = record { 0 = n3 };
+      fields = record { 0 = n4 };
+      name = stringIn (nth 5 vs);
+      «unique_name» = optIn (nth 6 vs);
+    }))
+    (pick (eqb leaf 0x1609) (type.Class (record {
+      kind = kind.Struct19;
+      count = numberIn (nth 6 vs);
+      properties = record { 0 = n1 };
+      fields = typeIn (nth 3 vs);
+      «derived_from» = typeIn (nth 4 vs);
+      «vtable_shape» = typeIn (nth 5 vs);
+      size = record { value = numberIn (nth 7 vs) };
+      name = stringIn (nth 8 vs);
+      «unique_name» = optIn (nth 9 vs);
+    }))
+    (pick (eqb leaf 0x000a) (type.VirtualTableShape (record { place = stringIn (nth 2 vs) .place; count = n1 }))
+    (pick (eqb leaf 0x1201) (type.ArgumentList (record { place = stringIn (nth 2 vs) .place; count = n1 }))
+    (pick (eqb leaf 0x1206) type.MethodList
+    type.FieldList))))))))))))))
+
+class-back : (k : ClassKind) (r : ClassType) → dataIn (kindValues k r) ≡ type.Class (classFrom k (fieldsFrom r))
+class-back kind.Class r = rw (type-back (r .fields), type-back (r .«derived_from»), type-back (r .«vtable_shape»), opt-back (r .«unique_name»))
+class-back kind.Struct r = rw (type-back (r .fields), type-back (r .«derived_from»), type-back (r .«vtable_shape»), opt-back (r .«unique_name»))
+class-back kind.Interface r = rw (type-back (r .fields), type-back (r .«derived_from»), type-back (r .«vtable_shape»), opt-back (r .«unique_name»))
+class-back kind.Struct19 r = rw (type-back (r .fields), type-back (r .«derived_from»), type-back (r .«vtable_shape»), opt-back (r .«unique_name»))
+
+pub data-back : (d : TypeData) → dataIn (typeValues d) ≡ d
+data-back (type.Class r) = class-back (r .kind) r
+data-back (type.MemberFunction r) = rw (type-back (r .«this_pointer_type»))
+data-back (type.Procedure r) = rw (type-back (r .«return_type»))
+data-back (type.Pointer r) = rw (type-back (r .«containing_class»))
+data-back (type.Modifier r) = refl
+data-back (type.Enumeration r) = rw (opt-back (r .«unique_name»))
+data-back (type.Array r) = refl
+data-back (type.Union r) = rw (opt-back (r .«unique_name»))
+data-back (type.Bitfield r) = refl
+data-back (type.VirtualTableShape r) = refl
+data-back type.FieldList = refl
+data-back (type.ArgumentList r) = refl
+data-back type.MethodList = refl
+
+abbrev hear-data : Answer (List (Value Part)) → TypeAnswer
+hear-data (answered vs) = answer.Answered (dataIn vs)
+hear-data (refused n d) = answer.Refused (refusalIn n d)
+
+back-data : (r : TypeAnswer) → hear-data (saidTypeData r) ≡ r
+back-data (answer.Answered d) = ap answer.Answered (data-back d)
+back-data (answer.Refused e) = ap answer.Refused (refusal-back e)
+
+pub one-type-data : (r q : TypeAnswer) → saidTypeData r ≡ saidTypeData q → r ≡ q
+one-type-data = one-of saidTypeData hear-data back-data

@@ -1,0 +1,95 @@
+-- Document 01, "Layouts": what the fields of a record are, and what reading them means.
+--
+-- A layout is a list of fields. `readFields` reads any layout: fields in order, the first refusal given, bytes after the last not read.
+-- Whatever else is said of a record is said of its layout.
+use Prim.Native.Nat.{ℕ, _+_, _*_, _/_}
+use mathlib.Core.Bool.{Bool, true}
+use mathlib.Core.List.{List, [], _∷_}
+use mathlib.Core.Option.{Option, none, some}
+use lib.IntN.{ℤ}
+use Rattle.answer.specs.Answer.{Answer, refused, Read, got, pick, then, and-then}
+use Rattle.field.specs.Fields.{fixedAt}
+use Rattle.field.specs.Indices.{noType, noId, optionalAt}
+use Rattle.field_text.specs.Texts.{Part, stringAt, bytesAfter}
+use Rattle.field_number.specs.Numbers.{numericAt, sizeAt}
+
+-- The value of a field. `integer` is a numeric leaf that may be negative. `absent` is an index that reads as none, and a field that is not
+-- there. What is many bytes, a string or the elements of a list, is a `Part` where it is read, and the bytes themselves where it is written
+pub data Value (S : Type 0) : Type 0 where
+  number : ℕ → Value S
+  integer : ℤ → Value S
+  absent : Value S
+  many : S → Value S
+
+abbrev pub numberOr : {S : Type 0} → Value S → ℕ → ℕ
+numberOr (number n) w = n
+numberOr (integer z) w = w
+numberOr absent w = w
+numberOr (many x) w = w
+
+-- what a run is made of, and how many bytes n of it take
+pub data Elements : Type 0 where
+  types ids slots : Elements
+
+abbrev pub bytesOf : Elements → ℕ → ℕ
+bytesOf types n = 4 * n
+bytesOf ids n = 4 * n
+bytesOf slots n = (n + 1) / 2
+
+-- Some fields look at a number that was read before them: the properties, the pointer word, the field attributes, the count. No layout has
+-- two such numbers, so reading carries one, `the word`
+pub data Field : Type 0 where
+  -- a number of k bytes
+  fixed : ℕ → Field
+  -- a type index; an optional one; an optional id index
+  type optionalType optionalId : Field
+  -- a number of k bytes that becomes the word; 12 right after it if it fails the test
+  word : ℕ → (ℕ → Bool) → Field
+  -- k bytes that 01 gives no name: read, and shown as absent
+  gap : ℕ → Field
+  -- a numeric leaf; one that may not be negative; a string
+  numeric size string : Field
+  -- as many elements as the word says
+  run : Elements → Field
+  -- this field if the word passes the test, else absent
+  when : (ℕ → Bool) → Field → Field
+
+abbrev pub orAbsent : {S : Type 0} → Option ℕ → Value S
+orAbsent none = absent
+orAbsent (some n) = number n
+
+-- the field at place p of s, where w is the word
+unfoldable pub readField : Field → ℕ → List ℕ → ℕ → Read (Value Part)
+readField (fixed k) w s p = and-then (fixedAt k s p) (λ n q. got (number n) q)
+readField type w s p = and-then (fixedAt 4 s p) (λ n q. got (number n) q)
+readField optionalType w s p = and-then (optionalAt noType s p) (λ o q. got (orAbsent o) q)
+readField optionalId w s p = and-then (optionalAt noId s p) (λ o q. got (orAbsent o) q)
+readField (word k good) w s p = and-then (fixedAt k s p) (λ n q. pick (good n) (got (number n) q) (refused 12 []))
+readField (gap k) w s p = and-then (fixedAt k s p) (λ n q. got absent q)
+readField numeric w s p = and-then (numericAt s p) (λ z q. got (integer z) q)
+readField size w s p = and-then (sizeAt s p) (λ n q. got (number n) q)
+readField string w s p = and-then (stringAt s p) (λ x q. got (many x) q)
+readField (run e) w s p = then (bytesAfter (bytesOf e w) s p) (λ q. got (many (record { place = p; length = bytesOf e w })) q)
+readField (when there f) w s p = pick (there w) (readField f w s p) (got absent p)
+
+-- the word after a field that read as v
+abbrev pub wordAfter : {S : Type 0} → Field → Value S → ℕ → ℕ
+wordAfter (word k good) v w = numberOr v w
+wordAfter (fixed k) v w = w
+wordAfter type v w = w
+wordAfter optionalType v w = w
+wordAfter optionalId v w = w
+wordAfter (gap k) v w = w
+wordAfter numeric v w = w
+wordAfter size v w = w
+wordAfter string v w = w
+wordAfter (run e) v w = w
+wordAfter (when there f) v w = w
+
+-- fields in order: their values and the place after the last, or the first refusal
+unfoldable pub readFields : List Field → ℕ → List ℕ → ℕ → Read (List (Value Part))
+readFields [] w s p = got [] p
+readFields (f ∷ fs) w s p =
+    and-then (readField f w s p) (λ v q.
+    and-then (readFields fs (wordAfter f v w) s q) (λ vs e.
+    got (v ∷ vs) e))

@@ -1,0 +1,182 @@
+-- Document 01, "Layouts": the tables. Each line is 01's line; the names of the fields are 01's too.
+use Prim.Native.Nat.{ℕ, _%_, _^_}
+use mathlib.Core.Bool.{Bool, true}
+use mathlib.Core.List.{List, [], _∷_}
+use mathlib.Core.Option.{Option, none, some}
+use lib.Dec.{ltb}
+use Rattle.answer.specs.Answer.{Answer, answered, refused, Read, Got, got, both, then, and-then}
+use Rattle.answer.specs.Tables.{Line, _is_, find, among}
+use Rattle.field.specs.Fields.{fixedAt}
+use Rattle.field_text.specs.Texts.{Part}
+use Rattle.word_attributes.specs.Bits.{bit, bits}
+use Rattle.word_attributes.specs.Words.{introducing}
+use Rattle.record_layout.specs.Fields.{Value, number, Field, fixed, type, optionalType, optionalId, word, gap, numeric, size, string, run, types, ids, slots, when, readFields}
+
+-- 01's names of fields --------------------------------------------------------------------------------------------------------
+
+abbrev pub u8 : Field
+u8 = fixed 1
+
+abbrev pub u16 : Field
+u16 = fixed 2
+
+abbrev pub u32 : Field
+u32 = fixed 4
+
+-- T is a type index, O an optional one
+abbrev pub T : Field
+T = type
+
+abbrev pub O : Field
+O = optionalType
+
+abbrev pub id : Field
+id = fixed 4
+
+abbrev pub stringReference : Field
+stringReference = fixed 4
+
+-- N is a numeric leaf, S a string
+abbrev pub N : Field
+N = size
+
+abbrev pub S : Field
+S = string
+
+abbrev pub always : ℕ → Bool
+always w = true
+
+-- A is a u16 of field attributes, F of function attributes
+abbrev pub A : Field
+A = word 2 always
+
+abbrev pub F : Field
+F = u16
+
+abbrev pub properties : Field
+properties = word 2 always
+
+abbrev pub count16 : Field
+count16 = word 2 always
+
+abbrev pub count32 : Field
+count32 = word 4 always
+
+-- a second S follows if properties has 0x0200
+abbrev pub S2 : Field
+S2 = when (bit 9) S
+
+abbrev pub kind : ℕ → ℕ
+kind w = w % 2 ^ 5
+
+abbrev pub mode : ℕ → ℕ
+mode w = bits 5 7 w
+
+-- a 0x1002 record needs kind and mode, right after its word
+abbrev pub pointer : Field
+pointer = word 4 (λ w. both (ltb (kind w) 13) (ltb (mode w) 5))
+
+-- in modes 2 and 3 also O
+abbrev pub memberO : Field
+memberO = when (λ w. among (mode w) (2 ∷ 3 ∷ [])) O
+
+-- u32 offset if the method property is 4 or 6
+abbrev pub offset : Field
+offset = when introducing u32
+
+-- Layouts ----------------------------------------------------------------------------------------------------------------------
+
+abbrev pub Layout : Type 0
+Layout = List Field
+
+abbrev pub Table : Type 0
+Table = List (Line Layout)
+
+-- class, structure and interface
+abbrev pub class : Layout
+class = u16 ∷ properties ∷ O ∷ O ∷ O ∷ N ∷ S ∷ S2 ∷ []
+
+-- the type reader's leaves. The elements of 0x1206 and of 0x1203 stand after a layout of no fields, unread
+unfoldable pub typeLeaves : Table
+typeLeaves =
+    (0x1001 is (T ∷ u16 ∷ []))
+    ∷ (0x1002 is (T ∷ pointer ∷ memberO ∷ []))
+    ∷ (0x1008 is (O ∷ F ∷ u16 ∷ T ∷ []))
+    ∷ (0x1009 is (T ∷ T ∷ O ∷ F ∷ u16 ∷ T ∷ u32 ∷ []))
+    ∷ (0x1205 is (T ∷ u8 ∷ u8 ∷ []))
+    ∷ (0x1503 is (T ∷ T ∷ N ∷ S ∷ []))
+    ∷ (0x1504 is class)
+    ∷ (0x1505 is class)
+    ∷ (0x1519 is class)
+    ∷ (0x1506 is (u16 ∷ properties ∷ T ∷ N ∷ S ∷ S2 ∷ []))
+    ∷ (0x1507 is (u16 ∷ properties ∷ T ∷ T ∷ S ∷ S2 ∷ []))
+    ∷ (0x1609 is (properties ∷ gap 2 ∷ O ∷ O ∷ O ∷ u16 ∷ N ∷ S ∷ S2 ∷ []))
+    ∷ (0x000a is (count16 ∷ run slots ∷ []))
+    ∷ (0x1201 is (count32 ∷ run types ∷ []))
+    ∷ (0x1206 is [])
+    ∷ (0x1203 is [])
+    ∷ []
+
+-- a virtual base class, direct or indirect; a type alone; a type with a name
+abbrev pub virtualBase : Layout
+virtualBase = A ∷ T ∷ T ∷ N ∷ N ∷ []
+
+abbrev pub alone : Layout
+alone = gap 2 ∷ T ∷ []
+
+abbrev pub named : Layout
+named = A ∷ T ∷ S ∷ []
+
+-- the leaves inside 0x1203
+unfoldable pub memberLeaves : Table
+memberLeaves =
+    (0x1400 is (A ∷ T ∷ N ∷ []))
+    ∷ (0x1401 is virtualBase)
+    ∷ (0x1402 is virtualBase)
+    ∷ (0x1404 is alone)
+    ∷ (0x1409 is alone)
+    ∷ (0x1502 is (A ∷ numeric ∷ S ∷ []))
+    ∷ (0x150d is (A ∷ T ∷ N ∷ S ∷ []))
+    ∷ (0x150e is named)
+    ∷ (0x150f is (u16 ∷ T ∷ S ∷ []))
+    ∷ (0x1510 is named)
+    ∷ (0x1511 is (A ∷ T ∷ offset ∷ S ∷ []))
+    ∷ []
+
+-- an element of 0x1206
+abbrev pub method : Layout
+method = A ∷ gap 2 ∷ T ∷ offset ∷ []
+
+-- the id reader's leaves
+unfoldable pub idLeaves : Table
+idLeaves =
+    (0x1601 is (optionalId ∷ T ∷ S ∷ []))
+    ∷ (0x1602 is (T ∷ T ∷ S ∷ []))
+    ∷ (0x1603 is (count16 ∷ run ids ∷ []))
+    ∷ (0x1604 is (count32 ∷ run types ∷ []))
+    ∷ (0x1605 is (optionalId ∷ S ∷ []))
+    ∷ (0x1606 is (T ∷ id ∷ u32 ∷ []))
+    ∷ (0x1607 is (T ∷ stringReference ∷ u32 ∷ u16 ∷ []))
+    ∷ []
+
+-- Reading by a table ---------------------------------------------------------------------------------------------------------
+
+abbrev pub byLayout : Option Layout → ℕ → List ℕ → ℕ → Read (List (Value Part))
+byLayout none leaf s p = refused 10 (leaf ∷ [])
+byLayout (some fs) leaf s p = and-then (readFields fs 0 s p) (λ vs e. got (number leaf ∷ vs) e)
+
+-- the record of this leaf whose fields stand at p: the leaf and the values of its fields; 10 if the table does not have the leaf
+unfoldable pub readLeaf : Table → ℕ → List ℕ → ℕ → Read (List (Value Part))
+readLeaf table leaf s p = byLayout (find leaf table) leaf s p
+
+-- the record at p, its leaf read first
+unfoldable pub readRecord : Table → List ℕ → ℕ → Read (List (Value Part))
+readRecord table s p = and-then (fixedAt 2 s p) (λ leaf q. readLeaf table leaf s q)
+
+-- the same without the place after it, which a whole record has no use for
+unfoldable pub leafOf : Table → ℕ → List ℕ → ℕ → Answer (List (Value Part))
+leafOf table leaf s p = and-then (readLeaf table leaf s p) (λ vs e. answered vs)
+
+-- the record that these bytes are
+unfoldable pub recordOf : Table → List ℕ → Answer (List (Value Part))
+recordOf table s = and-then (fixedAt 2 s 0) (λ leaf p. leafOf table leaf s p)

@@ -1,0 +1,56 @@
+-- What an answer says fixes the answer: the parts that every record is made of, read back from their values. Assumes nothing.
+use Prim.Native.Nat.{ℕ}
+use mathlib.Core.Path.{_≡_, refl, ap}
+use mathlib.Core.List.{List, [], _∷_}
+use mathlib.Core.Option.{Option, none, some}
+use lib.ListN.{getD}
+use lib.IntN.{ℤ, pos}
+use Rattle.field_text.specs.Texts.{Part, part}
+use Rattle.field.specs.Indices.{typeSaid, idSaid}
+use Rattle.field_number.specs.Numbers.{numberSaid}
+use Rattle.field.specs.OneOutcome.{hear-optional-type, back-optional-type, hear-optional-id, back-optional-id}
+use Rattle.field_number.specs.OneOutcome.{hear-number, back-number}
+use Rattle.field.specs.declared.index.OptTypeIndex.{OptTypeIndex}
+use Rattle.field.specs.declared.index.OptIdIndex.{OptIdIndex}
+use Rattle.field_text.specs.declared.RawString.{RawString}
+use Rattle.field_number.specs.declared.Number.{Number}
+use Rattle.record_layout.specs.Fields.{Value, number, integer, absent, many, numberOr, orAbsent}
+
+-- value i of a record
+abbrev pub nth : ℕ → List (Value Part) → Value Part
+nth i vs = getD vs i absent
+
+abbrev pub numberIn : Value Part → ℕ
+numberIn v = numberOr v 0
+
+abbrev pub stringIn : Value Part → RawString
+stringIn (many x) = record { place = x .place; length = x .length }
+stringIn (number n) = record { place = 0; length = 0 }
+stringIn (integer z) = record { place = 0; length = 0 }
+stringIn absent = record { place = 0; length = 0 }
+
+abbrev pub integerIn : Value Part → ℤ
+integerIn (integer z) = z
+integerIn (number n) = pos 0
+integerIn absent = pos 0
+integerIn (many x) = pos 0
+
+abbrev pub optionIn : Value Part → Option ℕ
+optionIn (number n) = some n
+optionIn (integer z) = none
+optionIn absent = none
+optionIn (many x) = none
+
+pub option-back : (o : Option ℕ) → optionIn (orAbsent o) ≡ o
+option-back none = refl
+option-back (some n) = refl
+
+-- an optional type index, an optional id index and a numeric leaf, read back from their values
+pub type-back : (t : OptTypeIndex) → hear-optional-type (optionIn (orAbsent (typeSaid t))) ≡ t
+type-back t = rw (option-back (typeSaid t)) (back-optional-type t)
+
+pub id-back : (i : OptIdIndex) → hear-optional-id (optionIn (orAbsent (idSaid i))) ≡ i
+id-back i = rw (option-back (idSaid i)) (back-optional-id i)
+
+pub number-back : (n : Number) → hear-number (integerIn (integer (numberSaid n))) ≡ n
+number-back n = back-number n

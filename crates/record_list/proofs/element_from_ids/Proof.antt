@@ -1,0 +1,51 @@
+-- `record_list::element_from_ids` meets its contract. The loop's invariant: the element wanted is element `left` from where the loop stands. Assumes nothing.
+use Prim.Native.Nat.{_+_, _-_}
+use native.Mathlib.Omega.{arith}
+use mathlib.Core.Path.{_≡_, refl, sym, _∙_}
+use borrow.Author.Needs.{needs}
+use Rattle.answer.proofs.Told.{told}
+use Rattle.record_list.specs.Lists.{stepIdsOf, elementBy}
+use Rattle.record_list.specs.Said.{saidStepIds}
+use Rattle.record_list.specs.ListLaws.{element-next, element-here, element-refused}
+use Rattle.record_list.proofs.element_from_ids.Statement.{statement}
+use Rattle.record_list.proofs.element_from_ids.Tie as tie
+
+abbrev Inv-loop : tie.InvT-loop
+Inv-loop s k here₀ left₀ here left = elementBy (stepIdsOf s) left here ≡ elementBy (stepIdsOf s) k here₀
+
+abbrev μ-loop : tie.MeasureT-loop
+μ-loop s k here₀ left₀ here left = left
+
+loop-holds : tie.Need-loop-holds Inv-loop μ-loop
+loop-holds c = refl
+
+returns : tie.Need-returns Inv-loop μ-loop
+returns c =
+    let e = told saidStepIds (c .before .before .before .step-ids .ensures) (c .before .x .given .1) in
+    sym (element-refused _ _ _ _ _ e) ∙ c .before .before .before .before .before .loop .inv
+
+loop-again : tie.Need-loop-again Inv-loop μ-loop
+loop-again c =
+    let l = c .before .before .before .before .before .loop in
+    let e = told saidStepIds (c .before .before .before .step-ids .ensures) (c .before .next .given .1) in
+    let f : l .left - 1 + 1 ≡ l .left = omega (arith, c .before .before .before .before .loop-test .taken) in
+    sym (element-next _ _ (l .left - 1) _ e) ∙ rw f (l .inv)
+
+returns-2 : tie.Need-returns-2 Inv-loop μ-loop
+returns-2 c =
+    let e = told saidStepIds (c .before .before .before .step-ids2 .ensures) (c .before .x2 .given .1) in
+    sym (element-refused _ _ _ _ _ e) ∙ c .before .before .before .before .before .loop .inv
+
+returns-3 : tie.Need-returns-3 Inv-loop μ-loop
+returns-3 c =
+    let l = c .before .before .before .before .before .loop in
+    let e = told saidStepIds (c .before .before .before .step-ids2 .ensures) (c .before .e .given .1) in
+    let f : 0 ≡ l .left = omega (arith, c .before .before .before .before .loop-test .left) in
+    sym (element-here (stepIdsOf (c .before .before .before .before .before .before .before .args .s .now)) (l .here) _ e) ∙ rw f (l .inv)
+
+pub element-from-ids-spec : {M : Type 1} → statement M
+element-from-ids-spec =
+    tie.close
+    (tie.spec Inv-loop μ-loop loop-holds
+    (λ c κs. search needs) (λ c. search needs) returns (λ c. search needs) (λ c. search needs) (λ c. search needs) loop-again
+    (λ c κs. search needs) (λ c. search needs) (λ c. search needs) returns-2 returns-3)

@@ -1,0 +1,32 @@
+-- What each answer of this crate says fixes the answer; and a function that is lent the table has one answer and one table after. Assumes
+-- nothing.
+use Prim.Native.Nat.{ℕ}
+use mathlib.Core.Path.{_≡_, refl, sym, _∙_}
+use mathlib.Core.List.{List}
+use Rattle.answer.specs.Answer.{Answer}
+use Rattle.answer.specs.OneOutcome.{one-of, heard, heard-no}
+use Rattle.stream_finder.specs.Finder.{State, Found, saidFind, saidFinder, Leaves}
+use Rattle.stream_finder.specs.declared.FinderAnswer.{FinderAnswer}
+use Rattle.stream_finder.specs.declared.FinderAnswer.the-variants as finder
+use Rattle.stream_finder.specs.declared.FindAnswer.{FindAnswer}
+use Rattle.stream_finder.specs.declared.FindAnswer.the-variants as find
+
+finder-back : (r : FinderAnswer) → heard finder.Answered finder.Refused (saidFinder r) ≡ r
+finder-back (finder.Answered f) = refl
+finder-back (finder.Refused e) = heard-no finder.Answered finder.Refused e
+
+pub one-finder : (r q : FinderAnswer) → saidFinder r ≡ saidFinder q → r ≡ q
+one-finder = one-of saidFinder (heard finder.Answered finder.Refused) finder-back
+
+abbrev findIn : Found → FindAnswer
+findIn a = find.Found (a .entry) (a .passed)
+
+find-back : (r : FindAnswer) → heard findIn find.Refused (saidFind r) ≡ r
+find-back (find.Found e k) = refl
+find-back (find.Refused e) = heard-no findIn find.Refused e
+
+pub one-find : (r q : FindAnswer) → saidFind r ≡ saidFind q → r ≡ q
+one-find = one-of saidFind (heard findIn find.Refused) find-back
+
+pub one-leaves : (t : List ℕ) (a : Answer State) (r q : FinderAnswer) (u v : List ℕ) → Leaves t a r u → Leaves t a q v → (r ≡ q) × (u ≡ v)
+one-leaves t a r q u v l k = (one-finder r q (l .answer ∙ sym (k .answer)), l .table ∙ sym (k .table))

@@ -1,0 +1,218 @@
+// The finder: it holds where every eighth record of a stream starts, so that a record is found by its index. Document 01, "Finder".
+//
+// Its time and space: one place of 4 bytes for 8 records is 4 bits a record, and a lookup starts at its block's place and passes 0 to 7
+// links, 3.5 on average, each a load of a u16 and a dozen instructions. A place for each record would be 32 bits for no link passed, blocks
+// of 16 would be 2 bits for 7.5 links. Records are short (84% have at most 32 bytes), so that a block mostly lies in a few cache lines.
+// 500,000 records take 250 KB of table.
+//
+// The places live in a table that the caller lends; the finder itself is a few numbers, and comes and goes by value;
+// lent.rt has it lent by `&mut` and by `&`.
+pub mod lent;
+
+ghost use mathlib.Core.Path.{_≡_};
+ghost use Rattle.stream_item.specs.Items.{indexIn};
+ghost use Rattle.stream_item.specs.declared.ItemIndex.the-variants as index;
+ghost use Rattle.stream_finder.specs.Finder.{state, begunOf, createOf, updateOf, Leaves, maxIndexOf, findOf, saidFind};
+use answer::Refusal;
+use field::index::IdIndex;
+use field::index::TypeIndex;
+use stream_header::Header;
+use stream_header::HeaderAnswer;
+use stream_header::LONGEST;
+use stream_item::Entry;
+use stream_item::Item;
+use stream_item::ItemIndex;
+use stream_item::Stream;
+use stream_item::iter::ItemIter;
+use stream_item::link::Hit;
+
+// The links of a block.
+const BLOCK: usize = 8;
+
+// What a fresh finder has in `shift`: a block is 2 to that power. No code reads it yet.
+const SHIFT: u32 = 3;
+
+// The finder: the stream's least index, the index behind its last, and how many places of the lent table it holds.
+pub struct ItemFinder {
+    pub minimum_index: u32,
+    pub maximum_index: u32,
+    pub held: usize,
+    pub shift: u32,
+}
+
+pub enum FinderAnswer {
+    Answered(ItemFinder),
+    Refused(Refusal),
+}
+
+// What a lookup found, and how many links it passed.
+pub enum FindAnswer {
+    Found(Entry, u32),
+    Refused(Refusal),
+}
+
+// A fresh finder of a stream: it holds the place of the first record, if there is one.
+pub fn create(s: &[u8], t: &mut [u32]) -> FinderAnswer
+    ensures { λ r. ⌜ Leaves (now (t .entry)) (createOf (now (s .entry)) (now (t .entry))) r (now (t .exit)) ⌝ }
+{
+    match Header::parse(s) {
+        HeaderAnswer::Answered(h) => begun(t, h),
+        HeaderAnswer::Refused(e) => FinderAnswer::Refused(e),
+    }
+}
+
+// A fresh finder of the stream that has this header.
+fn begun(t: &mut [u32], h: Header) -> FinderAnswer
+    ensures { λ r. ⌜ Leaves (now (t .entry)) (begunOf (now (t .entry)) h) r (now (t .exit)) ⌝ }
+{
+    let minimum = h.minimum_index;
+    let maximum = h.maximum_index;
+    if maximum <= minimum {
+        return FinderAnswer::Answered(ItemFinder {
+            minimum_index: minimum,
+            maximum_index: maximum,
+            held: 0,
+            shift: SHIFT,
+        });
+    }
+    if t.len() == 0 {
+        return FinderAnswer::Refused(Refusal::TableFull);
+    }
+    t[0] = h.header_size;
+    FinderAnswer::Answered(ItemFinder {
+        minimum_index: minimum,
+        maximum_index: maximum,
+        held: 1,
+        shift: SHIFT,
+    })
+}
+
+// The finder after an iterator came to a record: it holds the record's place if that starts the next block.
+pub fn update(t: &mut [u32], f: ItemFinder, c: ItemIter) -> FinderAnswer
+    ensures { λ r. ⌜ Leaves (now (t .entry)) (updateOf (state f (now (t .entry))) c) r (now (t .exit)) ⌝ }
+{
+    let at = c.at;
+    let index = c.index;
+    let minimum = f.minimum_index;
+    let held = f.held;
+    if at > LONGEST {
+        return FinderAnswer::Refused(Refusal::TooLong);
+    }
+    if held > t.len() {
+        return FinderAnswer::Refused(Refusal::TableFull);
+    }
+    if index < minimum {
+        return FinderAnswer::Refused(Refusal::ForeignCursor);
+    }
+    // d mod 8 is 0 and d / 8 is the number of places held, as one test: d is 8 times that number
+    let d = index - minimum;
+    if (d as usize) != BLOCK * held {
+        return FinderAnswer::Answered(f);
+    }
+    if held == t.len() {
+        return FinderAnswer::Refused(Refusal::TableFull);
+    }
+    let place = at as u32;
+    t[held] = place;
+    let more = held + 1;
+    FinderAnswer::Answered(ItemFinder {
+        minimum_index: minimum,
+        maximum_index: f.maximum_index,
+        held: more,
+        shift: f.shift,
+    })
+}
+
+impl ItemFinder {
+    // The highest index that the held places serve, by number.
+    fn highest(self) -> u32
+        ensures { λ r. ⌜ r ≡ maxIndexOf self ⌝ }
+    {
+        let held = self.held;
+        let minimum = self.minimum_index;
+        if held == 0 {
+            return 0;
+        }
+        if held > 4294967295 {
+            return 4294967295;
+        }
+        let top = BLOCK * held + (minimum as usize) - 1;
+        if top > 4294967295 {
+            return 4294967295;
+        }
+        top as u32
+    }
+
+    // The highest index that the held places serve, in the finder's stream: of what is below it some may still be past the stream's end.
+    pub fn max_index(self, stream: Stream) -> ItemIndex
+        ensures { λ r. ⌜ r ≡ indexIn stream (maxIndexOf self) ⌝ }
+    {
+        stream.index(self.highest())
+    }
+
+    pub fn max_type_index(self) -> TypeIndex
+        ensures { λ r. ⌜ r .0 ≡ maxIndexOf self ⌝ }
+    {
+        TypeIndex(self.highest())
+    }
+
+    pub fn max_id_index(self) -> IdIndex
+        ensures { λ r. ⌜ r .0 ≡ maxIndexOf self ⌝ }
+    {
+        IdIndex(self.highest())
+    }
+}
+
+// The type of an index: s is the TPI stream, f its finder.
+pub fn find_type(s: &[u8], t: &[u32], f: ItemFinder, i: TypeIndex) -> FindAnswer
+    ensures { λ r. ⌜ saidFind r ≡ findOf (now (s .entry)) (state f (now (t .entry))) (index.Types i) ⌝ }
+{
+    find(s, t, f, ItemIndex::Types(i))
+}
+
+// The id of an index: s is the IPI stream, f its finder.
+pub fn find_id(s: &[u8], t: &[u32], f: ItemFinder, i: IdIndex) -> FindAnswer
+    ensures { λ r. ⌜ saidFind r ≡ findOf (now (s .entry)) (state f (now (t .entry))) (index.Ids i) ⌝ }
+{
+    find(s, t, f, ItemIndex::Ids(i))
+}
+
+// The record of an index, or the marker below the minimum, with the links passed on the way.
+pub fn find(s: &[u8], t: &[u32], f: ItemFinder, i: ItemIndex) -> FindAnswer
+    ensures { λ r. ⌜ saidFind r ≡ findOf (now (s .entry)) (state f (now (t .entry))) i ⌝ }
+{
+    let minimum = f.minimum_index;
+    let maximum = f.maximum_index;
+    let held = f.held;
+    let n = i.number();
+    if s.len() > LONGEST {
+        return FindAnswer::Refused(Refusal::TooLong);
+    }
+    if held > t.len() {
+        return FindAnswer::Refused(Refusal::TableFull);
+    }
+    if n < minimum {
+        return FindAnswer::Found(Entry::Marker(i), 0);
+    }
+    if n > maximum {
+        return FindAnswer::Refused(Refusal::NotFound(n));
+    }
+    let d = (n - minimum) as usize;
+    let block = d / BLOCK;
+    if block >= held {
+        return FindAnswer::Refused(Refusal::NotIndexed(n, f.highest()));
+    }
+    let k = (d % BLOCK) as u32;
+    let p = t[block] as usize;
+    match stream_item::link::link_of(s, p, k) {
+        Hit::Landed(place, length) => FindAnswer::Found(
+            Entry::Record(Item {
+                index: i,
+                place: place,
+                length: length,
+            }),
+            k,
+        ),
+        Hit::Missed(passed) => FindAnswer::Refused(Refusal::EndedAfter(passed)),
+    }
+}

@@ -1,0 +1,94 @@
+// Indexing a whole stream: the loop that every user of a finder writes. Each turn takes the iterator one record on and updates the finder
+// with the cursor behind it; the walk ends where the iterator is done, or at the first refusal of either, such as a table that is full.
+ghost use Rattle.stream_finder.specs.Finder.{state};
+ghost use Rattle.stream_index.specs.Walk.{turnOf, Leads, Walks, Indexes};
+use answer::Refusal;
+use stream_finder::FinderAnswer;
+use stream_finder::ItemFinder;
+use stream_item::Stream;
+use stream_item::iter;
+use stream_item::iter::ItemIter;
+use stream_item::iter::IterAnswer;
+use stream_item::iter::NextAnswer;
+
+pub enum TurnAnswer {
+    Done,
+    Moved(ItemFinder, ItemIter),
+    Refused(Refusal),
+}
+
+// Why a walk ended.
+pub enum End {
+    Done,
+    Refused(Refusal),
+}
+
+// Where a walk ended: after a refusal, finder, cursor and table are as before the turn that was refused, so that the walk can go on from
+// there, with a longer table for example.
+pub struct Tour {
+    pub finder: ItemFinder,
+    pub cursor: ItemIter,
+    pub end: End,
+}
+
+pub enum WalkAnswer {
+    Answered(Tour),
+    Refused(Refusal),
+}
+
+// One record on, and the finder updated; refused by either, it changes nothing.
+pub fn turn(s: &[u8], t: &mut [u32], f: ItemFinder, c: ItemIter) -> TurnAnswer
+    ensures { λ r. ⌜ Leads (now (t .entry)) (turnOf (now (s .entry)) (state f (now (t .entry))) c) r (now (t .exit)) ⌝ }
+{
+    match iter::next(s, c) {
+        NextAnswer::Yielded(_, d) => match stream_finder::update(t, f, d) {
+            FinderAnswer::Answered(g) => TurnAnswer::Moved(g, d),
+            FinderAnswer::Refused(e) => TurnAnswer::Refused(e),
+        },
+        NextAnswer::Done => TurnAnswer::Done,
+        NextAnswer::Refused(e) => TurnAnswer::Refused(e),
+    }
+}
+
+// As many turns as there are, from any finder and any cursor.
+pub fn walk_on(s: &[u8], t: &mut [u32], f: ItemFinder, c: ItemIter) -> Tour
+    ensures { λ r. ⌜ Walks (now (s .entry)) c (state f (now (t .entry))) r (now (t .exit)) ⌝ }
+{
+    let mut finder = f;
+    let mut cursor = c;
+    loop {
+        match turn(s, t, finder, cursor) {
+            TurnAnswer::Moved(g, d) => {
+                finder = g;
+                cursor = d;
+            }
+            TurnAnswer::Done => {
+                return Tour {
+                    finder: finder,
+                    cursor: cursor,
+                    end: End::Done,
+                };
+            }
+            TurnAnswer::Refused(e) => {
+                return Tour {
+                    finder: finder,
+                    cursor: cursor,
+                    end: End::Refused(e),
+                };
+            }
+        }
+    }
+}
+
+// A whole stream, from a fresh finder and a fresh iterator.
+pub fn walk(stream: Stream, s: &[u8], t: &mut [u32]) -> WalkAnswer
+    ensures { λ r. ⌜ Indexes stream (now (s .entry)) (now (t .entry)) r (now (t .exit)) ⌝ }
+{
+    match iter::iter(stream, s) {
+        IterAnswer::Answered(c) => match stream_finder::create(s, t) {
+            FinderAnswer::Answered(f) => WalkAnswer::Answered(walk_on(s, t, f, c)),
+            FinderAnswer::Refused(e) => WalkAnswer::Refused(e),
+        },
+        IterAnswer::Refused(e) => WalkAnswer::Refused(e),
+    }
+}

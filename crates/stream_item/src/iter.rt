@@ -1,0 +1,118 @@
+// The iterator over a stream's records: document 01, "Links and the iterator". It comes and goes by value.
+ghost use mathlib.Core.Path.{_≡_};
+ghost use Prim.Native.Nat.{_+_, _≤_, _<_};
+ghost use Rattle.answer.specs.Answer.{answered};
+ghost use Rattle.stream_item.specs.declared.Stream.the-variants as stream;
+ghost use Rattle.stream_item.specs.Iterator.{iterOf, saidIter, overRecord, nextOf, saidNext};
+use crate::Item;
+use crate::Stream;
+use crate::length_at;
+use answer::Refusal;
+use stream_header::Header;
+use stream_header::HeaderAnswer;
+use stream_header::LONGEST;
+
+// The cursor: where the next record starts, and the index it will have. Any cursor may be given; `index` is the count that `next` goes
+// on from, and the item that it yields has it as an ItemIndex.
+pub struct ItemIter {
+    pub stream: Stream,
+    pub at: usize,
+    pub index: u32,
+}
+
+pub enum IterAnswer {
+    Answered(ItemIter),
+    Refused(Refusal),
+}
+
+pub enum NextAnswer {
+    Done,
+    Yielded(Item, ItemIter),
+    Refused(Refusal),
+}
+
+// A fresh iterator over the TPI stream.
+pub fn types(s: &[u8]) -> IterAnswer
+    ensures { λ r. ⌜ saidIter r ≡ iterOf stream.Types (now (s .entry)) ⌝ }
+{
+    iter(Stream::Types, s)
+}
+
+// A fresh iterator over the IPI stream.
+pub fn ids(s: &[u8]) -> IterAnswer
+    ensures { λ r. ⌜ saidIter r ≡ iterOf stream.Ids (now (s .entry)) ⌝ }
+{
+    iter(Stream::Ids, s)
+}
+
+// A fresh iterator over a stream: it stands behind the header, at the minimum index.
+pub fn iter(stream: Stream, s: &[u8]) -> IterAnswer
+    ensures { λ r. ⌜ saidIter r ≡ iterOf stream (now (s .entry)) ⌝ }
+{
+    match Header::parse(s) {
+        HeaderAnswer::Answered(h) => IterAnswer::Answered(ItemIter {
+            stream: stream,
+            at: h.header_size as usize,
+            index: h.minimum_index,
+        }),
+        HeaderAnswer::Refused(e) => IterAnswer::Refused(e),
+    }
+}
+
+// The record at the cursor, and the cursor behind it.
+pub fn next(s: &[u8], c: ItemIter) -> NextAnswer
+    ensures { λ r. ⌜ saidNext r ≡ nextOf (now (s .entry)) c ⌝ }
+{
+    let at = c.at;
+    let index = c.index;
+    if s.len() > LONGEST {
+        return NextAnswer::Refused(Refusal::TooLong);
+    }
+    if at > s.len() {
+        return NextAnswer::Refused(Refusal::Ended);
+    }
+    let left = s.len() - at;
+    if left < 2 {
+        if left == 0 {
+            return NextAnswer::Done;
+        }
+        return NextAnswer::Refused(Refusal::Ended);
+    }
+    let n = length_at(s, at);
+    if n < 2 {
+        return NextAnswer::Refused(Refusal::TooShort);
+    }
+    let after = at + 2 + n;
+    if after > s.len() {
+        return NextAnswer::Refused(Refusal::Ended);
+    }
+    if index == 4294967295 {
+        return NextAnswer::Refused(Refusal::IndicesUsedUp);
+    }
+    stepped(c, n)
+}
+
+// The step over a record of n bytes that is all there.
+fn stepped(c: ItemIter, n: usize) -> NextAnswer
+    requires { ⌜ (c .at + 2 + n ≤ 4294967294) × (c .index < 4294967295) ⌝ }
+    ensures { λ r. ⌜ saidNext r ≡ answered (overRecord c n) ⌝ }
+{
+    let stream = c.stream;
+    let index = c.index;
+    let place = c.at + 2;
+    let named = stream.index(index);
+    let after = place + n;
+    let following = index + 1;
+    NextAnswer::Yielded(
+        Item {
+            index: named,
+            place: place,
+            length: n,
+        },
+        ItemIter {
+            stream: stream,
+            at: after,
+            index: following,
+        },
+    )
+}

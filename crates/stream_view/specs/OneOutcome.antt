@@ -1,0 +1,26 @@
+-- What each answer of this crate says fixes the answer. Assumes nothing.
+use mathlib.Core.Path.{_≡_, refl}
+use Rattle.answer.specs.OneOutcome.{one-of, heard, heard-no}
+use Rattle.field_text.specs.Texts.{Part}
+use Rattle.stream_view.specs.Views.{saidView, saidKind}
+use Rattle.stream_view.specs.declared.ViewAnswer.{ViewAnswer}
+use Rattle.stream_view.specs.declared.ViewAnswer.the-variants as view
+use Rattle.stream_view.specs.declared.KindAnswer.{KindAnswer}
+use Rattle.stream_view.specs.declared.KindAnswer.the-variants as kind
+
+abbrev viewIn : Part → ViewAnswer
+viewIn a = view.Answered (a .place) (a .length)
+
+view-back : (r : ViewAnswer) → heard viewIn view.Refused (saidView r) ≡ r
+view-back (view.Answered p n) = refl
+view-back (view.Refused e) = heard-no viewIn view.Refused e
+
+pub one-view : (r q : ViewAnswer) → saidView r ≡ saidView q → r ≡ q
+one-view = one-of saidView (heard viewIn view.Refused) view-back
+
+kind-back : (r : KindAnswer) → heard kind.Answered kind.Refused (saidKind r) ≡ r
+kind-back (kind.Answered k) = refl
+kind-back (kind.Refused e) = heard-no kind.Answered kind.Refused e
+
+pub one-kind : (r q : KindAnswer) → saidKind r ≡ saidKind q → r ≡ q
+one-kind = one-of saidKind (heard kind.Answered kind.Refused) kind-back

@@ -1,0 +1,120 @@
+// An entry's bytes: a part of the TPI stream or of the IPI stream, both lent, and the leaf that they start with.
+ghost use mathlib.Core.Path.{_≡_};
+ghost use Rattle.stream_view.specs.Views.{partOf, viewOf, saidView, bytesOf, kindAt, rawKindOf, saidKind};
+use answer::Refusal;
+use field::fixed;
+use stream_header::LONGEST;
+use stream_item::Entry;
+use stream_item::ItemIndex;
+
+// The payload's place and length in the stream that the entry names.
+pub enum ViewAnswer {
+    Answered(usize, usize),
+    Refused(Refusal),
+}
+
+pub enum KindAnswer {
+    Answered(u16),
+    Refused(Refusal),
+}
+
+// Whether the part of s at this place, of this length, is there.
+fn inside(s: &[u8], place: usize, length: usize) -> ViewAnswer
+    ensures { λ r. ⌜ saidView r ≡ partOf (now (s .entry)) place length ⌝ }
+{
+    if place > s.len() {
+        return ViewAnswer::Refused(Refusal::Ended);
+    }
+    if length > s.len() - place {
+        return ViewAnswer::Refused(Refusal::Ended);
+    }
+    ViewAnswer::Answered(place, length)
+}
+
+// The leaf that the part starts with.
+fn kind_at(s: &[u8], place: usize, length: usize) -> KindAnswer
+    ensures { λ r. ⌜ saidKind r ≡ kindAt (now (s .entry)) place length ⌝ }
+{
+    if place > s.len() {
+        return KindAnswer::Refused(Refusal::Ended);
+    }
+    if length > s.len() - place {
+        return KindAnswer::Refused(Refusal::Ended);
+    }
+    if length < 2 {
+        return KindAnswer::Refused(Refusal::Ended);
+    }
+    KindAnswer::Answered(fixed::u16_or_zero(s, place))
+}
+
+// Where the payload of an entry lies.
+pub fn view_answer(tpi: &[u8], ipi: &[u8], entry: Entry) -> ViewAnswer
+    ensures { λ r. ⌜ saidView r ≡ viewOf (now (tpi .entry)) (now (ipi .entry)) entry ⌝ }
+{
+    if tpi.len() > LONGEST {
+        return ViewAnswer::Refused(Refusal::TooLong);
+    }
+    if ipi.len() > LONGEST {
+        return ViewAnswer::Refused(Refusal::TooLong);
+    }
+    match entry {
+        Entry::Record(item) => {
+            let place = item.place;
+            let length = item.length;
+            let index = item.index;
+            match index {
+                ItemIndex::Types(_) => inside(tpi, place, length),
+                ItemIndex::Ids(_) => inside(ipi, place, length),
+            }
+        }
+        Entry::Marker(index) => ViewAnswer::Refused(Refusal::NotFound(index.number())),
+    }
+}
+
+// The payload of an entry, and no bytes where `view_answer` refuses.
+pub fn view<'a>(tpi: &'a [u8], ipi: &'a [u8], entry: Entry) -> &'a [u8]
+    ensures { λ r. ⌜ now r ≡ bytesOf (now (tpi .entry)) (now (ipi .entry)) entry ⌝ }
+{
+    if tpi.len() > LONGEST {
+        return &tpi[0..0];
+    }
+    if ipi.len() > LONGEST {
+        return &tpi[0..0];
+    }
+    match entry {
+        Entry::Record(item) => {
+            let place = item.place;
+            let length = item.length;
+            let index = item.index;
+            match index {
+                ItemIndex::Types(_) => field_text::bytes_at(tpi, place, length),
+                ItemIndex::Ids(_) => field_text::bytes_at(ipi, place, length),
+            }
+        }
+        Entry::Marker(_) => &tpi[0..0],
+    }
+}
+
+// The leaf that an entry starts with: 0xffff, a reserved value, for the marker.
+pub fn raw_kind(tpi: &[u8], ipi: &[u8], entry: Entry) -> KindAnswer
+    ensures { λ r. ⌜ saidKind r ≡ rawKindOf (now (tpi .entry)) (now (ipi .entry)) entry ⌝ }
+{
+    if tpi.len() > LONGEST {
+        return KindAnswer::Refused(Refusal::TooLong);
+    }
+    if ipi.len() > LONGEST {
+        return KindAnswer::Refused(Refusal::TooLong);
+    }
+    match entry {
+        Entry::Record(item) => {
+            let place = item.place;
+            let length = item.length;
+            let index = item.index;
+            match index {
+                ItemIndex::Types(_) => kind_at(tpi, place, length),
+                ItemIndex::Ids(_) => kind_at(ipi, place, length),
+            }
+        }
+        Entry::Marker(_) => KindAnswer::Answered(0xffff),
+    }
+}
