@@ -28,6 +28,7 @@ def modules(text):
     """Module names of antt: Rattle.NAME, Rattle.NAME.specs, Rattle.NAME.proofs. The module `field` of common becomes `fixed`."""
     text = re.sub(r"(Rattle.common(?:·specs|·proofs)?\.proofs)\.field\b", r"\1.fixed", text)
     text = re.sub(r"(Rattle.common(?:·specs|·proofs)?\.specs\.declared)\.field\b", r"\1.fixed", text)
+    text = re.sub(r"\bcalls-(%s)(?=·)" % OLD, lambda m: "calls-" + FAMILIES[m.group(1)].replace("_", "-"), text)
     return re.sub(r"Rattle·(%s)(?=[·.])" % OLD, lambda m: "Rattle·" + FAMILIES[m.group(1)], text)
 
 

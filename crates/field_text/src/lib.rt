@@ -43,14 +43,17 @@ fn zero_from(s: &[u8], p: usize) -> usize
     ensures { λ r. ⌜ ZeroAt (now (s .entry)) p r ⌝ }
 {
     let mut i = p;
-    while let Read64::Got(x, after) = fixed::u64_at(s, i) {
+    while i < s.len() {
+        let Read64::Got(x, _) = fixed::u64_at(s, i) else {
+            return zero_by_byte(s, i);
+        };
         let m = marks(x);
         if m != 0 {
             return i + (u64::trailing_zeros(m) / 8) as usize;
         }
-        i = after;
+        i += 8;
     }
-    zero_by_byte(s, i)
+    i
 }
 
 // The same, byte by byte.

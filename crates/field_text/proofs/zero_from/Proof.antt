@@ -20,16 +20,22 @@ abbrev μ-loop : tie.MeasureT-loop
 loop-holds : tie.Need-loop-holds Inv-loop μ-loop
 loop-holds c = passed-none _ _ _ refl
 
+returns : tie.Need-returns Inv-loop μ-loop
+returns c =
+    let z = c .zero-by-byte .ensures in
+    record { passed = passed-then _ _ _ (c .before .before .before .before .before .loop .inv) (z .passed); there = z .there }
+
 -- the word that was read, and what its marks say
 abbrev Word : tie.After-marks Inv-loop μ-loop → Type 0
 Word c =
-    There 8 (c .before .before .before .before .before .before .before .args .s .now) (c .before .before .before .before .before .loop .i) (c .before .before .x .given .0 .0) (c .before .before .x .given .0 .1 .0)
-    × Marks (c .before .before .before .before .before .before .before .args .s .now) (c .before .before .before .before .before .loop .i) 8 (c .marks .result)
+    let s = c .before .before .before .before .before .before .before .before .args .s .now in
+    let i = c .before .before .before .before .before .before .loop .i in
+    There 8 s i (c .before .before .x .given .0 .0) (c .before .before .x .given .0 .1 .0) × Marks s i 8 (c .marks .result)
 
 word : (c : tie.After-marks Inv-loop μ-loop) → Word c
 word c =
     let t = field-got 8 _ _ _ _ (sym (c .before .before .before .before .u64-at .ensures) ∙ ap said64 (c .before .before .x .given .1)) in
-    (t, word-marks _ _ _ _ (λ i. omega (arith, c .before .before .before .before .before .before .shared-slice-known .given i)) (t .room) (t .value) (c .marks .ensures))
+    (t, word-marks _ _ _ _ (λ i. omega (arith, c .before .before .before .before .before .before .before .shared-slice-known .given i)) (t .room) (t .value) (c .marks .ensures))
 
 cast-result : tie.Need-cast-result Inv-loop μ-loop
 cast-result c = omega (arith, word (c .before) .1 .first (c .if1 .taken) .within)
@@ -37,40 +43,27 @@ cast-result c = omega (arith, word (c .before) .1 .first (c .if1 .taken) .within
 add-result : tie.Need-add-result Inv-loop μ-loop
 add-result c =
     let w = word (c .before) in
-    omega (arith, w .1 .first (c .if1 .taken) .within, w .0 .room, c .before .before .before .before .before .before .before .before .good .0 .0)
-
-returns : tie.Need-returns Inv-loop μ-loop
-returns c =
-    let f = word (c .before) .1 .first (c .if1 .taken) in
-    record { passed = passed-then _ _ _ (c .before .before .before .before .before .before .loop .inv) (f .passed); there = λ h. f .there }
-
-loop-less : tie.Need-loop-less Inv-loop μ-loop
-loop-less c = let t = word (c .before) .0 in omega (arith, t .room, t .next)
-
-loop-again : tie.Need-loop-again Inv-loop μ-loop
-loop-again c = let w = word (c .before) in
-    passed-then _ _ _ (c .before .before .before .before .before .before .loop .inv) (rw (w .0 .next) (w .1 .none (c .if1 .left)))
+    omega (arith, w .1 .first (c .if1 .taken) .within, w .0 .room, c .before .before .before .before .before .before .before .before .before .good .0 .0)
 
 returns-2 : tie.Need-returns-2 Inv-loop μ-loop
 returns-2 c =
-    let z = c .zero-by-byte .ensures in
-    record { passed = passed-then _ _ _ (c .before .before .before .before .loop .inv) (z .passed); there = z .there }
+    let f = word (c .before) .1 .first (c .if1 .taken) in
+    record { passed = passed-then _ _ _ (c .before .before .before .before .before .before .before .loop .inv) (f .passed); there = λ h. f .there }
+
+add-i : tie.Need-add-i Inv-loop μ-loop
+add-i c = omega (arith, word (c .before) .0 .room, c .before .before .before .before .before .before .before .before .before .good .0 .0)
+
+loop-less : tie.Need-loop-less Inv-loop μ-loop
+loop-less c = omega (arith, word (c .before) .0 .room)
+
+loop-again : tie.Need-loop-again Inv-loop μ-loop
+loop-again c = passed-then _ _ _ (c .before .before .before .before .before .before .before .loop .inv) (word (c .before) .1 .none (c .if1 .left))
+
+returns-3 : tie.Need-returns-3 Inv-loop μ-loop
+returns-3 c = record { passed = c .before .loop .inv; there = λ h. absurd (omega arith) }
 
 pub zero-from-spec : {M : Type 1} → statement M
 zero-from-spec =
-    tie.close
-    (tie.spec
-    Inv-loop
-    μ-loop
-    loop-holds
-    (λ c κs. search needs)
-    (λ c. search needs)
-    (λ c κs. search needs)
-    cast-result
-    add-result
-    returns
-    loop-less
-    loop-again
-    (λ c. search needs)
-    (λ c κs. search needs)
-    returns-2)
+    tie.close (tie.spec
+    Inv-loop μ-loop loop-holds (λ c κs. search needs) (λ c. search needs) (λ c. search needs) (λ c κs. search needs) returns (λ c κs. search needs)
+    cast-result add-result returns-2 add-i loop-less loop-again returns-3)

@@ -94,5 +94,5 @@ next-spec 𝓤 H 𝓜 𝓖 𝓡 =
     (walk-meets 𝓤 H (𝓖 .A) next.ended stayed W (goes-kept 𝓤 H (𝓖 .A) W, tt) (next.clauses 𝓤 H (𝓖 .A) (𝓜 .mem) (𝓡 .run)) (WpFn 𝓤 H (𝓣 .C) (𝓣 .Λ) code.function) (WpFn-mono 𝓤 H (W .laws) 𝓣 code.function)
     (walked 𝓤 H (𝓖 .A) next.ended stayed (next.clauses 𝓤 H (𝓖 .A) (𝓜 .mem) (𝓡 .run)) (WpFn 𝓤 H (𝓣 .C) (𝓣 .Λ) code.function) (λ κs. (LL.vals (D κs) (L κs), tt)) (λ κs. (LL.tells (D κs) (L κs), tt))
     (λ κs qs bounds a g are. via 𝓤 _ (fst∗ 𝓤 _ (emp 𝓤)) (walk 𝓤 H (𝓖 .A) W (𝓜 .mem) (𝓡 .run) (κs .0) (qs .0) (a .0) (𝓣 .C) (𝓣 .Λ) (fmOf 𝓤 H (W .laws) 𝓣)
-    (cited 𝓤 H (By 𝓤 H (𝓖 .A) (𝓜 .mem) (𝓡 .run)) 𝓜 𝓡 code.env #by-parts by-parts-def.routine code.calls-lists·step (by-parts-thm.met 𝓤 H 𝓜 𝓖 𝓡))
+    (cited 𝓤 H (By 𝓤 H (𝓖 .A) (𝓜 .mem) (𝓡 .run)) 𝓜 𝓡 code.env #by-parts by-parts-def.routine code.calls-record-list·step (by-parts-thm.met 𝓤 H 𝓜 𝓖 𝓡))
     (LL.lawful (D κs) (L κs) 𝓤 H (𝓖 .A) W .typed (a .0) _ (are .0) .0)))))

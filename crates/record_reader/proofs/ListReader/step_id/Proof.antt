@@ -138,4 +138,4 @@ step-id-spec 𝓤 H 𝓜 𝓖 𝓡 =
     (walk-meets 𝓤 H (𝓖 .A) step-id.ended stayed W (goes-ref 𝓤 H (𝓖 .A) W 2 0 tt behind, tt) (step-id.clauses 𝓤 H (𝓖 .A) (𝓜 .mem) (𝓡 .run)) (WpFn 𝓤 H (𝓣 .C) (𝓣 .Λ) code.function) (WpFn-mono 𝓤 H (W .laws) 𝓣 code.function)
     (walked 𝓤 H (𝓖 .A) step-id.ended stayed (step-id.clauses 𝓤 H (𝓖 .A) (𝓜 .mem) (𝓡 .run)) (WpFn 𝓤 H (𝓣 .C) (𝓣 .Λ) code.function) (λ κs. (ptr-vals, tt)) (λ κs. (mut-tells (named 0) (κs .0) (T.the-row (namedLft 2 1 tt κs)), tt))
     (λ κs qs bounds a g are. via 𝓤 _ (fst∗ 𝓤 _ (emp 𝓤)) (walk 𝓤 H (𝓖 .A) W (𝓜 .mem) (𝓡 .run) (κs .0) (κs .1 .0) (qs .0) (qs .1 .0) bounds (a .0 .ptr .0) (a .0 .ptr .1) (a .0 .name) (a .0 .now) (𝓣 .C) (𝓣 .Λ) (fmOf 𝓤 H (W .laws) 𝓣)
-    (cited 𝓤 H (By 𝓤 H (𝓖 .A) (𝓜 .mem) (𝓡 .run)) 𝓜 𝓡 code.env #by-parts by-parts-def.routine code.calls-reader·stepped-ids-at (by-parts-thm.met 𝓤 H 𝓜 𝓖 𝓡))))))
+    (cited 𝓤 H (By 𝓤 H (𝓖 .A) (𝓜 .mem) (𝓡 .run)) 𝓜 𝓡 code.env #by-parts by-parts-def.routine code.calls-record-reader·stepped-ids-at (by-parts-thm.met 𝓤 H 𝓜 𝓖 𝓡))))))

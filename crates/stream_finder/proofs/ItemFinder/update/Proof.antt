@@ -117,5 +117,5 @@ update-spec 𝓤 H 𝓜 𝓖 𝓡 =
     (walk-meets 𝓤 H (𝓖 .A) update.ended stayed W (goes-ref 𝓤 H (𝓖 .A) W 2 0 tt (plain (λ _. T.the-row)), (goes-gave-slice 𝓤 H (𝓖 .A) W 2 1 tt (plain (λ _. u32)), (goes-none 𝓤 H (𝓖 .A) W 2 (λ _. K.the-row) yes (λ κs x f. refl), tt))) (update.clauses 𝓤 H (𝓖 .A) (𝓜 .mem) (𝓡 .run)) (WpFn 𝓤 H (𝓣 .C) (𝓣 .Λ) code.function) (WpFn-mono 𝓤 H (W .laws) 𝓣 code.function)
     (walked 𝓤 H (𝓖 .A) update.ended stayed (update.clauses 𝓤 H (𝓖 .A) (𝓜 .mem) (𝓡 .run)) (WpFn 𝓤 H (𝓣 .C) (𝓣 .Λ) code.function) (λ κs. (ptr-vals, (slice-vals, (LL.vals K.the-type K′.the-laws, tt)))) (λ κs. (mut-tells (named 0) (κs .0) T.the-row, (mut-slice-tells (named 1) (κs .1 .0) u32, (LL.tells K.the-type K′.the-laws, tt))))
     (λ κs qs bounds a g are. via 𝓤 _ (fst∗ 𝓤 _ (emp 𝓤)) (walk 𝓤 H (𝓖 .A) W (𝓜 .mem) (𝓡 .run) (κs .0) (κs .1 .0) (qs .0) (qs .1 .0) (a .0 .ptr .0) (a .0 .ptr .1) (a .0 .name) (a .0 .now) (a .1 .0) (a .1 .1 .0) (are .1 .1 .0) (𝓣 .C) (𝓣 .Λ) (fmOf 𝓤 H (W .laws) 𝓣)
-    (cited 𝓤 H (By 𝓤 H (𝓖 .A) (𝓜 .mem) (𝓡 .run)) 𝓜 𝓡 code.env #updated updated-def.routine code.calls-finder·lent·updated (updated-thm.met 𝓤 H 𝓜 𝓖 𝓡))
+    (cited 𝓤 H (By 𝓤 H (𝓖 .A) (𝓜 .mem) (𝓡 .run)) 𝓜 𝓡 code.env #updated updated-def.routine code.calls-stream-finder·lent·updated (updated-thm.met 𝓤 H 𝓜 𝓖 𝓡))
     (are .1 .0 .0 .1)))))

@@ -110,4 +110,4 @@ max-index-local-spec 𝓤 H 𝓜 𝓖 𝓡 =
     (walk-meets 𝓤 H (𝓖 .A) max-index-local.ended stayed W (goes-none 𝓤 H (𝓖 .A) W 0 (λ _. T.the-row) yes (λ κs x f. refl), (goes-none 𝓤 H (𝓖 .A) W 0 (λ _. P.the-row) yes (λ κs x f. refl), tt)) (max-index-local.clauses 𝓤 H (𝓖 .A) (𝓜 .mem) (𝓡 .run)) (WpFn 𝓤 H (𝓣 .C) (𝓣 .Λ) code.function) (WpFn-mono 𝓤 H (W .laws) 𝓣 code.function)
     (walked 𝓤 H (𝓖 .A) max-index-local.ended stayed (max-index-local.clauses 𝓤 H (𝓖 .A) (𝓜 .mem) (𝓡 .run)) (WpFn 𝓤 H (𝓣 .C) (𝓣 .Λ) code.function) (λ κs. (LL.vals T.the-type T′.the-laws, (EL.vals P.the-type P′.the-laws, tt))) (λ κs. (LL.tells T.the-type T′.the-laws, (EL.tells P.the-type P′.the-laws, tt)))
     (λ κs qs bounds a g are. via 𝓤 _ (fst∗ 𝓤 _ (emp 𝓤)) (walk 𝓤 H (𝓖 .A) W (𝓜 .mem) (𝓡 .run) (a .0) (a .1 .0) (are .0) (are .1 .0) (𝓣 .C) (𝓣 .Λ) (fmOf 𝓤 H (W .laws) 𝓣)
-    (cited 𝓤 H (By 𝓤 H (𝓖 .A) (𝓜 .mem) (𝓡 .run)) 𝓜 𝓡 code.env #by-ref by-ref-def.routine code.calls-finder·lent·max-index (by-ref-thm.met 𝓤 H 𝓜 𝓖 𝓡))))))
+    (cited 𝓤 H (By 𝓤 H (𝓖 .A) (𝓜 .mem) (𝓡 .run)) 𝓜 𝓡 code.env #by-ref by-ref-def.routine code.calls-stream-finder·lent·max-index (by-ref-thm.met 𝓤 H 𝓜 𝓖 𝓡))))))
