@@ -99,9 +99,9 @@ typeValues (type.Union r) =
     number 0x1506 ∷ number (r .count) ∷ number (r .properties .0) ∷ number (r .fields .0) ∷ number (r .size .value) ∷ many (part (r .name)) ∷ optString (r .«unique_name») ∷ []
 typeValues (type.Bitfield r) = number 0x1205 ∷ number (r .«underlying_type» .0) ∷ number (r .length) ∷ number (r .position) ∷ []
 typeValues (type.VirtualTableShape r) = number 0x000a ∷ number (r .count) ∷ many (record { place = r .place; length = (r .count + 1) / 2 }) ∷ []
-typeValues type.FieldList = number 0x1203 ∷ []
+typeValues type.FieldList = number 0x1203 ∷ absent ∷ []
 typeValues (type.ArgumentList r) = number 0x1201 ∷ number (r .count) ∷ many (record { place = r .place; length = 4 * r .count }) ∷ []
-typeValues type.MethodList = number 0x1206 ∷ []
+typeValues type.MethodList = number 0x1206 ∷ absent ∷ []
 
 abbrev pub saidTypeData : TypeAnswer → Answer (List (Value Part))
 saidTypeData (answer.Answered d) = answered (typeValues d)

@@ -21,7 +21,10 @@ use field_text::After;
 use field_text::OptString;
 use field_text::RawString;
 use field_text::ReadString;
+use word_attributes::FlagAnswer;
 use word_attributes::FunctionAttributes;
+use word_attributes::KindAnswer;
+use word_attributes::ModeAnswer;
 use word_attributes::ModifierFlags;
 use word_attributes::PointerAttributes;
 use word_attributes::TypeProperties;
@@ -198,7 +201,7 @@ enum ReadOptString {
 fn second_string(s: &[u8], p: usize, properties: u16) -> ReadOptString
     ensures { λ r. ⌜ saidOptString r ≡ readField S2 properties (now (s .entry)) p ⌝ }
 {
-    if properties / TypeProperties::HAS_UNIQUE_NAME % 2 == 1 {
+    if TypeProperties(properties).has_unique_name() {
         let ReadString::Got(t, q) = field_text::string_at(s, p) else {
             return ReadOptString::Ended;
         };
@@ -211,11 +214,10 @@ fn second_string(s: &[u8], p: usize, properties: u16) -> ReadOptString
 fn containing_class(s: &[u8], p: usize, word: u32) -> ReadOptType
     ensures { λ r. ⌜ saidContaining r ≡ readField memberO word (now (s .entry)) p ⌝ }
 {
-    let mode = word / 32 % 8;
-    if mode == 2 {
-        return index::optional_type_at(s, p);
-    }
-    if mode == 3 {
+    let FlagAnswer::Answered(to_member) = PointerAttributes(word).pointer_to_member() else {
+        return ReadOptType::Got(OptTypeIndex::None, p);
+    };
+    if to_member {
         return index::optional_type_at(s, p);
     }
     ReadOptType::Got(OptTypeIndex::None, p)
@@ -248,12 +250,12 @@ fn pointer_at(s: &[u8], p: usize) -> TypeAnswer
     let Read32::Got(word, p2) = fixed::u32_at(s, p1) else {
         return TypeAnswer::Refused(Refusal::Ended);
     };
-    if 13 <= word % 32 {
+    let KindAnswer::Answered(_) = PointerAttributes(word).pointer_kind() else {
         return TypeAnswer::Refused(Refusal::PointerWord);
-    }
-    if 5 <= word / 32 % 8 {
+    };
+    let ModeAnswer::Answered(_) = PointerAttributes(word).pointer_mode() else {
         return TypeAnswer::Refused(Refusal::PointerWord);
-    }
+    };
     let ReadOptType::Got(class, _) = containing_class(s, p2, word) else {
         return TypeAnswer::Refused(Refusal::Ended);
     };

@@ -8,6 +8,7 @@ use Rattle.field.specs.Fields.{le, fixedAt}
 use Rattle.field.specs.Indices.{optionalOf, optionalAt}
 use Rattle.field_text.specs.Texts.{Part, toZero, stringAt}
 use Rattle.field_number.specs.Numbers.{prefixes, numericAt, sizeAt, unsignedAt}
+use Rattle.word_attributes.specs.Pointers.{pointerKinds, pointerModes, kindOf, modeOf, toMemberOf}
 use Rattle.record_layout.specs.Fields.{Value, number, absent, many, readField, readFields}
 use Rattle.record_layout.specs.Layouts.{typeLeaves, readLeaf, leafOf, recordOf}
 
@@ -65,14 +66,14 @@ reads-arrays = refl
 -- the pointer record of stream E; and one of kind 13
 pub reads-pointer : recordOf typeLeaves (0x02 ∷ 0x10 ∷ 0x00 ∷ 0x10 ∷ 0x00 ∷ 0x00 ∷ 0x0c ∷ 0x00 ∷ 0x01 ∷ 0x00 ∷ [])
     ≡ answered (number 0x1002 ∷ number 0x1000 ∷ number 0x0001000c ∷ absent ∷ [])
-unfolding recordOf leafOf readLeaf le fixedAt find among readField readFields typeLeaves
+unfolding recordOf leafOf readLeaf le fixedAt find readField readFields typeLeaves kindOf modeOf toMemberOf pointerKinds pointerModes
 reads-pointer = refl
 
 pub refuses-kind : recordOf typeLeaves (0x02 ∷ 0x10 ∷ 0x00 ∷ 0x10 ∷ 0x00 ∷ 0x00 ∷ 0x0d ∷ 0x00 ∷ 0x01 ∷ 0x00 ∷ []) ≡ refused 12 []
-unfolding recordOf leafOf readLeaf le fixedAt find among readField readFields typeLeaves
+unfolding recordOf leafOf readLeaf le fixedAt find readField readFields typeLeaves kindOf modeOf toMemberOf pointerKinds pointerModes
 refuses-kind = refl
 
 -- a pointer to member of kind 13 whose class is cut off: 12 comes right after the word
 pub refuses-first : recordOf typeLeaves (0x02 ∷ 0x10 ∷ 0x00 ∷ 0x10 ∷ 0x00 ∷ 0x00 ∷ 0x4d ∷ 0x00 ∷ 0x01 ∷ 0x00 ∷ []) ≡ refused 12 []
-unfolding recordOf leafOf readLeaf le fixedAt find among readField readFields typeLeaves
+unfolding recordOf leafOf readLeaf le fixedAt find readField readFields typeLeaves kindOf modeOf toMemberOf pointerKinds pointerModes
 refuses-first = refl

@@ -13,8 +13,9 @@ use Rattle.field.specs.Indices.{noType, noId, optionalAt}
 use Rattle.field_text.specs.Texts.{Part, stringAt, bytesAfter}
 use Rattle.field_number.specs.Numbers.{numericAt, sizeAt}
 
--- The value of a field. `integer` is a numeric leaf that may be negative. `absent` is an index that reads as none, and a field that is not
--- there. What is many bytes, a string or the elements of a list, is a `Part` where it is read, and the bytes themselves where it is written
+-- The value of a field. `integer` is a numeric leaf that may be negative. `absent` is an index that reads as none, a field that is not there,
+-- and the elements of 0x1206 and 0x1203, which are taken unread. What is many bytes, a string or the elements of a counted list, is a `Part`
+-- where it is read, and the bytes themselves where it is written
 pub data Value (S : Type 0) : Type 0 where
   number : ℕ → Value S
   integer : ℤ → Value S
@@ -41,8 +42,8 @@ bytesOf slots n = (n + 1) / 2
 pub data Field : Type 0 where
   -- a number of k bytes
   fixed : ℕ → Field
-  -- a type index; an optional one; an optional id index
-  type optionalType optionalId : Field
+  -- a type index, an id index, a string reference: four bytes each; an index that may be none
+  type id stringReference optionalType optionalId : Field
   -- a number of k bytes that becomes the word; 12 right after it if it fails the test
   word : ℕ → (ℕ → Bool) → Field
   -- k bytes that 01 gives no name: read, and shown as absent
@@ -51,6 +52,8 @@ pub data Field : Type 0 where
   numeric size string : Field
   -- as many elements as the word says
   run : Elements → Field
+  -- the elements of 0x1206 and of 0x1203, which go to the end of the record
+  methods members : Field
   -- this field if the word passes the test, else absent
   when : (ℕ → Bool) → Field → Field
 
@@ -62,6 +65,8 @@ orAbsent (some n) = number n
 unfoldable pub readField : Field → ℕ → List ℕ → ℕ → Read (Value Part)
 readField (fixed k) w s p = and-then (fixedAt k s p) (λ n q. got (number n) q)
 readField type w s p = and-then (fixedAt 4 s p) (λ n q. got (number n) q)
+readField id w s p = and-then (fixedAt 4 s p) (λ n q. got (number n) q)
+readField stringReference w s p = and-then (fixedAt 4 s p) (λ n q. got (number n) q)
 readField optionalType w s p = and-then (optionalAt noType s p) (λ o q. got (orAbsent o) q)
 readField optionalId w s p = and-then (optionalAt noId s p) (λ o q. got (orAbsent o) q)
 readField (word k good) w s p = and-then (fixedAt k s p) (λ n q. pick (good n) (got (number n) q) (refused 12 []))
@@ -70,6 +75,8 @@ readField numeric w s p = and-then (numericAt s p) (λ z q. got (integer z) q)
 readField size w s p = and-then (sizeAt s p) (λ n q. got (number n) q)
 readField string w s p = and-then (stringAt s p) (λ x q. got (many x) q)
 readField (run e) w s p = then (bytesAfter (bytesOf e w) s p) (λ q. got (many (record { place = p; length = bytesOf e w })) q)
+readField methods w s p = got absent p
+readField members w s p = got absent p
 readField (when there f) w s p = pick (there w) (readField f w s p) (got absent p)
 
 -- the word after a field that read as v
@@ -77,6 +84,8 @@ abbrev pub wordAfter : {S : Type 0} → Field → Value S → ℕ → ℕ
 wordAfter (word k good) v w = numberOr v w
 wordAfter (fixed k) v w = w
 wordAfter type v w = w
+wordAfter id v w = w
+wordAfter stringReference v w = w
 wordAfter optionalType v w = w
 wordAfter optionalId v w = w
 wordAfter (gap k) v w = w
@@ -84,6 +93,8 @@ wordAfter numeric v w = w
 wordAfter size v w = w
 wordAfter string v w = w
 wordAfter (run e) v w = w
+wordAfter methods v w = w
+wordAfter members v w = w
 wordAfter (when there f) v w = w
 
 -- fields in order: their values and the place after the last, or the first refusal

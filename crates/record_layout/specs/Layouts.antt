@@ -1,16 +1,16 @@
 -- Document 01, "Layouts": the tables. Each line is 01's line; the names of the fields are 01's too.
-use Prim.Native.Nat.{ℕ, _%_, _^_}
-use mathlib.Core.Bool.{Bool, true}
+use Prim.Native.Nat.{ℕ}
+use mathlib.Core.Bool.{Bool, true, false}
 use mathlib.Core.List.{List, [], _∷_}
 use mathlib.Core.Option.{Option, none, some}
-use lib.Dec.{ltb}
 use Rattle.answer.specs.Answer.{Answer, answered, refused, Read, Got, got, both, then, and-then}
-use Rattle.answer.specs.Tables.{Line, _is_, find, among}
+use Rattle.answer.specs.Tables.{Line, _is_, find}
 use Rattle.field.specs.Fields.{fixedAt}
 use Rattle.field_text.specs.Texts.{Part}
-use Rattle.word_attributes.specs.Bits.{bit, bits}
+use Rattle.word_attributes.specs.Bits.{bit}
 use Rattle.word_attributes.specs.Words.{introducing}
-use Rattle.record_layout.specs.Fields.{Value, number, Field, fixed, type, optionalType, optionalId, word, gap, numeric, size, string, run, types, ids, slots, when, readFields}
+use Rattle.word_attributes.specs.Pointers.{kindOf, modeOf, toMemberOf}
+use Rattle.record_layout.specs.Fields.{Value, number, Field, fixed, type, id, stringReference, optionalType, optionalId, word, gap, numeric, size, string, run, types, ids, slots, methods, members, when, readFields}
 
 -- 01's names of fields --------------------------------------------------------------------------------------------------------
 
@@ -29,12 +29,6 @@ T = type
 
 abbrev pub O : Field
 O = optionalType
-
-abbrev pub id : Field
-id = fixed 4
-
-abbrev pub stringReference : Field
-stringReference = fixed 4
 
 -- N is a numeric leaf, S a string
 abbrev pub N : Field
@@ -66,19 +60,22 @@ count32 = word 4 always
 abbrev pub S2 : Field
 S2 = when (bit 9) S
 
-abbrev pub kind : ℕ → ℕ
-kind w = w % 2 ^ 5
+-- is there a value; and is it true?
+abbrev pub isAnswered : {A : Type 0} → Answer A → Bool
+isAnswered (answered a) = true
+isAnswered (refused n d) = false
 
-abbrev pub mode : ℕ → ℕ
-mode w = bits 5 7 w
+abbrev pub isTrue : Answer Bool → Bool
+isTrue (answered b) = b
+isTrue (refused n d) = false
 
 -- a 0x1002 record needs kind and mode, right after its word
 abbrev pub pointer : Field
-pointer = word 4 (λ w. both (ltb (kind w) 13) (ltb (mode w) 5))
+pointer = word 4 (λ w. both (isAnswered (kindOf w)) (isAnswered (modeOf w)))
 
--- in modes 2 and 3 also O
+-- in modes 2 and 3, those of a pointer to member, also O
 abbrev pub memberO : Field
-memberO = when (λ w. among (mode w) (2 ∷ 3 ∷ [])) O
+memberO = when (λ w. isTrue (toMemberOf w)) O
 
 -- u32 offset if the method property is 4 or 6
 abbrev pub offset : Field
@@ -96,7 +93,7 @@ Table = List (Line Layout)
 abbrev pub class : Layout
 class = u16 ∷ properties ∷ O ∷ O ∷ O ∷ N ∷ S ∷ S2 ∷ []
 
--- the type reader's leaves. The elements of 0x1206 and of 0x1203 stand after a layout of no fields, unread
+-- the type reader's leaves
 unfoldable pub typeLeaves : Table
 typeLeaves =
     (0x1001 is (T ∷ u16 ∷ []))
@@ -113,8 +110,8 @@ typeLeaves =
     ∷ (0x1609 is (properties ∷ gap 2 ∷ O ∷ O ∷ O ∷ u16 ∷ N ∷ S ∷ S2 ∷ []))
     ∷ (0x000a is (count16 ∷ run slots ∷ []))
     ∷ (0x1201 is (count32 ∷ run types ∷ []))
-    ∷ (0x1206 is [])
-    ∷ (0x1203 is [])
+    ∷ (0x1206 is (methods ∷ []))
+    ∷ (0x1203 is (members ∷ []))
     ∷ []
 
 -- a virtual base class, direct or indirect; a type alone; a type with a name

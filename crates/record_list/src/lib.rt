@@ -1,10 +1,12 @@
-// The elements of the lists of document 01, one after the other, for the type side (0x1201, 0x1203, 0x1206) and the id side (0x1603,
-// 0x1604): a cursor by value, one step, and element k. Any cursor is answered, one that a caller makes up too.
+// The elements of the lists of document 01, one after the other: 0x1201, 0x1203 and 0x1206 of type records, 0x1603 and 0x1604 of id records.
+// A cursor by value, one step, and element k. Any cursor is answered, one that a caller makes up too.
+ghost use mathlib.Core.List.{_∷_, []};
 ghost use mathlib.Core.Path.{_≡_};
-ghost use Rattle.record_layout.specs.Layouts.{T, id};
+ghost use Rattle.record_layout.specs.Fields.{id, run, types, ids};
+ghost use Rattle.record_layout.specs.Layouts.{T, count16, count32};
 ghost use Rattle.record_member.specs.Said.{memberValues};
-ghost use Rattle.record_list.specs.Lists.{typeEntry, idEntry, elementsAt, counted, startOf, startIdsOf, countedStep, methodStep, leftAfter, memberStep, nextMember, stepOf, stepIdsOf, elementBy, elementOf, elementIdsOf};
-ghost use Rattle.record_list.specs.Said.{saidStart, saidStep, saidStepIds, saidElement, saidElementIds};
+ghost use Rattle.record_list.specs.Lists.{typeElement, idElement, countedBy, startTypes, startIds, startOf, countedStep, methodStep, leftAfter, memberStep, nextMember, stepOf, elementBy};
+ghost use Rattle.record_list.specs.Said.{saidStart, saidStep, saidElement};
 use answer::Refusal;
 use field::fixed;
 use field::fixed::Read16;
@@ -19,6 +21,7 @@ use record_member::Member;
 use record_member::MethodListEntry;
 use record_member::ReadMember;
 use record_member::ReadMethodEntry;
+use stream_item::Stream;
 
 // Where a list is read: plain numbers, so that a struct may hold it beside the record's bytes.
 pub struct ListCursor {
@@ -30,16 +33,21 @@ pub struct ListCursor {
     pub padded: bool,
 }
 
-// What `start` and `start_ids` answer.
+// What `start` answers.
 pub enum StartAnswer {
     Answered(ListCursor),
     Refused(Refusal),
 }
 
-// An element of the type side: of 0x1201, of 0x1206, of 0x1203.
+// An element of a list.
 pub enum Element {
-    Argument(TypeIndex),
+    // Of 0x1201 and of 0x1604.
+    Type(TypeIndex),
+    // Of 0x1603.
+    Id(IdIndex),
+    // Of 0x1206.
     Method(MethodListEntry),
+    // Of 0x1203.
     Member(Member),
 }
 
@@ -54,81 +62,75 @@ pub enum ElementAnswer {
     Refused(Refusal),
 }
 
-// An element of the id side: of 0x1603, of 0x1604.
-pub enum IdElement {
-    Id(IdIndex),
-    Type(TypeIndex),
-}
+// The leaves of lists, by their names in cvinfo.h.
+pub const LF_ARGLIST: u16 = 0x1201;
 
-// What `step_ids` answers: the element at the cursor, and the cursor for the next one.
-pub enum IdStepAnswer {
-    Answered(IdElement, ListCursor),
-    Refused(Refusal),
-}
+pub const LF_FIELDLIST: u16 = 0x1203;
 
-pub enum IdElementAnswer {
-    Answered(IdElement),
-    Refused(Refusal),
-}
+pub const LF_METHODLIST: u16 = 0x1206;
+
+pub const LF_BUILDINFO: u16 = 0x1603;
+
+pub const LF_SUBSTR_LIST: u16 = 0x1604;
 
 // Where a list starts.
 
-// A list of this leaf with so many elements at place p.
-fn elements_at(s: &[u8], leaf: u16, count: u32, p: usize) -> StartAnswer
-    ensures { λ r. ⌜ saidStart r ≡ elementsAt leaf count (now (s .entry)) p ⌝ }
+// A list of this leaf at place p: its count, a u16, then so many id indices.
+fn counted16_at(s: &[u8], leaf: u16, p: usize) -> StartAnswer
+    ensures { λ r. ⌜ saidStart r ≡ countedBy (count16 ∷ run ids ∷ []) leaf (now (s .entry)) p ⌝ }
 {
-    let After::At(_) = field_text::after_bytes(s, p, 4 * (count as usize)) else {
+    let Read16::Got(count, q) = fixed::u16_at(s, p) else {
+        return StartAnswer::Refused(Refusal::Ended);
+    };
+    let After::At(_) = field_text::after_bytes(s, q, 4 * (count as usize)) else {
         return StartAnswer::Refused(Refusal::Ended);
     };
     StartAnswer::Answered(ListCursor {
         leaf: leaf,
-        at: p,
+        at: q,
+        left: count as u32,
+        padded: false,
+    })
+}
+
+// A list of this leaf at place p: its count, a u32, then so many type indices.
+fn counted32_at(s: &[u8], leaf: u16, p: usize) -> StartAnswer
+    ensures { λ r. ⌜ saidStart r ≡ countedBy (count32 ∷ run types ∷ []) leaf (now (s .entry)) p ⌝ }
+{
+    let Read32::Got(count, q) = fixed::u32_at(s, p) else {
+        return StartAnswer::Refused(Refusal::Ended);
+    };
+    let After::At(_) = field_text::after_bytes(s, q, 4 * (count as usize)) else {
+        return StartAnswer::Refused(Refusal::Ended);
+    };
+    StartAnswer::Answered(ListCursor {
+        leaf: leaf,
+        at: q,
         left: count,
         padded: false,
     })
 }
 
-// A list of this leaf whose count is a u16 at place p.
-fn counted16_at(s: &[u8], leaf: u16, p: usize) -> StartAnswer
-    ensures { λ r. ⌜ saidStart r ≡ counted 2 leaf (now (s .entry)) p ⌝ }
-{
-    let Read16::Got(count, q) = fixed::u16_at(s, p) else {
-        return StartAnswer::Refused(Refusal::Ended);
-    };
-    elements_at(s, leaf, count as u32, q)
-}
-
-// A list of this leaf whose count is a u32 at place p.
-fn counted32_at(s: &[u8], leaf: u16, p: usize) -> StartAnswer
-    ensures { λ r. ⌜ saidStart r ≡ counted 4 leaf (now (s .entry)) p ⌝ }
-{
-    let Read32::Got(count, q) = fixed::u32_at(s, p) else {
-        return StartAnswer::Refused(Refusal::Ended);
-    };
-    elements_at(s, leaf, count, q)
-}
-
-// The list of a type record, at its first element.
-pub fn start(s: &[u8]) -> StartAnswer
-    ensures { λ r. ⌜ saidStart r ≡ startOf (now (s .entry)) ⌝ }
+fn start_types(s: &[u8]) -> StartAnswer
+    ensures { λ r. ⌜ saidStart r ≡ startTypes (now (s .entry)) ⌝ }
 {
     let Read16::Got(leaf, p) = fixed::u16_at(s, 0) else {
         return StartAnswer::Refused(Refusal::Ended);
     };
-    if leaf == 0x1201 {
-        return counted32_at(s, 0x1201, p);
+    if leaf == LF_ARGLIST {
+        return counted32_at(s, LF_ARGLIST, p);
     }
-    if leaf == 0x1206 {
+    if leaf == LF_METHODLIST {
         return StartAnswer::Answered(ListCursor {
-            leaf: 0x1206,
+            leaf: LF_METHODLIST,
             at: p,
             left: 1,
             padded: false,
         });
     }
-    if leaf == 0x1203 {
+    if leaf == LF_FIELDLIST {
         return StartAnswer::Answered(ListCursor {
-            leaf: 0x1203,
+            leaf: LF_FIELDLIST,
             at: p,
             left: 1,
             padded: false,
@@ -137,26 +139,36 @@ pub fn start(s: &[u8]) -> StartAnswer
     StartAnswer::Refused(Refusal::LeafUnknown(leaf))
 }
 
-// The list of an id record, at its first element.
-pub fn start_ids(s: &[u8]) -> StartAnswer
-    ensures { λ r. ⌜ saidStart r ≡ startIdsOf (now (s .entry)) ⌝ }
+fn start_ids(s: &[u8]) -> StartAnswer
+    ensures { λ r. ⌜ saidStart r ≡ startIds (now (s .entry)) ⌝ }
 {
     let Read16::Got(leaf, p) = fixed::u16_at(s, 0) else {
         return StartAnswer::Refused(Refusal::Ended);
     };
-    if leaf == 0x1603 {
-        return counted16_at(s, 0x1603, p);
+    if leaf == LF_BUILDINFO {
+        return counted16_at(s, LF_BUILDINFO, p);
     }
-    if leaf == 0x1604 {
-        return counted32_at(s, 0x1604, p);
+    if leaf == LF_SUBSTR_LIST {
+        return counted32_at(s, LF_SUBSTR_LIST, p);
     }
     StartAnswer::Refused(Refusal::LeafUnknown(leaf))
+}
+
+// The list of a record, at its first element: a record of the type stream, or of the id stream.
+pub fn start(stream: Stream, s: &[u8]) -> StartAnswer
+    ensures { λ r. ⌜ saidStart r ≡ startOf stream (now (s .entry)) ⌝ }
+{
+    match stream {
+        Stream::Types => start_types(s),
+        Stream::Ids => start_ids(s),
+    }
 }
 
 // One element, for each kind of list.
 
-fn argument_step(s: &[u8], p: usize, left: u32) -> StepAnswer
-    ensures { λ r. ⌜ saidStep r ≡ countedStep T typeEntry 0x1201 (now (s .entry)) p left ⌝ }
+// A type index of a list of this leaf.
+fn type_step(s: &[u8], leaf: u16, p: usize, left: u32) -> StepAnswer
+    ensures { λ r. ⌜ saidStep r ≡ countedStep T typeElement leaf (now (s .entry)) p left ⌝ }
 {
     if left == 0 {
         return StepAnswer::Refused(Refusal::NoSuchElement);
@@ -165,9 +177,9 @@ fn argument_step(s: &[u8], p: usize, left: u32) -> StepAnswer
         return StepAnswer::Refused(Refusal::Ended);
     };
     StepAnswer::Answered(
-        Element::Argument(t),
+        Element::Type(t),
         ListCursor {
-            leaf: 0x1201,
+            leaf: leaf,
             at: e,
             left: left - 1,
             padded: false,
@@ -175,39 +187,19 @@ fn argument_step(s: &[u8], p: usize, left: u32) -> StepAnswer
     )
 }
 
-fn id_step(s: &[u8], p: usize, left: u32) -> IdStepAnswer
-    ensures { λ r. ⌜ saidStepIds r ≡ countedStep id idEntry 0x1603 (now (s .entry)) p left ⌝ }
+fn id_step(s: &[u8], p: usize, left: u32) -> StepAnswer
+    ensures { λ r. ⌜ saidStep r ≡ countedStep id idElement 0x1603 (now (s .entry)) p left ⌝ }
 {
     if left == 0 {
-        return IdStepAnswer::Refused(Refusal::NoSuchElement);
+        return StepAnswer::Refused(Refusal::NoSuchElement);
     }
     let ReadId::Got(i, e) = index::id_at(s, p) else {
-        return IdStepAnswer::Refused(Refusal::Ended);
+        return StepAnswer::Refused(Refusal::Ended);
     };
-    IdStepAnswer::Answered(
-        IdElement::Id(i),
+    StepAnswer::Answered(
+        Element::Id(i),
         ListCursor {
-            leaf: 0x1603,
-            at: e,
-            left: left - 1,
-            padded: false,
-        },
-    )
-}
-
-fn substring_step(s: &[u8], p: usize, left: u32) -> IdStepAnswer
-    ensures { λ r. ⌜ saidStepIds r ≡ countedStep T typeEntry 0x1604 (now (s .entry)) p left ⌝ }
-{
-    if left == 0 {
-        return IdStepAnswer::Refused(Refusal::NoSuchElement);
-    }
-    let ReadType::Got(t, e) = index::type_at(s, p) else {
-        return IdStepAnswer::Refused(Refusal::Ended);
-    };
-    IdStepAnswer::Answered(
-        IdElement::Type(t),
-        ListCursor {
-            leaf: 0x1604,
+            leaf: LF_BUILDINFO,
             at: e,
             left: left - 1,
             padded: false,
@@ -227,7 +219,7 @@ fn method_step(s: &[u8], p: usize) -> StepAnswer
     StepAnswer::Answered(
         Element::Method(m),
         ListCursor {
-            leaf: 0x1206,
+            leaf: LF_METHODLIST,
             at: e,
             left: 1,
             padded: false,
@@ -264,7 +256,7 @@ fn member_step(s: &[u8], p: usize) -> StepAnswer
         ReadMember::Got(m, e) => StepAnswer::Answered(
             Element::Member(m),
             ListCursor {
-                leaf: 0x1203,
+                leaf: LF_FIELDLIST,
                 at: e,
                 left: left_after(m),
                 padded: true,
@@ -289,38 +281,30 @@ fn next_member(s: &[u8], p: usize, left: u32, padded: bool) -> StepAnswer
     member_step(s, p)
 }
 
-// The element at the cursor, and the cursor for the next one, of the type side.
+// The element at the cursor, and the cursor for the next one.
 pub fn step(s: &[u8], c: ListCursor) -> StepAnswer
     ensures { λ r. ⌜ saidStep r ≡ stepOf (now (s .entry)) c ⌝ }
 {
     let leaf = c.leaf;
-    if leaf == 0x1201 {
-        return argument_step(s, c.at, c.left);
+    if leaf == LF_ARGLIST {
+        return type_step(s, LF_ARGLIST, c.at, c.left);
     }
-    if leaf == 0x1206 {
+    if leaf == LF_METHODLIST {
         return method_step(s, c.at);
     }
-    if leaf == 0x1203 {
+    if leaf == LF_FIELDLIST {
         return next_member(s, c.at, c.left, c.padded);
+    }
+    if leaf == LF_BUILDINFO {
+        return id_step(s, c.at, c.left);
+    }
+    if leaf == LF_SUBSTR_LIST {
+        return type_step(s, LF_SUBSTR_LIST, c.at, c.left);
     }
     StepAnswer::Refused(Refusal::LeafUnknown(leaf))
 }
 
-// The element at the cursor, and the cursor for the next one, of the id side.
-pub fn step_ids(s: &[u8], c: ListCursor) -> IdStepAnswer
-    ensures { λ r. ⌜ saidStepIds r ≡ stepIdsOf (now (s .entry)) c ⌝ }
-{
-    let leaf = c.leaf;
-    if leaf == 0x1603 {
-        return id_step(s, c.at, c.left);
-    }
-    if leaf == 0x1604 {
-        return substring_step(s, c.at, c.left);
-    }
-    IdStepAnswer::Refused(Refusal::LeafUnknown(leaf))
-}
-
-// Element k from a cursor on, of the type side.
+// Element k from a cursor on.
 pub fn element_from(s: &[u8], c: ListCursor, k: u32) -> ElementAnswer
     ensures { λ r. ⌜ saidElement r ≡ elementBy (stepOf (now (s .entry))) k c ⌝ }
 {
@@ -340,48 +324,5 @@ pub fn element_from(s: &[u8], c: ListCursor, k: u32) -> ElementAnswer
     match step(s, here) {
         StepAnswer::Refused(x) => ElementAnswer::Refused(x),
         StepAnswer::Answered(e, _) => ElementAnswer::Answered(e),
-    }
-}
-
-// Element k from a cursor on, of the id side.
-pub fn element_from_ids(s: &[u8], c: ListCursor, k: u32) -> IdElementAnswer
-    ensures { λ r. ⌜ saidElementIds r ≡ elementBy (stepIdsOf (now (s .entry))) k c ⌝ }
-{
-    let mut here = c;
-    let mut left = k;
-    while left > 0 {
-        match step_ids(s, here) {
-            IdStepAnswer::Refused(x) => {
-                return IdElementAnswer::Refused(x);
-            }
-            IdStepAnswer::Answered(_, next) => {
-                here = next;
-                left -= 1;
-            }
-        }
-    }
-    match step_ids(s, here) {
-        IdStepAnswer::Refused(x) => IdElementAnswer::Refused(x),
-        IdStepAnswer::Answered(e, _) => IdElementAnswer::Answered(e),
-    }
-}
-
-// Element k of a type record's list.
-pub fn element_at(s: &[u8], k: u32) -> ElementAnswer
-    ensures { λ r. ⌜ saidElement r ≡ elementOf (now (s .entry)) k ⌝ }
-{
-    match start(s) {
-        StartAnswer::Refused(x) => ElementAnswer::Refused(x),
-        StartAnswer::Answered(c) => element_from(s, c, k),
-    }
-}
-
-// Element k of an id record's list.
-pub fn element_at_ids(s: &[u8], k: u32) -> IdElementAnswer
-    ensures { λ r. ⌜ saidElementIds r ≡ elementIdsOf (now (s .entry)) k ⌝ }
-{
-    match start_ids(s) {
-        StartAnswer::Refused(x) => IdElementAnswer::Refused(x),
-        StartAnswer::Answered(c) => element_from_ids(s, c, k),
     }
 }

@@ -1,13 +1,13 @@
 -- `record_data::pointer_at` meets its contract: at each return the readers so far have said what its layout says. Assumes nothing.
 use borrow.Author.Needs.{needs}
 use Rattle.answer.specs.Tables.{find}
-use Rattle.record_layout.specs.Layouts.{leafOf, readLeaf, typeLeaves, kind, mode}
+use Rattle.record_layout.specs.Layouts.{leafOf, readLeaf, typeLeaves}
 use Rattle.record_layout.specs.Fields.{readFields, readField}
 use Rattle.field.specs.Indices.{saidType}
 use Rattle.field.specs.Fields.{said32}
+use Rattle.word_attributes.specs.Said.{saidKind, saidMode}
 use Rattle.record_data.specs.Said.{saidContaining}
 use Rattle.answer.proofs.Told.{told}
-use borrow.Author.Tests.{lt-ltb, le-ltb}
 use Rattle.record_data.proofs.pointer_at.Statement.{statement}
 use Rattle.record_data.proofs.pointer_at.Tie as tie
 
@@ -25,37 +25,37 @@ returns-2 c = rw (
 returns-3 : tie.Need-returns-3
 unfolding find leafOf readLeaf typeLeaves readFields readField
 returns-3 c = rw (
-  told saidType (c .before .before .before .before .before .before .before .before .type-at .ensures) (c .before .before .before .before .before .before .underlying-type .given .1),
-  told said32 (c .before .before .before .before .u32-at .ensures) (c .before .before .word .given .1),
-  le-ltb (kind (c .before .before .word .given .0 .0)) 13 (c .if1 .taken),
+  told saidType (c .before .before .before .before .before .before .before .before .before .before .type-at .ensures) (c .before .before .before .before .before .before .before .before .underlying-type .given .1),
+  told said32 (c .before .before .before .before .before .before .u32-at .ensures) (c .before .before .before .before .word .given .1),
+  told saidKind (c .before .before .pointer-kind .ensures) (c .enum-told4 .given .1),
 )
 
 returns-4 : tie.Need-returns-4
 unfolding find leafOf readLeaf typeLeaves readFields readField
 returns-4 c = rw (
-  told saidType (c .before .before .before .before .before .before .before .before .before .type-at .ensures) (c .before .before .before .before .before .before .before .underlying-type .given .1),
-  told said32 (c .before .before .before .before .before .u32-at .ensures) (c .before .before .before .word .given .1),
-  lt-ltb (kind (c .before .before .before .word .given .0 .0)) 13 (c .before .if1 .left),
-  le-ltb (mode (c .before .before .before .word .given .0 .0)) 5 (c .if2 .taken),
+  told saidType (c .before .before .before .before .before .before .before .before .before .before .before .before .before .type-at .ensures) (c .before .before .before .before .before .before .before .before .before .before .before .underlying-type .given .1),
+  told said32 (c .before .before .before .before .before .before .before .before .before .u32-at .ensures) (c .before .before .before .before .before .before .before .word .given .1),
+  told saidKind (c .before .before .before .before .before .pointer-kind .ensures) (c .before .before .before .enum-told3 .given .1),
+  told saidMode (c .before .before .pointer-mode .ensures) (c .enum-told6 .given .1),
 )
 
 returns-5 : tie.Need-returns-5
 unfolding find leafOf readLeaf typeLeaves readFields readField
 returns-5 c = rw (
-  told saidType (c .before .before .before .before .before .before .before .before .before .before .before .before .type-at .ensures) (c .before .before .before .before .before .before .before .before .before .before .underlying-type .given .1),
-  told said32 (c .before .before .before .before .before .before .before .before .u32-at .ensures) (c .before .before .before .before .before .before .word .given .1),
-  lt-ltb (kind (c .before .before .before .before .before .before .word .given .0 .0)) 13 (c .before .before .before .before .if1 .left),
-  lt-ltb (mode (c .before .before .before .before .before .before .word .given .0 .0)) 5 (c .before .before .before .if2 .left),
-  told saidContaining (c .before .before .containing-class .ensures) (c .enum-told3 .given .1),
+  told saidType (c .before .before .before .before .before .before .before .before .before .before .before .before .before .before .before .before .type-at .ensures) (c .before .before .before .before .before .before .before .before .before .before .before .before .before .before .underlying-type .given .1),
+  told said32 (c .before .before .before .before .before .before .before .before .before .before .before .before .u32-at .ensures) (c .before .before .before .before .before .before .before .before .before .before .word .given .1),
+  told saidKind (c .before .before .before .before .before .before .before .before .pointer-kind .ensures) (c .before .before .before .before .before .before .enum-told3 .given .1),
+  told saidMode (c .before .before .before .before .before .pointer-mode .ensures) (c .before .before .before .enum-told5 .given .1),
+  told saidContaining (c .before .before .containing-class .ensures) (c .enum-told7 .given .1),
 )
 
 returns-6 : tie.Need-returns-6
 unfolding find leafOf readLeaf typeLeaves readFields readField
 returns-6 c = rw (
-  told saidType (c .before .before .before .before .before .before .before .before .before .before .before .before .before .type-at .ensures) (c .before .before .before .before .before .before .before .before .before .before .before .underlying-type .given .1),
-  told said32 (c .before .before .before .before .before .before .before .before .before .u32-at .ensures) (c .before .before .before .before .before .before .before .word .given .1),
-  lt-ltb (kind (c .before .before .before .before .before .before .before .word .given .0 .0)) 13 (c .before .before .before .before .before .if1 .left),
-  lt-ltb (mode (c .before .before .before .before .before .before .before .word .given .0 .0)) 5 (c .before .before .before .before .if2 .left),
+  told saidType (c .before .before .before .before .before .before .before .before .before .before .before .before .before .before .before .before .before .type-at .ensures) (c .before .before .before .before .before .before .before .before .before .before .before .before .before .before .before .underlying-type .given .1),
+  told said32 (c .before .before .before .before .before .before .before .before .before .before .before .before .before .u32-at .ensures) (c .before .before .before .before .before .before .before .before .before .before .before .word .given .1),
+  told saidKind (c .before .before .before .before .before .before .before .before .before .pointer-kind .ensures) (c .before .before .before .before .before .before .before .enum-told3 .given .1),
+  told saidMode (c .before .before .before .before .before .before .pointer-mode .ensures) (c .before .before .before .before .enum-told5 .given .1),
   told saidContaining (c .before .before .before .containing-class .ensures) (c .before .class .given .1),
 )
 
@@ -63,5 +63,6 @@ pub pointer-at-spec : {M : Type 1} → statement M
 pointer-at-spec =
     tie.close (tie.spec
     (λ c κs. search needs) (λ c. search needs) (λ c. search needs) returns (λ c κs. search needs)
-    (λ c. search needs) (λ c. search needs) returns-2 returns-3 returns-4 (λ c κs. search needs)
-    (λ c. search needs) (λ c. search needs) returns-5 returns-6)
+    (λ c. search needs) (λ c. search needs) returns-2 (λ c κs. search needs) (λ c. search needs)
+    (λ c. search needs) returns-3 (λ c κs. search needs) (λ c. search needs) (λ c. search needs)
+    returns-4 (λ c κs. search needs) (λ c. search needs) (λ c. search needs) returns-5 returns-6)

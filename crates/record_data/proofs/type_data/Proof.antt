@@ -2,7 +2,7 @@
 use borrow.Author.Needs.{needs}
 use Rattle.answer.specs.Tables.{find}
 use Rattle.record_layout.specs.Layouts.{recordOf, leafOf, readLeaf, typeLeaves}
-use Rattle.record_layout.specs.Fields.{readFields}
+use Rattle.record_layout.specs.Fields.{readFields, readField}
 use Rattle.field.specs.Fields.{said16}
 use Rattle.answer.proofs.Told.{told}
 use borrow.Author.Tests.{ne-eqb}
@@ -10,18 +10,18 @@ use Rattle.record_data.proofs.type_data.Statement.{statement}
 use Rattle.record_data.proofs.type_data.Tie as tie
 
 returns : tie.Need-returns
-unfolding find recordOf leafOf readLeaf typeLeaves readFields
+unfolding find recordOf leafOf readLeaf typeLeaves readFields readField
 returns c = rw (told said16 (c .before .before .u16-at .ensures) (c .enum-told .given .1))
 
 returns-2 : tie.Need-returns-2
-unfolding find recordOf leafOf readLeaf typeLeaves readFields
+unfolding find recordOf leafOf readLeaf typeLeaves readFields readField
 returns-2 c = rw (
   told said16 (c .before .before .before .before .before .u16-at .ensures) (c .before .before .before .leaf .given .1),
   (c .before .if1 .taken),
 ) (c .modifier-at .ensures)
 
 returns-3 : tie.Need-returns-3
-unfolding find recordOf leafOf readLeaf typeLeaves readFields
+unfolding find recordOf leafOf readLeaf typeLeaves readFields readField
 returns-3 c = rw (
   told said16 (c .before .before .before .before .before .before .u16-at .ensures) (c .before .before .before .before .leaf .given .1),
   ne-eqb _ _ (c .before .before .if1 .left),
@@ -29,7 +29,7 @@ returns-3 c = rw (
 ) (c .pointer-at .ensures)
 
 returns-4 : tie.Need-returns-4
-unfolding find recordOf leafOf readLeaf typeLeaves readFields
+unfolding find recordOf leafOf readLeaf typeLeaves readFields readField
 returns-4 c = rw (
   told said16 (c .before .before .before .before .before .before .before .u16-at .ensures) (c .before .before .before .before .before .leaf .given .1),
   ne-eqb _ _ (c .before .before .before .if1 .left),
@@ -38,7 +38,7 @@ returns-4 c = rw (
 ) (c .procedure-at .ensures)
 
 returns-5 : tie.Need-returns-5
-unfolding find recordOf leafOf readLeaf typeLeaves readFields
+unfolding find recordOf leafOf readLeaf typeLeaves readFields readField
 returns-5 c = rw (
   told said16 (c .before .before .before .before .before .before .before .before .u16-at .ensures) (c .before .before .before .before .before .before .leaf .given .1),
   ne-eqb _ _ (c .before .before .before .before .if1 .left),
@@ -48,7 +48,7 @@ returns-5 c = rw (
 ) (c .member-function-at .ensures)
 
 returns-6 : tie.Need-returns-6
-unfolding find recordOf leafOf readLeaf typeLeaves readFields
+unfolding find recordOf leafOf readLeaf typeLeaves readFields readField
 returns-6 c = rw (
   told said16 (c .before .before .before .before .before .before .before .before .before .u16-at .ensures) (c .before .before .before .before .before .before .before .leaf .given .1),
   ne-eqb _ _ (c .before .before .before .before .before .if1 .left),
@@ -59,7 +59,7 @@ returns-6 c = rw (
 ) (c .bitfield-at .ensures)
 
 returns-7 : tie.Need-returns-7
-unfolding find recordOf leafOf readLeaf typeLeaves readFields
+unfolding find recordOf leafOf readLeaf typeLeaves readFields readField
 returns-7 c = rw (
   told said16 (c .before .before .before .before .before .before .before .before .before .before .u16-at .ensures) (c .before .before .before .before .before .before .before .before .leaf .given .1),
   ne-eqb _ _ (c .before .before .before .before .before .before .if1 .left),
@@ -71,7 +71,7 @@ returns-7 c = rw (
 ) (c .array-at .ensures)
 
 returns-8 : tie.Need-returns-8
-unfolding find recordOf leafOf readLeaf typeLeaves readFields
+unfolding find recordOf leafOf readLeaf typeLeaves readFields readField
 returns-8 c = rw (
   told said16 (c .before .before .before .before .before .before .before .before .before .before .before .u16-at .ensures) (c .before .before .before .before .before .before .before .before .before .leaf .given .1),
   ne-eqb _ _ (c .before .before .before .before .before .before .before .if1 .left),
@@ -84,7 +84,7 @@ returns-8 c = rw (
 ) (c .class-at .ensures)
 
 returns-9 : tie.Need-returns-9
-unfolding find recordOf leafOf readLeaf typeLeaves readFields
+unfolding find recordOf leafOf readLeaf typeLeaves readFields readField
 returns-9 c = rw (
   told said16 (c .before .before .before .before .before .before .before .before .before .before .before .before .u16-at .ensures) (c .before .before .before .before .before .before .before .before .before .before .leaf .given .1),
   ne-eqb _ _ (c .before .before .before .before .before .before .before .before .if1 .left),
@@ -98,7 +98,7 @@ returns-9 c = rw (
 ) (c .structure-at .ensures)
 
 returns-10 : tie.Need-returns-10
-unfolding find recordOf leafOf readLeaf typeLeaves readFields
+unfolding find recordOf leafOf readLeaf typeLeaves readFields readField
 returns-10 c = rw (
   told said16 (c .before .before .before .before .before .before .before .before .before .before .before .before .before .u16-at .ensures) (c .before .before .before .before .before .before .before .before .before .before .before .leaf .given .1),
   ne-eqb _ _ (c .before .before .before .before .before .before .before .before .before .if1 .left),
@@ -113,7 +113,7 @@ returns-10 c = rw (
 ) (c .interface-at .ensures)
 
 returns-11 : tie.Need-returns-11
-unfolding find recordOf leafOf readLeaf typeLeaves readFields
+unfolding find recordOf leafOf readLeaf typeLeaves readFields readField
 returns-11 c = rw (
   told said16 (c .before .before .before .before .before .before .before .before .before .before .before .before .before .before .u16-at .ensures) (c .before .before .before .before .before .before .before .before .before .before .before .before .leaf .given .1),
   ne-eqb _ _ (c .before .before .before .before .before .before .before .before .before .before .if1 .left),
@@ -129,7 +129,7 @@ returns-11 c = rw (
 ) (c .union-at .ensures)
 
 returns-12 : tie.Need-returns-12
-unfolding find recordOf leafOf readLeaf typeLeaves readFields
+unfolding find recordOf leafOf readLeaf typeLeaves readFields readField
 returns-12 c = rw (
   told said16 (c .before .before .before .before .before .before .before .before .before .before .before .before .before .before .before .u16-at .ensures) (c .before .before .before .before .before .before .before .before .before .before .before .before .before .leaf .given .1),
   ne-eqb _ _ (c .before .before .before .before .before .before .before .before .before .before .before .if1 .left),
@@ -146,7 +146,7 @@ returns-12 c = rw (
 ) (c .enumeration-at .ensures)
 
 returns-13 : tie.Need-returns-13
-unfolding find recordOf leafOf readLeaf typeLeaves readFields
+unfolding find recordOf leafOf readLeaf typeLeaves readFields readField
 returns-13 c = rw (
   told said16 (c .before .before .before .before .before .before .before .before .before .before .before .before .before .before .before .before .u16-at .ensures) (c .before .before .before .before .before .before .before .before .before .before .before .before .before .before .leaf .given .1),
   ne-eqb _ _ (c .before .before .before .before .before .before .before .before .before .before .before .before .if1 .left),
@@ -164,7 +164,7 @@ returns-13 c = rw (
 ) (c .structure19-at .ensures)
 
 returns-14 : tie.Need-returns-14
-unfolding find recordOf leafOf readLeaf typeLeaves readFields
+unfolding find recordOf leafOf readLeaf typeLeaves readFields readField
 returns-14 c = rw (
   told said16 (c .before .before .before .before .before .before .before .before .before .before .before .before .before .before .before .before .before .u16-at .ensures) (c .before .before .before .before .before .before .before .before .before .before .before .before .before .before .before .leaf .given .1),
   ne-eqb _ _ (c .before .before .before .before .before .before .before .before .before .before .before .before .before .if1 .left),
@@ -183,7 +183,7 @@ returns-14 c = rw (
 ) (c .shape-at .ensures)
 
 returns-15 : tie.Need-returns-15
-unfolding find recordOf leafOf readLeaf typeLeaves readFields
+unfolding find recordOf leafOf readLeaf typeLeaves readFields readField
 returns-15 c = rw (
   told said16 (c .before .before .before .before .before .before .before .before .before .before .before .before .before .before .before .before .before .before .u16-at .ensures) (c .before .before .before .before .before .before .before .before .before .before .before .before .before .before .before .before .leaf .given .1),
   ne-eqb _ _ (c .before .before .before .before .before .before .before .before .before .before .before .before .before .before .if1 .left),
@@ -203,7 +203,7 @@ returns-15 c = rw (
 ) (c .arguments-at .ensures)
 
 returns-16 : tie.Need-returns-16
-unfolding find recordOf leafOf readLeaf typeLeaves readFields
+unfolding find recordOf leafOf readLeaf typeLeaves readFields readField
 returns-16 c = rw (
   told said16 (c .before .before .before .before .before .before .before .before .before .before .before .before .before .before .before .before .before .before .u16-at .ensures) (c .before .before .before .before .before .before .before .before .before .before .before .before .before .before .before .before .leaf .given .1),
   ne-eqb _ _ (c .before .before .before .before .before .before .before .before .before .before .before .before .before .before .if1 .left),
@@ -224,7 +224,7 @@ returns-16 c = rw (
 )
 
 returns-17 : tie.Need-returns-17
-unfolding find recordOf leafOf readLeaf typeLeaves readFields
+unfolding find recordOf leafOf readLeaf typeLeaves readFields readField
 returns-17 c = rw (
   told said16 (c .before .before .before .before .before .before .before .before .before .before .before .before .before .before .before .before .before .before .before .u16-at .ensures) (c .before .before .before .before .before .before .before .before .before .before .before .before .before .before .before .before .before .leaf .given .1),
   ne-eqb _ _ (c .before .before .before .before .before .before .before .before .before .before .before .before .before .before .before .if1 .left),
@@ -246,7 +246,7 @@ returns-17 c = rw (
 )
 
 returns-18 : tie.Need-returns-18
-unfolding find recordOf leafOf readLeaf typeLeaves readFields
+unfolding find recordOf leafOf readLeaf typeLeaves readFields readField
 returns-18 c = rw (
   told said16 (c .before .before .before .before .before .before .before .before .before .before .before .before .before .before .before .before .before .before .before .u16-at .ensures) (c .before .before .before .before .before .before .before .before .before .before .before .before .before .before .before .before .before .leaf .given .1),
   ne-eqb _ _ (c .before .before .before .before .before .before .before .before .before .before .before .before .before .before .before .if1 .left),

@@ -1,6 +1,8 @@
 -- `record_list::start_ids` meets its contract: at each return its definition computes by the tests passed and by what the readers so far have said. Assumes nothing.
 use borrow.Author.Needs.{needs}
-use Rattle.record_list.specs.Lists.{startIdsOf}
+use Rattle.answer.specs.Tables.{find}
+use Rattle.record_layout.specs.Layouts.{idLeaves}
+use Rattle.record_list.specs.Lists.{startIds, counted}
 use Rattle.field.specs.Fields.{said16}
 use Rattle.answer.proofs.Told.{told}
 use borrow.Author.Tests.{eq-eqb, ne-eqb}
@@ -8,18 +10,18 @@ use Rattle.record_list.proofs.start_ids.Statement.{statement}
 use Rattle.record_list.proofs.start_ids.Tie as tie
 
 returns : tie.Need-returns
-unfolding startIdsOf
+unfolding startIds
 returns c = rw (told said16 (c .before .before .u16-at .ensures) (c .enum-told .given .1))
 
 returns-2 : tie.Need-returns-2
-unfolding startIdsOf
+unfolding startIds counted find idLeaves
 returns-2 c = rw (
   told said16 (c .before .before .before .before .before .u16-at .ensures) (c .before .before .before .leaf .given .1),
   eq-eqb _ _ (c .before .if1 .taken),
 ) (c .counted16-at .ensures)
 
 returns-3 : tie.Need-returns-3
-unfolding startIdsOf
+unfolding startIds counted find idLeaves
 returns-3 c = rw (
   told said16 (c .before .before .before .before .before .before .u16-at .ensures) (c .before .before .before .before .leaf .given .1),
   ne-eqb _ _ (c .before .before .if1 .left),
@@ -27,7 +29,7 @@ returns-3 c = rw (
 ) (c .counted32-at .ensures)
 
 returns-4 : tie.Need-returns-4
-unfolding startIdsOf
+unfolding startIds
 returns-4 c = rw (
   told said16 (c .before .before .before .before .before .u16-at .ensures) (c .before .before .before .leaf .given .1),
   ne-eqb _ _ (c .before .if1 .left),

@@ -1,25 +1,27 @@
--- `record_list::start` meets its contract: at each return its definition computes by the tests passed and by what the readers so far have said. Assumes nothing.
+-- `record_list::start_types` meets its contract: at each return its definition computes by the tests passed and by what the readers so far have said. Assumes nothing.
 use borrow.Author.Needs.{needs}
-use Rattle.record_list.specs.Lists.{startOf}
+use Rattle.answer.specs.Tables.{find}
+use Rattle.record_layout.specs.Layouts.{typeLeaves}
+use Rattle.record_list.specs.Lists.{startTypes, counted}
 use Rattle.field.specs.Fields.{said16}
 use Rattle.answer.proofs.Told.{told}
 use borrow.Author.Tests.{eq-eqb, ne-eqb}
-use Rattle.record_list.proofs.start.Statement.{statement}
-use Rattle.record_list.proofs.start.Tie as tie
+use Rattle.record_list.proofs.start_types.Statement.{statement}
+use Rattle.record_list.proofs.start_types.Tie as tie
 
 returns : tie.Need-returns
-unfolding startOf
+unfolding startTypes
 returns c = rw (told said16 (c .before .before .u16-at .ensures) (c .enum-told .given .1))
 
 returns-2 : tie.Need-returns-2
-unfolding startOf
+unfolding startTypes counted find typeLeaves
 returns-2 c = rw (
   told said16 (c .before .before .before .before .before .u16-at .ensures) (c .before .before .before .leaf .given .1),
   eq-eqb _ _ (c .before .if1 .taken),
 ) (c .counted32-at .ensures)
 
 returns-3 : tie.Need-returns-3
-unfolding startOf
+unfolding startTypes
 returns-3 c = rw (
   told said16 (c .before .before .before .before .before .u16-at .ensures) (c .before .before .before .leaf .given .1),
   ne-eqb _ _ (c .before .if1 .left),
@@ -27,7 +29,7 @@ returns-3 c = rw (
 )
 
 returns-4 : tie.Need-returns-4
-unfolding startOf
+unfolding startTypes
 returns-4 c = rw (
   told said16 (c .before .before .before .before .before .before .u16-at .ensures) (c .before .before .before .before .leaf .given .1),
   ne-eqb _ _ (c .before .before .if1 .left),
@@ -36,7 +38,7 @@ returns-4 c = rw (
 )
 
 returns-5 : tie.Need-returns-5
-unfolding startOf
+unfolding startTypes
 returns-5 c = rw (
   told said16 (c .before .before .before .before .before .before .u16-at .ensures) (c .before .before .before .before .leaf .given .1),
   ne-eqb _ _ (c .before .before .if1 .left),
@@ -44,8 +46,8 @@ returns-5 c = rw (
   ne-eqb _ _ (c .if3 .left),
 )
 
-pub start-spec : {M : Type 1} → statement M
-start-spec =
+pub start-types-spec : {M : Type 1} → statement M
+start-types-spec =
     tie.close (tie.spec
     (λ c κs. search needs) (λ c. search needs) (λ c. search needs) returns (λ c κs. search needs)
     returns-2 returns-3 returns-4 returns-5)

@@ -1,12 +1,12 @@
--- `record_list::substring_step` meets its contract: at each return its definition computes by the tests passed and by what the readers so far have said. Assumes nothing.
+-- `record_list::type_step` meets its contract: at each return its definition computes by the tests passed and by what the readers so far have said. Assumes nothing.
 use borrow.Author.Needs.{needs}
 use Rattle.record_list.specs.Lists.{countedStep}
 use Rattle.record_layout.specs.Fields.{readFields, readField}
 use Rattle.field.specs.Indices.{saidType}
 use Rattle.answer.proofs.Told.{told}
 use borrow.Author.Tests.{eq-eqb, ne-eqb}
-use Rattle.record_list.proofs.substring_step.Statement.{statement}
-use Rattle.record_list.proofs.substring_step.Tie as tie
+use Rattle.record_list.proofs.type_step.Statement.{statement}
+use Rattle.record_list.proofs.type_step.Tie as tie
 
 returns : tie.Need-returns
 unfolding countedStep readFields readField
@@ -26,8 +26,8 @@ returns-3 c = rw (
   told saidType (c .before .before .before .type-at .ensures) (c .before .t .given .1),
 )
 
-pub substring-step-spec : {M : Type 1} → statement M
-substring-step-spec =
+pub type-step-spec : {M : Type 1} → statement M
+type-step-spec =
     tie.close (tie.spec
     returns (λ c κs. search needs) (λ c. search needs) (λ c. search needs) returns-2 (λ c. search needs)
     returns-3)
