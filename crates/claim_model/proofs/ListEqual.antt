@@ -10,10 +10,13 @@ use lib.ListN.{length, getElem?}
 use lib.Dec.{eqb}
 use borrow.Author.Tests.{le-ltb, lt-ltb, ne-eqb}
 use Rattle.answer.specs.Answer.{Answer, answered, refused}
+use Rattle.answer.specs.Tables.{find}
 use Rattle.field.specs.Fields.{le}
 use Rattle.field_text.specs.Texts.{Part, bytesAfter}
+use Rattle.record_layout.specs.Layouts.{idLeaves}
 use Rattle.record_layout.specs.Fields.{Value, number, readField, readFields}
-use Rattle.record_list.specs.Lists.{Entry, typeEntry, idEntry, inCounted, elementsAt, counted, startIdsOf, countedStep, stepIdsOf, elementBy, elementIdsOf}
+use Rattle.record_list.specs.Lists.{ElementValues, typeElement, idElement, inCounted, countedBy, counted, startOf, startIds, countedStep, stepOf, elementBy, elementOf}
+use Rattle.stream_item.specs.declared.Stream.the-variants as stream
 use Rattle.claim_model.specs.Rust.{gives, _>>=_, match}
 use Rattle.claim_model.specs.TpiId.{build-info, string-list, by-leaf, try-from-ctx, parse-id}
 use Rattle.claim_model.specs.Equal.{Same}
@@ -23,7 +26,7 @@ use Rattle.claim_model.proofs.BufferLaws.{parse-in, parse-out, fixed-in
 use Rattle.claim_model.proofs.IdEqual.{pushed-in, pushed-out}
 
 -- what the reader gives for an element of a list, or past its end
-abbrev chosen : (List (Value Part) → Entry) → Option ℕ → Answer Entry
+abbrev chosen : (List (Value Part) → ElementValues) → Option ℕ → Answer ElementValues
 chosen entry none = refused 15 []
 chosen entry (some n) = answered (entry (number n ∷ []))
 
@@ -31,8 +34,8 @@ module _ (s : List ℕ) where
   left : (n : ℕ) → eqb (suc n) 0 ≡ false
   left n = ne-eqb (suc n) 0 (λ (e : suc n ≡ 0). omega arith)
 
-  ids-at : (k n p : ℕ) → p + 4 * n ≤ length s → elementBy (stepIdsOf s) k (inCounted 0x1603 p n) ≡ chosen idEntry (getElem? (elements n s p) k)
-  unfolding elementBy stepIdsOf countedStep readFields readField elements
+  ids-at : (k n p : ℕ) → p + 4 * n ≤ length s → elementBy (stepOf s) k (inCounted 0x1603 p n) ≡ chosen idElement (getElem? (elements n s p) k)
+  unfolding elementBy stepOf countedStep readFields readField elements
   ids-at zero zero p h = refl
   ids-at (suc k) zero p h = refl
   ids-at zero (suc n) p h = rw (left n, fixed-in s p 4 (omega arith))
@@ -40,8 +43,8 @@ module _ (s : List ℕ) where
       let e : suc n - 1 ≡ n = omega arith in
       rw (left n, fixed-in s p 4 (omega arith), e) (ids-at k n (p + 4) (omega arith))
 
-  types-at : (k n p : ℕ) → p + 4 * n ≤ length s → elementBy (stepIdsOf s) k (inCounted 0x1604 p n) ≡ chosen typeEntry (getElem? (elements n s p) k)
-  unfolding elementBy stepIdsOf countedStep readFields readField elements
+  types-at : (k n p : ℕ) → p + 4 * n ≤ length s → elementBy (stepOf s) k (inCounted 0x1604 p n) ≡ chosen typeElement (getElem? (elements n s p) k)
+  unfolding elementBy stepOf countedStep readFields readField elements
   types-at zero zero p h = refl
   types-at (suc k) zero p h = refl
   types-at zero (suc n) p h = rw (left n, fixed-in s p 4 (omega arith))
@@ -49,19 +52,19 @@ module _ (s : List ℕ) where
       let e : suc n - 1 ≡ n = omega arith in
       rw (left n, fixed-in s p 4 (omega arith), e) (types-at k n (p + 4) (omega arith))
 
-  id-chosen : (o : Option ℕ) → Same (gives o) (asElement (chosen idEntry o))
+  id-chosen : (o : Option ℕ) → Same (gives o) (asElement (chosen idElement o))
   id-chosen none = same _
   id-chosen (some n) = same _
 
-  type-chosen : (o : Option ℕ) → Same (gives o) (asElement (chosen typeEntry o))
+  type-chosen : (o : Option ℕ) → Same (gives o) (asElement (chosen typeElement o))
   type-chosen none = same _
   type-chosen (some n) = same _
 
   abbrev Listed : ℕ → Type 0
-  Listed k = Same (_>>=_ (parse-id s) λ d. gives (getElem? (listed d) k)) (asElement (elementIdsOf s k))
+  Listed k = Same (_>>=_ (parse-id s) λ d. gives (getElem? (listed d) k)) (asElement (elementOf stream.Ids s k))
 
   pub build-elements : le 2 s 0 ≡ 0x1603 → (k : ℕ) → Listed k
-  unfolding parse-id try-from-ctx by-leaf match build-info elementIdsOf startIdsOf counted elementsAt bytesAfter
+  unfolding parse-id try-from-ctx by-leaf match build-info elementOf startOf startIds counted countedBy find idLeaves readFields readField bytesAfter
   build-elements leaf k =
       by-order 2 (length s)
       (λ h. rw (parse-in s 0 2 h, fixed-in s 0 2 h, leaf)
@@ -74,7 +77,7 @@ module _ (s : List ℕ) where
       (λ h. rw (parse-out s 0 2 h, fixed-out s 0 2 h) same-end)
 
   pub string-elements : le 2 s 0 ≡ 0x1604 → (k : ℕ) → Listed k
-  unfolding parse-id try-from-ctx by-leaf match string-list elementIdsOf startIdsOf counted elementsAt bytesAfter
+  unfolding parse-id try-from-ctx by-leaf match string-list elementOf startOf startIds counted countedBy find idLeaves readFields readField bytesAfter
   string-elements leaf k =
       by-order 2 (length s)
       (λ h. rw (parse-in s 0 2 h, fixed-in s 0 2 h, leaf)

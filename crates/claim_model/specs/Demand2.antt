@@ -25,6 +25,7 @@ use Rattle.stream_item.specs.Iterator.{nextOf}
 use Rattle.stream_view.specs.Views.{named, rawKindOf}
 use Rattle.stream_item.specs.Information.{lenOf, isEmptyOf}
 use Rattle.stream_item.specs.declared.Stream.{Stream}
+use Rattle.stream_item.specs.declared.Stream.the-variants as stream
 use Rattle.stream_item.specs.declared.ItemIndex.{ItemIndex}
 use Rattle.stream_item.specs.declared.ItemIndex.the-variants as index
 use Rattle.stream_item.specs.declared.Entry.{Entry}
@@ -34,7 +35,7 @@ use Rattle.stream_finder.proofs.FinderLaws.{Ready}
 use Rattle.record_layout.specs.Layouts.{idLeaves, recordOf}
 use Rattle.record_id.specs.Said.{saidIdData}
 use Rattle.record_parse.specs.Record.{parseOf}
-use Rattle.record_list.specs.Lists.{elementIdsOf}
+use Rattle.record_list.specs.Lists.{elementOf}
 use Rattle.record_id.specs.declared.IdAnswer.{IdAnswer}
 use Rattle.claim_model.specs.Rust.{gives, _>>=_, usize}
 use Rattle.claim_model.specs.ParseBuffer.{at, Bytes}
@@ -119,5 +120,5 @@ pub record Demand2 : Type 0 where
   pub id-items : (t p : List ℕ) → Lent t → Lent p → (e : Entry) (j : IdIndex) → indexOf e ≡ index.Ids j → Within p e
       → Same (parse-id (entryShown p e .bytes)) (asId (entryShown p e .bytes) (parseOf t p e))
   -- "`Vec` lists become a place and a count, or the reader": element k of the two counted id lists is the crate's, 15 where its `Vec` has none
-  pub build-arguments : (s : List ℕ) → le 2 s 0 ≡ 0x1603 → (k : ℕ) → Same (_>>=_ (parse-id s) λ d. gives (getElem? (listed d) k)) (asElement (elementIdsOf s k))
-  pub substrings : (s : List ℕ) → le 2 s 0 ≡ 0x1604 → (k : ℕ) → Same (_>>=_ (parse-id s) λ d. gives (getElem? (listed d) k)) (asElement (elementIdsOf s k))
+  pub build-arguments : (s : List ℕ) → le 2 s 0 ≡ 0x1603 → (k : ℕ) → Same (_>>=_ (parse-id s) λ d. gives (getElem? (listed d) k)) (asElement (elementOf stream.Ids s k))
+  pub substrings : (s : List ℕ) → le 2 s 0 ≡ 0x1604 → (k : ℕ) → Same (_>>=_ (parse-id s) λ d. gives (getElem? (listed d) k)) (asElement (elementOf stream.Ids s k))

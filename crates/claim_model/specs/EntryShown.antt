@@ -5,7 +5,7 @@ use mathlib.Core.Option.{Option, none, some}
 use lib.Dec.{eqb}
 use Rattle.answer.specs.Answer.{Answer, answered, refused, pick}
 use Rattle.record_layout.specs.OneOutcome.{nth, numberIn}
-use Rattle.record_list.specs.Lists.{Entry, typeEntry, idEntry, methodEntry, memberEntry}
+use Rattle.record_list.specs.Lists.{ElementValues, typeElement, idElement, methodElement, memberElement}
 use Rattle.record_parse.specs.Record.{Parsed, primitive, type, id}
 use Rattle.claim_model.specs.TpiPrimitive.{PrimitiveType}
 use Rattle.claim_model.specs.TpiId.{IdData, Function, MemberFunction, BuildInfo, StringList, String, UserDefinedTypeSource}
@@ -34,12 +34,12 @@ listed (String r) = []
 listed (UserDefinedTypeSource r) = []
 
 -- an element's number; 15 is `None`
-abbrev pub entryNumber : Entry → ℕ
-entryNumber (typeEntry vs) = numberIn (nth 0 vs)
-entryNumber (idEntry vs) = numberIn (nth 0 vs)
-entryNumber (methodEntry vs) = numberIn (nth 0 vs)
-entryNumber (memberEntry vs) = numberIn (nth 0 vs)
+abbrev pub elementNumber : ElementValues → ℕ
+elementNumber (typeElement vs) = numberIn (nth 0 vs)
+elementNumber (idElement vs) = numberIn (nth 0 vs)
+elementNumber (methodElement vs) = numberIn (nth 0 vs)
+elementNumber (memberElement vs) = numberIn (nth 0 vs)
 
-abbrev pub asElement : Answer Entry → Answer (Option ℕ)
-asElement (answered x) = answered (some (entryNumber x))
+abbrev pub asElement : Answer ElementValues → Answer (Option ℕ)
+asElement (answered x) = answered (some (elementNumber x))
 asElement (refused n d) = pick (eqb n 15) (answered none) (refused n d)

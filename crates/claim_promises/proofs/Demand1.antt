@@ -2,10 +2,10 @@
 use Rattle.answer.specs.OneOutcome.{in-table}
 use Rattle.stream_finder.specs.Finder.{state, createOf, updateOf}
 use Rattle.stream_index.specs.Walk.{turnOf}
-use Rattle.record_list.specs.Lists.{stepOf, stepIdsOf}
+use Rattle.record_list.specs.Lists.{stepOf}
 use Rattle.claim_promises.proofs.ReadingRefuses.{fixed-refuses, signed-refuses, optional-refuses, string-refuses, counted-refuses, string-of-refuses, bytes-refuses, padding-refuses, numeric-refuses, size-refuses}
-use Rattle.claim_promises.proofs.StreamRefuses.{primitive-refuses, kind-refuses, mode-refuses, to-member-refuses, reference-refuses, pointer-size-refuses, header-refuses, iter-refuses, len-refuses, is-empty-refuses, next-refuses, view-refuses, raw-kind-refuses, create-refuses, update-refuses, find-refuses, turn-refuses, type-refuses, id-refuses, member-refuses, method-refuses, start-refuses, start-ids-refuses, step-refuses, step-ids-refuses, element-by-refuses, element-refuses, element-ids-refuses, parse-refuses}
-use Rattle.claim_promises.proofs.LeftAlone.{leaves-alone, changes-nothing, leads-nowhere, steps-nowhere, steps-ids-nowhere}
+use Rattle.claim_promises.proofs.StreamRefuses.{primitive-refuses, kind-refuses, mode-refuses, to-member-refuses, reference-refuses, pointer-size-refuses, header-refuses, iter-refuses, len-refuses, is-empty-refuses, next-refuses, view-refuses, raw-kind-refuses, create-refuses, update-refuses, find-refuses, turn-refuses, type-refuses, id-refuses, member-refuses, method-refuses, start-refuses, step-refuses, element-by-refuses, element-refuses, element-ids-refuses, parse-refuses}
+use Rattle.claim_promises.proofs.LeftAlone.{leaves-alone, changes-nothing, leads-nowhere, steps-nowhere}
 use Rattle.claim_promises.specs.Demand1.{Demand1}
 
 pub demand1 : Demand1
@@ -44,11 +44,8 @@ demand1 = record {
   methods = method-refuses;
   entries = parse-refuses;
   starts = start-refuses;
-  id-starts = start-ids-refuses;
   steps = step-refuses;
-  id-steps = step-ids-refuses;
-  elements-on = λ s. element-by-refuses _ (stepOf s) (step-refuses s);
-  id-elements-on = λ s. element-by-refuses _ (stepIdsOf s) (step-ids-refuses s);
+  elements-on = element-by-refuses;
   elements = element-refuses;
   id-elements = element-ids-refuses;
   create-leaves = λ s t. leaves-alone t (createOf s t);
@@ -57,5 +54,4 @@ demand1 = record {
   walk-leaves = λ tag s t e t′ h. h .1;
   lent-update-leaves = λ σ c. changes-nothing σ (updateOf σ c);
   step-leaves = λ s c. steps-nowhere c (stepOf s c);
-  id-step-leaves = λ s c. steps-ids-nowhere c (stepIdsOf s c);
 }

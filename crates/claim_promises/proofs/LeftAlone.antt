@@ -13,11 +13,10 @@ use Rattle.stream_finder.specs.declared.lent.UpdateAnswer.{UpdateAnswer}
 use Rattle.stream_index.specs.Walk.{Turn, over, moved, saidTurn, turnTable, Leads}
 use Rattle.stream_index.specs.declared.TurnAnswer.{TurnAnswer}
 use Rattle.record_list.specs.Lists.{Step}
-use Rattle.record_list.specs.Said.{saidElement, saidElementIds}
+use Rattle.record_list.specs.Said.{saidElement}
 use Rattle.record_list.specs.declared.ListCursor.{ListCursor}
 use Rattle.record_list.specs.declared.ElementAnswer.{ElementAnswer}
-use Rattle.record_list.specs.declared.IdElementAnswer.{IdElementAnswer}
-use Rattle.record_reader.specs.Reader.{elementIn, cursorAfter, Steps, StepsIds}
+use Rattle.record_reader.specs.Reader.{elementIn, cursorAfter, Steps}
 
 -- the table, after a function that is lent it and answers with a finder
 table-of : (t : List ℕ) (a : Answer State) (n : ℕ) (d : List ℕ) → finderOf a ≡ refused n d → tableAfter t a ≡ t
@@ -51,6 +50,3 @@ cursor-of c (refused m x) n d e = refl
 
 pub steps-nowhere : (c : ListCursor) (a : Answer Step) (r : ElementAnswer) (c′ : ListCursor) (n : ℕ) (d : List ℕ) → Steps c a r c′ → saidElement r ≡ refused n d → c′ ≡ c
 steps-nowhere c a r c′ n d s e = s .cursor ∙ cursor-of c a n d (sym (s .answer) ∙ e)
-
-pub steps-ids-nowhere : (c : ListCursor) (a : Answer Step) (r : IdElementAnswer) (c′ : ListCursor) (n : ℕ) (d : List ℕ) → StepsIds c a r c′ → saidElementIds r ≡ refused n d → c′ ≡ c
-steps-ids-nowhere c a r c′ n d s e = s .cursor ∙ cursor-of c a n d (sym (s .answer) ∙ e)

@@ -40,14 +40,13 @@ use Rattle.record_data.specs.Said.{nameOf as typeNameOf}
 use Rattle.record_data.specs.OneOutcome.{one-type-data, one-name as one-type-name}
 use Rattle.record_member.specs.Said.{memberValues, nameOf as memberNameOf}
 use Rattle.record_member.specs.OneOutcome.{one-member, one-entry}
-use Rattle.record_list.specs.Lists.{startOf, startIdsOf, stepOf, stepIdsOf, elementBy, elementOf, elementIdsOf}
-use Rattle.record_list.specs.OneOutcome.{one-start, one-step, one-step-ids, one-element, one-element-ids}
+use Rattle.record_list.specs.Lists.{startOf, stepOf, elementBy, elementOf}
+use Rattle.record_list.proofs.OneOutcome.{one-start, one-step, one-element}
 use Rattle.record_list.specs.declared.ListCursor.{ListCursor}
-use Rattle.record_reader.specs.Reader.{Steps, StepsIds, one-steps, one-steps-ids}
-use Rattle.record_reader.specs.OneOutcome.{one-reader}
+use Rattle.record_reader.specs.Reader.{Steps}
+use Rattle.record_reader.proofs.OneOutcome.{one-reader, one-steps}
 use Rattle.record_reader.specs.declared.ListReader.{ListReader}
 use Rattle.record_reader.specs.declared.Stepped.{Stepped}
-use Rattle.record_reader.specs.declared.SteppedIds.{SteppedIds}
 use Rattle.record_parse.specs.Record.{parseOf}
 use Rattle.record_parse.specs.OneOutcome.{one-parse}
 use Rattle.claim_promises.specs.OneOutcome.{Once, OnceLent, OneOutcome}
@@ -75,11 +74,6 @@ one-reader-of x r q a b = one-reader r q (a .0 ∙ sym (b .0)) (a .1 ∙ sym (b 
 one-stepped : (s : List ℕ) (c : ListCursor) → Once (λ (u : Stepped). Steps c (stepOf s c) (u .answer) (u .cursor))
 one-stepped s c u v x y =
     let h = one-steps c (stepOf s c) (u .answer) (v .answer) (u .cursor) (v .cursor) x y in
-    λ i. record { cursor = h .1 i; answer = h .0 i }
-
-one-stepped-ids : (s : List ℕ) (c : ListCursor) → Once (λ (u : SteppedIds). StepsIds c (stepIdsOf s c) (u .answer) (u .cursor))
-one-stepped-ids s c u v x y =
-    let h = one-steps-ids c (stepIdsOf s c) (u .answer) (v .answer) (u .cursor) (v .cursor) x y in
     λ i. record { cursor = h .1 i; answer = h .0 i }
 
 pub one-outcome : OneOutcome
@@ -138,17 +132,11 @@ one-outcome = record {
   method-entry-at = λ s p. once one-entry (readFields method 0 s p);
   member-name = λ m. once one-optional-string (memberNameOf (memberValues m));
   record-parse = λ t p e. once one-parse (parseOf t p e);
-  start = λ s. once one-start (startOf s);
-  start-ids = λ s. once one-start (startIdsOf s);
+  start = λ tag s. once one-start (startOf tag s);
   step = λ s c. once one-step (stepOf s c);
-  step-ids = λ s c. once one-step-ids (stepIdsOf s c);
   element-from = λ s c k. once one-element (elementBy (stepOf s) k c);
-  element-from-ids = λ s c k. once one-element-ids (elementBy (stepIdsOf s) k c);
-  element-at = λ s k. once one-element (elementOf s k);
-  element-at-ids = λ s k. once one-element-ids (elementIdsOf s k);
+  nth = λ tag s k. once one-element (elementOf tag s k);
   reader-of = one-reader-of;
   reader-step = λ s c. one-steps c (stepOf s c);
-  reader-step-id = λ s c. one-steps-ids c (stepIdsOf s c);
   reader-step-of = one-stepped;
-  reader-step-id-of = one-stepped-ids;
 }

@@ -14,8 +14,9 @@ use Rattle.field.specs.Fields.{fixedAt, signedAt}
 use Rattle.field.specs.Indices.{noType, noId, optionalAt}
 use Rattle.field_text.specs.Texts.{toZero, partOr, stringAt, bytesAfter, countedStringAt, stringOf, pad, more, paddingAfter}
 use Rattle.field_number.specs.Numbers.{Wide, signed, unsigned, prefixes, unsignedAt, wideAt, numericAt, natural, sizeAt}
-use Rattle.record_layout.specs.Fields.{Field, fixed, type, optionalType, optionalId, word, gap, numeric, size, string, run, when, bytesOf, wordAfter, readField, readFields}
-use Rattle.record_layout.specs.Layouts.{Layout, Table, class as classLayout, kind, mode, typeLeaves, memberLeaves, method, idLeaves, byLayout, readLeaf, readRecord, leafOf, recordOf}
+use Rattle.word_attributes.specs.Pointers.{kindOf, modeOf}
+use Rattle.record_layout.specs.Fields.{Field, fixed, type, id, stringReference, optionalType, optionalId, word, gap, numeric, size, string, run, methods, members, when, bytesOf, wordAfter, readField, readFields}
+use Rattle.record_layout.specs.Layouts.{Layout, Table, class as classLayout, isAnswered, typeLeaves, memberLeaves, method, idLeaves, byLayout, readLeaf, readRecord, leafOf, recordOf}
 use Rattle.claim_promises.specs.ByTable.{fits, gives, refuses, Refuses}
 use Rattle.claim_promises.proofs.ByTable.{by-pick, by-stop, by-then, within, wider}
 
@@ -91,6 +92,8 @@ size-refuses s p = by-then (numeric-refuses s p) (λ g. natural-refuses (g .valu
 abbrev pub Takes : List ℕ → Field → Type 0
 Takes ns (fixed k) = within (1 ∷ []) ns ≡ true
 Takes ns type = within (1 ∷ []) ns ≡ true
+Takes ns id = within (1 ∷ []) ns ≡ true
+Takes ns stringReference = within (1 ∷ []) ns ≡ true
 Takes ns optionalType = within (1 ∷ []) ns ≡ true
 Takes ns optionalId = within (1 ∷ []) ns ≡ true
 Takes ns (word k good) = (within (1 ∷ []) ns ≡ true) × ((n : ℕ) → pick (good n) true (within (12 ∷ []) ns) ≡ true)
@@ -99,6 +102,8 @@ Takes ns numeric = within (1 ∷ 11 ∷ []) ns ≡ true
 Takes ns size = within (1 ∷ 11 ∷ []) ns ≡ true
 Takes ns string = within (1 ∷ []) ns ≡ true
 Takes ns (run e) = within (1 ∷ []) ns ≡ true
+Takes ns methods = Unit {0}
+Takes ns members = Unit {0}
 Takes ns (when there f) = Takes ns f
 
 infixr 5 _&_
@@ -116,6 +121,8 @@ field-refuses : (ns : List ℕ) (f : Field) (w : ℕ) (s : List ℕ) (p : ℕ) �
 unfolding readField
 field-refuses ns (fixed k) w s p h = by-then (wider h (fixed-refuses k s p)) (λ g. gives)
 field-refuses ns type w s p h = by-then (wider h (fixed-refuses 4 s p)) (λ g. gives)
+field-refuses ns id w s p h = by-then (wider h (fixed-refuses 4 s p)) (λ g. gives)
+field-refuses ns stringReference w s p h = by-then (wider h (fixed-refuses 4 s p)) (λ g. gives)
 field-refuses ns optionalType w s p h = by-then (wider h (optional-refuses noType s p)) (λ g. gives)
 field-refuses ns optionalId w s p h = by-then (wider h (optional-refuses noId s p)) (λ g. gives)
 field-refuses ns (word k good) w s p h = by-then (wider (h .0) (fixed-refuses k s p)) (λ g. word-refuses (good (g .value)) (h .1 (g .value)) gives)
@@ -124,6 +131,8 @@ field-refuses ns numeric w s p h = by-then (wider h (numeric-refuses s p)) (λ g
 field-refuses ns size w s p h = by-then (wider h (size-refuses s p)) (λ g. gives)
 field-refuses ns string w s p h = by-then (wider h (string-refuses s p)) (λ g. gives)
 field-refuses ns (run e) w s p h = by-then (wider h (bytes-refuses (bytesOf e w) s p)) (λ g. gives)
+field-refuses ns methods w s p h = gives
+field-refuses ns members w s p h = gives
 field-refuses ns (when there f) w s p h = by-pick (there w) (field-refuses ns f w s p h) gives
 
 pub fields-refuse : (ns : List ℕ) (fs : List Field) (w : ℕ) (s : List ℕ) (p : ℕ) → TakesAll ns fs → Refuses ns (readFields fs w s p)
@@ -174,10 +183,10 @@ module _ (ns : List ℕ) (table : Table) (one : within (1 ∷ []) ns ≡ true) (
       by-then (leaf-refuses ns table (g .value) s (g .next) ten h) (λ x. gives))
 
 -- a word that is never refused by 12; and one that may be
-abbrev Free : Type 0
+abbrev pub Free : Type 0
 Free = (_≡_ {A = Bool} true true) × (ℕ → _≡_ {A = Bool} true true)
 
-free : Free
+pub free : Free
 free = (refl, λ n. refl)
 
 either : (b : Bool) → pick b true true ≡ true
@@ -203,12 +212,12 @@ type-takes =
     and (free & refl & refl & refl & refl & refl & refl & refl & refl & no-more)
     and (free & refl & no-more)
     and (free & refl & no-more)
-    and no-more
-    and no-more
+    and (tt & no-more)
+    and (tt & no-more)
     and no-other
   where
-    pointed : (_≡_ {A = Bool} true true) × ((w : ℕ) → pick (both (ltb (kind w) 13) (ltb (mode w) 5)) true true ≡ true)
-    pointed = (refl, λ w. either (both (ltb (kind w) 13) (ltb (mode w) 5)))
+    pointed : (_≡_ {A = Bool} true true) × ((w : ℕ) → pick (both (isAnswered (kindOf w)) (isAnswered (modeOf w))) true true ≡ true)
+    pointed = (refl, λ w. either (both (isAnswered (kindOf w)) (isAnswered (modeOf w))))
 
     class : TakesAll (1 ∷ 10 ∷ 11 ∷ 12 ∷ []) classLayout
     class = refl & free & refl & refl & refl & refl & refl & refl & no-more

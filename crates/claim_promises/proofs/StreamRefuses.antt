@@ -23,6 +23,7 @@ use Rattle.stream_item.specs.Iterator.{iterOf, Next, done, yielded, nextOf}
 use Rattle.stream_view.specs.Views.{partOf, named, shortOf, entryOf, viewOf, kindAt, kindOf as kindIn, rawKindOf}
 use Rattle.stream_item.specs.Information.{lenOf, isEmptyOf}
 use Rattle.stream_item.specs.declared.Stream.{Stream}
+use Rattle.stream_item.specs.declared.Stream.the-variants as stream
 use Rattle.stream_item.specs.declared.ItemIndex.{ItemIndex}
 use Rattle.stream_item.specs.declared.ItemIndex.the-variants as index
 use Rattle.stream_item.specs.declared.Entry.{Entry}
@@ -32,15 +33,15 @@ use Rattle.stream_item.specs.declared.link.Hit.{Hit}
 use Rattle.stream_item.specs.declared.link.Hit.the-variants.{Landed, Missed}
 use Rattle.stream_finder.specs.Finder.{State, distance, begunBy, createOf, createBy, due, updateBy, updateOf, landed, maxIndexBy, lookBy, findOf}
 use Rattle.stream_index.specs.Walk.{Turn, updating, turnBy, turnOf}
-use Rattle.record_layout.specs.Fields.{Value, Field, readFields}
-use Rattle.record_layout.specs.Layouts.{T, id, typeLeaves, idLeaves, memberLeaves, method, readRecord, recordOf}
+use Rattle.record_layout.specs.Fields.{Value, Field, id, run, types, ids, readFields}
+use Rattle.record_layout.specs.Layouts.{T, count16, count32, Layout, typeLeaves, idLeaves, memberLeaves, method, readRecord, recordOf}
 use Rattle.field_text.specs.Texts.{Part}
-use Rattle.record_list.specs.Lists.{Entry as Element, Step, elementsAt, counted, startOf, startIdsOf, countedStep, methodStep, memberStep, nextMember, stepOf, stepIdsOf, elementBy, elementOf, elementIdsOf, typeEntry, idEntry}
+use Rattle.record_list.specs.Lists.{ElementValues, typeElement, idElement, Step, inCounted, countedBy, counted, startTypes, startIds, startOf, countedStep, methodStep, memberStep, nextMember, stepOf, elementBy, elementOf}
 use Rattle.record_list.specs.declared.ListCursor.{ListCursor}
 use Rattle.record_parse.specs.Record.{bytes, numberedOf, typeBytes, idBytes, typeItem, typeMarker, itemOf, markerOf, entryOf as parsedOf, parseOf}
 use Rattle.claim_promises.specs.ByTable.{elsewhere, Refuses, FindRefuses, fits, gives, refuses}
-use Rattle.claim_promises.proofs.ByTable.{by-pick, by-stop, by-then, within, wider}
-use Rattle.claim_promises.proofs.ReadingRefuses.{fixed-refuses, bytes-refuses, padding-refuses, TakesAll, no-more, _&_, fields-refuse, read-record-refuses, record-refuses, type-takes, member-takes, method-takes, id-takes}
+use Rattle.claim_promises.proofs.ByTable.{by-pick, by-stop, by-then, by-pick-then, by-stop-then, by-then-then, within, wider}
+use Rattle.claim_promises.proofs.ReadingRefuses.{fixed-refuses, padding-refuses, TakesAll, no-more, _&_, free, fields-refuse, read-record-refuses, record-refuses, type-takes, member-takes, method-takes, id-takes}
 
 -- Primitives: 8. Pointer words: 12
 
@@ -227,30 +228,31 @@ method-refuses s p = fields-refuse _ method 0 s p method-takes
 
 -- Lists
 
-elements-refuse : (leaf n : ℕ) (s : List ℕ) (p : ℕ) → Refuses (1 ∷ 10 ∷ []) (elementsAt leaf n s p)
-unfolding elementsAt within among
-elements-refuse leaf n s p = by-then (wider refl (bytes-refuses (4 * n) s p)) (λ e. gives)
+counted-by-refuses : (fs : Layout) (leaf : ℕ) (s : List ℕ) (p : ℕ) → TakesAll (1 ∷ 10 ∷ []) fs → Refuses (1 ∷ 10 ∷ []) (countedBy fs leaf s p)
+unfolding countedBy
+counted-by-refuses fs leaf s p h = by-then (fields-refuse _ fs 0 s p h) (λ g. gives)
 
-list-refuses : (k leaf : ℕ) (s : List ℕ) (p : ℕ) → Refuses (1 ∷ 10 ∷ []) (counted k leaf s p)
-unfolding counted within among
-list-refuses k leaf s p = by-then (wider refl (fixed-refuses k s p)) (λ g. elements-refuse leaf (g .value) s (g .next))
-
-pub start-refuses : (s : List ℕ) → Refuses (1 ∷ 10 ∷ []) (startOf s)
-unfolding startOf fits within among listed find detailCounts
-start-refuses s =
+pub start-types-refuses : (s : List ℕ) → Refuses (1 ∷ 10 ∷ []) (startTypes s)
+unfolding startTypes counted typeLeaves fits within among listed find detailCounts
+start-types-refuses s =
     by-then (wider refl (fixed-refuses 2 s 0)) (λ g.
-    by-pick (eqb (g .value) 0x1201) (list-refuses 4 0x1201 s (g .next))
+    by-pick (eqb (g .value) 0x1201) (counted-by-refuses _ 0x1201 s (g .next) (free & refl & no-more))
     (by-pick (eqb (g .value) 0x1206) gives
     (by-pick (eqb (g .value) 0x1203) gives
     (refuses refl))))
 
-pub start-ids-refuses : (s : List ℕ) → Refuses (1 ∷ 10 ∷ []) (startIdsOf s)
-unfolding startIdsOf fits within among listed find detailCounts
+pub start-ids-refuses : (s : List ℕ) → Refuses (1 ∷ 10 ∷ []) (startIds s)
+unfolding startIds counted idLeaves fits within among listed find detailCounts
 start-ids-refuses s =
     by-then (wider refl (fixed-refuses 2 s 0)) (λ g.
-    by-pick (eqb (g .value) 0x1603) (list-refuses 2 0x1603 s (g .next))
-    (by-pick (eqb (g .value) 0x1604) (list-refuses 4 0x1604 s (g .next))
+    by-pick (eqb (g .value) 0x1603) (counted-by-refuses _ 0x1603 s (g .next) (free & refl & no-more))
+    (by-pick (eqb (g .value) 0x1604) (counted-by-refuses _ 0x1604 s (g .next) (free & refl & no-more))
     (refuses refl)))
+
+pub start-refuses : (tag : Stream) (s : List ℕ) → Refuses (1 ∷ 10 ∷ []) (startOf tag s)
+unfolding startOf
+start-refuses stream.Types s = start-types-refuses s
+start-refuses stream.Ids s = start-ids-refuses s
 
 abbrev pub ofIdSteps : List ℕ
 ofIdSteps = 15 ∷ 1 ∷ 10 ∷ []
@@ -258,7 +260,7 @@ ofIdSteps = 15 ∷ 1 ∷ 10 ∷ []
 abbrev pub ofSteps : List ℕ
 ofSteps = 15 ∷ 1 ∷ 10 ∷ 11 ∷ []
 
-counted-step-refuses : (f : Field) (entry : List (Value Part) → Element) (leaf : ℕ) (s : List ℕ) (p left : ℕ) → TakesAll ofIdSteps (f ∷ []) → Refuses ofIdSteps (countedStep f entry leaf s p left)
+counted-step-refuses : (f : Field) (entry : List (Value Part) → ElementValues) (leaf : ℕ) (s : List ℕ) (p left : ℕ) → TakesAll ofIdSteps (f ∷ []) → Refuses ofIdSteps (countedStep f entry leaf s p left)
 unfolding countedStep fits among listed find detailCounts
 counted-step-refuses f entry leaf s p left h = by-stop (eqb left 0) 15 refl (by-then (fields-refuse _ (f ∷ []) 0 s p h) (λ g. gives))
 
@@ -280,30 +282,44 @@ next-member-refuses s p left padded =
 pub step-refuses : (s : List ℕ) (c : ListCursor) → Refuses ofSteps (stepOf s c)
 unfolding stepOf fits within among listed find detailCounts
 step-refuses s c =
-    by-pick (eqb (c .leaf) 0x1201) (wider refl (counted-step-refuses T typeEntry 0x1201 s (c .at) (c .left) (refl & no-more)))
+    by-pick (eqb (c .leaf) 0x1201) (wider refl (counted-step-refuses T typeElement 0x1201 s (c .at) (c .left) (refl & no-more)))
     (by-pick (eqb (c .leaf) 0x1206) (method-step-refuses s (c .at))
     (by-pick (eqb (c .leaf) 0x1203) (next-member-refuses s (c .at) (c .left) (c .padded))
-    (refuses refl)))
+    (by-pick (eqb (c .leaf) 0x1603) (wider refl (counted-step-refuses id idElement 0x1603 s (c .at) (c .left) (refl & no-more)))
+    (by-pick (eqb (c .leaf) 0x1604) (wider refl (counted-step-refuses T typeElement 0x1604 s (c .at) (c .left) (refl & no-more)))
+    (refuses refl)))))
 
-pub step-ids-refuses : (s : List ℕ) (c : ListCursor) → Refuses ofIdSteps (stepIdsOf s c)
-unfolding stepIdsOf fits within among listed find detailCounts
-step-ids-refuses s c =
-    by-pick (eqb (c .leaf) 0x1603) (counted-step-refuses id idEntry 0x1603 s (c .at) (c .left) (refl & no-more))
-    (by-pick (eqb (c .leaf) 0x1604) (counted-step-refuses T typeEntry 0x1604 s (c .at) (c .left) (refl & no-more))
-    (refuses refl))
-
-pub element-by-refuses : (ns : List ℕ) (step : ListCursor → Answer Step) → ((c : ListCursor) → Refuses ns (step c)) → (k : ℕ) (c : ListCursor) → Refuses ns (elementBy step k c)
+pub element-by-refuses : (s : List ℕ) (k : ℕ) (c : ListCursor) → Refuses ofSteps (elementBy (stepOf s) k c)
 unfolding elementBy
-element-by-refuses ns step h zero c = by-then (h c) (λ x. gives)
-element-by-refuses ns step h (suc k) c = by-then (h c) (λ x. element-by-refuses ns step h k (x .next))
+element-by-refuses s zero c = by-then (step-refuses s c) (λ x. gives)
+element-by-refuses s (suc k) c = by-then (step-refuses s c) (λ x. element-by-refuses s k (x .next))
 
-pub element-refuses : (s : List ℕ) (k : ℕ) → Refuses ofSteps (elementOf s k)
+pub element-refuses : (tag : Stream) (s : List ℕ) (k : ℕ) → Refuses ofSteps (elementOf tag s k)
 unfolding elementOf within among
-element-refuses s k = by-then (wider refl (start-refuses s)) (λ c. element-by-refuses _ (stepOf s) (step-refuses s) k c)
+element-refuses tag s k = by-then (wider refl (start-refuses tag s)) (λ c. element-by-refuses s k c)
 
-pub element-ids-refuses : (s : List ℕ) (k : ℕ) → Refuses ofIdSteps (elementIdsOf s k)
-unfolding elementIdsOf within among
-element-ids-refuses s k = by-then (wider refl (start-ids-refuses s)) (λ c. element-by-refuses _ (stepIdsOf s) (step-ids-refuses s) k c)
+-- the lists of id records have no numeric leaf: never 11. A counted list goes on as the list that it is
+counted-elements-refuse : (s : List ℕ) (f : Field) (element : List (Value Part) → ElementValues) (leaf : ℕ)
+    → ((p left : ℕ) → stepOf s (inCounted leaf p left) ≡ countedStep f element leaf s p left) → TakesAll ofIdSteps (f ∷ [])
+    → (k p left : ℕ) → Refuses ofIdSteps (elementBy (stepOf s) k (inCounted leaf p left))
+unfolding elementBy countedStep fits among listed find detailCounts
+counted-elements-refuse s f element leaf goes h zero p left =
+    rw (goes p left) (by-then (counted-step-refuses f element leaf s p left h) (λ x. gives))
+counted-elements-refuse s f element leaf goes h (suc k) p left =
+    rw (goes p left) (by-stop-then (eqb left 0) 15 refl (by-then-then (fields-refuse _ (f ∷ []) 0 s p h) (λ g.
+    counted-elements-refuse s f element leaf goes h k (g .next) (left - 1))))
+
+pub element-ids-refuses : (s : List ℕ) (k : ℕ) → Refuses ofIdSteps (elementOf stream.Ids s k)
+unfolding elementOf startOf startIds counted countedBy idLeaves stepOf fits within among listed find detailCounts
+element-ids-refuses s k =
+    by-then-then (wider refl (fixed-refuses 2 s 0)) (λ g.
+    by-pick-then (eqb (g .value) 0x1603)
+    (by-then-then (fields-refuse _ (count16 ∷ run ids ∷ []) 0 s (g .next) (free & refl & no-more)) (λ v.
+    counted-elements-refuse s id idElement 0x1603 (λ p left. refl) (refl & no-more) k _ _))
+    (by-pick-then (eqb (g .value) 0x1604)
+    (by-then-then (fields-refuse _ (count32 ∷ run types ∷ []) 0 s (g .next) (free & refl & no-more)) (λ v.
+    counted-elements-refuse s T typeElement 0x1604 (λ p left. refl) (refl & no-more) k _ _))
+    (refuses refl)))
 
 -- Entries
 

@@ -21,6 +21,7 @@ use Rattle.stream_item.specs.Iterator.{iterOf, nextOf}
 use Rattle.stream_view.specs.Views.{viewOf, rawKindOf}
 use Rattle.stream_item.specs.Information.{lenOf, isEmptyOf}
 use Rattle.stream_item.specs.declared.Stream.{Stream}
+use Rattle.stream_item.specs.declared.Stream.the-variants as stream
 use Rattle.stream_item.specs.declared.ItemIndex.{ItemIndex}
 use Rattle.stream_item.specs.declared.Entry.{Entry}
 use Rattle.stream_item.specs.declared.iter.ItemIter.{ItemIter}
@@ -34,12 +35,11 @@ use Rattle.stream_index.specs.declared.TurnAnswer.{TurnAnswer}
 use Rattle.stream_index.specs.declared.WalkAnswer.the-variants as walk
 use Rattle.record_layout.specs.Fields.{readFields}
 use Rattle.record_layout.specs.Layouts.{typeLeaves, memberLeaves, method, idLeaves, readRecord, recordOf}
-use Rattle.record_list.specs.Lists.{startOf, startIdsOf, stepOf, stepIdsOf, elementBy, elementOf, elementIdsOf}
-use Rattle.record_list.specs.Said.{saidElement, saidElementIds}
+use Rattle.record_list.specs.Lists.{startOf, stepOf, elementBy, elementOf}
+use Rattle.record_list.specs.Said.{saidElement}
 use Rattle.record_list.specs.declared.ListCursor.{ListCursor}
 use Rattle.record_list.specs.declared.ElementAnswer.{ElementAnswer}
-use Rattle.record_list.specs.declared.IdElementAnswer.{IdElementAnswer}
-use Rattle.record_reader.specs.Reader.{Steps, StepsIds}
+use Rattle.record_reader.specs.Reader.{Steps}
 use Rattle.record_parse.specs.Record.{parseOf}
 use Rattle.claim_promises.specs.ByTable.{Refuses, FindRefuses}
 
@@ -85,15 +85,12 @@ pub record Demand1 : Type 0 where
   pub members : (s : List ℕ) (p : ℕ) → Refuses (1 ∷ 10 ∷ 11 ∷ []) (readRecord memberLeaves s p)
   pub methods : (s : List ℕ) (p : ℕ) → Refuses (1 ∷ []) (readFields method 0 s p)
   pub entries : (t s : List ℕ) (e : Entry) → Refuses (16 ∷ 1 ∷ 8 ∷ 10 ∷ 11 ∷ 12 ∷ []) (parseOf t s e)
-  -- lists: where they start, a step from any cursor, element k from any cursor, element k of a record
-  pub starts : (s : List ℕ) → Refuses (1 ∷ 10 ∷ []) (startOf s)
-  pub id-starts : (s : List ℕ) → Refuses (1 ∷ 10 ∷ []) (startIdsOf s)
+  -- lists: where they start, a step from any cursor, element k from any cursor, element k of a record; of an id record never 11
+  pub starts : (tag : Stream) (s : List ℕ) → Refuses (1 ∷ 10 ∷ []) (startOf tag s)
   pub steps : (s : List ℕ) (c : ListCursor) → Refuses (15 ∷ 1 ∷ 10 ∷ 11 ∷ []) (stepOf s c)
-  pub id-steps : (s : List ℕ) (c : ListCursor) → Refuses (15 ∷ 1 ∷ 10 ∷ []) (stepIdsOf s c)
   pub elements-on : (s : List ℕ) (k : ℕ) (c : ListCursor) → Refuses (15 ∷ 1 ∷ 10 ∷ 11 ∷ []) (elementBy (stepOf s) k c)
-  pub id-elements-on : (s : List ℕ) (k : ℕ) (c : ListCursor) → Refuses (15 ∷ 1 ∷ 10 ∷ []) (elementBy (stepIdsOf s) k c)
-  pub elements : (s : List ℕ) (k : ℕ) → Refuses (15 ∷ 1 ∷ 10 ∷ 11 ∷ []) (elementOf s k)
-  pub id-elements : (s : List ℕ) (k : ℕ) → Refuses (15 ∷ 1 ∷ 10 ∷ []) (elementIdsOf s k)
+  pub elements : (tag : Stream) (s : List ℕ) (k : ℕ) → Refuses (15 ∷ 1 ∷ 10 ∷ 11 ∷ []) (elementOf tag s k)
+  pub id-elements : (s : List ℕ) (k : ℕ) → Refuses (15 ∷ 1 ∷ 10 ∷ []) (elementOf stream.Ids s k)
   -- ---- "all lent memory stays unchanged": where the function's answer r is a refusal, what was lent is after the call what it was before
 
   -- the table, lent to creation, to `update` by value, to a turn and to a walk
@@ -107,5 +104,3 @@ pub record Demand1 : Type 0 where
   pub lent-update-leaves : (σ : State) (c : ItemIter) (r : UpdateAnswer) (τ : State) (n : ℕ) (d : List ℕ) → Updates σ c r τ → saidUpdate r ≡ refused n d → τ ≡ σ
   -- the list reader, lent to its step: its bytes stay by the contract itself
   pub step-leaves : (s : List ℕ) (c : ListCursor) (r : ElementAnswer) (c′ : ListCursor) (n : ℕ) (d : List ℕ) → Steps c (stepOf s c) r c′ → saidElement r ≡ refused n d → c′ ≡ c
-  pub id-step-leaves : (s : List ℕ) (c : ListCursor) (r : IdElementAnswer) (c′ : ListCursor) (n : ℕ) (d : List ℕ)
-      → StepsIds c (stepIdsOf s c) r c′ → saidElementIds r ≡ refused n d → c′ ≡ c

@@ -35,13 +35,12 @@ use Rattle.record_data.specs.Said.{optString, nameOf as typeNameOf, saidTypeDat
 use Rattle.record_data.specs.declared.TypeData.{TypeData}
 use Rattle.record_member.specs.Said.{memberValues, saidMember, saidEntry, nameOf as memberNameOf}
 use Rattle.record_member.specs.declared.Member.{Member}
-use Rattle.record_list.specs.Lists.{startOf, startIdsOf, stepOf, stepIdsOf, elementBy, elementOf, elementIdsOf}
-use Rattle.record_list.specs.Said.{saidStart, saidStep, saidStepIds, saidElement, saidElementIds}
+use Rattle.record_list.specs.Lists.{startOf, stepOf, elementBy, elementOf}
+use Rattle.record_list.specs.Said.{saidStart, saidStep, saidElement}
 use Rattle.record_list.specs.declared.ListCursor.{ListCursor}
-use Rattle.record_reader.specs.Reader.{Steps, StepsIds}
+use Rattle.record_reader.specs.Reader.{Steps}
 use Rattle.record_reader.specs.declared.ListReader.{ListReader}
 use Rattle.record_reader.specs.declared.Stepped.{Stepped}
-use Rattle.record_reader.specs.declared.SteppedIds.{SteppedIds}
 use Rattle.record_parse.specs.Record.{parseOf, saidParse}
 
 -- the contract C admits one answer
@@ -119,18 +118,12 @@ pub record OneOutcome : Type 1 where
   pub method-entry-at : (s : List ℕ) (p : ℕ) → Once (λ r. saidEntry r ≡ readFields method 0 s p)
   pub member-name : (m : Member) → Once (λ r. stringSaid r ≡ memberNameOf (memberValues m))
   pub record-parse : (t p : List ℕ) (e : Entry) → Once (λ r. saidParse r ≡ parseOf t p e)
-  -- lists; and reader, whose `next`, `element`, `nth` and what stands above them have the contracts of `step`, `element-from` and `element-at`
-  pub start : (s : List ℕ) → Once (λ r. saidStart r ≡ startOf s)
-  pub start-ids : (s : List ℕ) → Once (λ r. saidStart r ≡ startIdsOf s)
+  -- record_list; and record_reader, whose `element` and `nth` are elements by `elementBy` and `elementOf`
+  pub start : (tag : Stream) (s : List ℕ) → Once (λ r. saidStart r ≡ startOf tag s)
   pub step : (s : List ℕ) (c : ListCursor) → Once (λ r. saidStep r ≡ stepOf s c)
-  pub step-ids : (s : List ℕ) (c : ListCursor) → Once (λ r. saidStepIds r ≡ stepIdsOf s c)
   pub element-from : (s : List ℕ) (c : ListCursor) (k : ℕ) → Once (λ r. saidElement r ≡ elementBy (stepOf s) k c)
-  pub element-from-ids : (s : List ℕ) (c : ListCursor) (k : ℕ) → Once (λ r. saidElementIds r ≡ elementBy (stepIdsOf s) k c)
-  pub element-at : (s : List ℕ) (k : ℕ) → Once (λ r. saidElement r ≡ elementOf s k)
-  pub element-at-ids : (s : List ℕ) (k : ℕ) → Once (λ r. saidElementIds r ≡ elementIdsOf s k)
-  -- reader: `new` by the bytes and the cursor; the lent steps, and those above them
+  pub nth : (tag : Stream) (s : List ℕ) (k : ℕ) → Once (λ r. saidElement r ≡ elementOf tag s k)
+  -- record_reader: `new` by the bytes and the cursor; the lent step, and the one above it
   pub reader-of : (x : ListReader) → Once (λ (r : ListReader). (r .bytes ≡ x .bytes) × (r .cursor ≡ x .cursor))
   pub reader-step : (s : List ℕ) (c : ListCursor) → OnceLent (Steps c (stepOf s c))
-  pub reader-step-id : (s : List ℕ) (c : ListCursor) → OnceLent (StepsIds c (stepIdsOf s c))
   pub reader-step-of : (s : List ℕ) (c : ListCursor) → Once (λ (u : Stepped). Steps c (stepOf s c) (u .answer) (u .cursor))
-  pub reader-step-id-of : (s : List ℕ) (c : ListCursor) → Once (λ (u : SteppedIds). StepsIds c (stepIdsOf s c) (u .answer) (u .cursor))

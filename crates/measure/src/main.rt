@@ -9,7 +9,6 @@ use libc::STDIN_FILENO;
 use libc::STDOUT_FILENO;
 use record_data::TypeData;
 use record_id::IdData;
-use record_list::IdStepAnswer;
 use record_list::ListCursor;
 use record_list::StartAnswer;
 use record_list::StepAnswer;
@@ -149,15 +148,30 @@ fn record_read(s: &[u8], i: Item) -> u64 {
             TypeData::Union(u) => sums::union_type(u),
             TypeData::Bitfield(b) => sums::bitfield(b),
             TypeData::VirtualTableShape(_) => 0,
-            TypeData::FieldList => list_read(stream_view::view(s, s, Entry::Record(i))),
-            TypeData::ArgumentList(_) => list_read(stream_view::view(s, s, Entry::Record(i))),
-            TypeData::MethodList => list_read(stream_view::view(s, s, Entry::Record(i))),
+            TypeData::FieldList => list_read(
+                Stream::Types,
+                stream_view::view(s, s, Entry::Record(i)),
+            ),
+            TypeData::ArgumentList(_) => list_read(
+                Stream::Types,
+                stream_view::view(s, s, Entry::Record(i)),
+            ),
+            TypeData::MethodList => list_read(
+                Stream::Types,
+                stream_view::view(s, s, Entry::Record(i)),
+            ),
         },
         ParseAnswer::Id(d) => match d {
             IdData::Function(f) => sums::function(f),
             IdData::MemberFunction(f) => sums::member_function_id(f),
-            IdData::BuildInfo(_) => id_list_read(stream_view::view(s, s, Entry::Record(i))),
-            IdData::StringList(_) => id_list_read(stream_view::view(s, s, Entry::Record(i))),
+            IdData::BuildInfo(_) => list_read(
+                Stream::Ids,
+                stream_view::view(s, s, Entry::Record(i)),
+            ),
+            IdData::StringList(_) => list_read(
+                Stream::Ids,
+                stream_view::view(s, s, Entry::Record(i)),
+            ),
             IdData::String(t) => sums::string(t),
             IdData::UserDefinedTypeSource(u) => sums::source(u),
         },
@@ -165,8 +179,8 @@ fn record_read(s: &[u8], i: Item) -> u64 {
     }
 }
 
-fn list_read(s: &[u8]) -> u64 {
-    match record_list::start(s) {
+fn list_read(stream: Stream, s: &[u8]) -> u64 {
+    match record_list::start(stream, s) {
         StartAnswer::Answered(c) => list_from(s, c),
         StartAnswer::Refused(_) => 0,
     }
@@ -179,38 +193,12 @@ fn list_from(s: &[u8], from: ListCursor) -> u64 {
     let mut turns: u32 = 65536;
     while 0 < turns {
         turns -= 1;
-        match record_reader::next_of(s, c) {
+        match record_list::step(s, c) {
             StepAnswer::Answered(e, behind) => {
                 sum = add(sum, sums::element(e));
                 c = behind;
             }
             StepAnswer::Refused(_) => {
-                return sum;
-            }
-        }
-    }
-    sum
-}
-
-fn id_list_read(s: &[u8]) -> u64 {
-    match record_list::start_ids(s) {
-        StartAnswer::Answered(c) => id_list_from(s, c),
-        StartAnswer::Refused(_) => 0,
-    }
-}
-
-fn id_list_from(s: &[u8], from: ListCursor) -> u64 {
-    let mut c = from;
-    let mut sum: u64 = 0;
-    let mut turns: u32 = 65536;
-    while 0 < turns {
-        turns -= 1;
-        match record_reader::next_id_of(s, c) {
-            IdStepAnswer::Answered(e, behind) => {
-                sum = add(sum, sums::id_element(e));
-                c = behind;
-            }
-            IdStepAnswer::Refused(_) => {
                 return sum;
             }
         }

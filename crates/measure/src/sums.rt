@@ -22,7 +22,6 @@ use record_id::StringId;
 use record_id::UserDefinedTypeSourceFileRef;
 use record_id::UserDefinedTypeSourceId;
 use record_list::Element;
-use record_list::IdElement;
 use record_member::Member;
 use record_member::MethodListEntry;
 use record_member::MethodType;
@@ -337,15 +336,9 @@ fn member(m: Member) -> u64 {
 
 pub fn element(e: Element) -> u64 {
     match e {
-        Element::Argument(t) => wide(t.0),
+        Element::Type(t) => wide(t.0),
+        Element::Id(i) => wide(i.0),
         Element::Method(m) => entry(m),
         Element::Member(m) => member(m),
-    }
-}
-
-pub fn id_element(e: IdElement) -> u64 {
-    match e {
-        IdElement::Id(i) => wide(i.0),
-        IdElement::Type(t) => wide(t.0),
     }
 }

@@ -21,6 +21,22 @@ use field_text::After;
 use field_text::OptString;
 use field_text::RawString;
 use field_text::ReadString;
+use record_layout::LF_ARGLIST;
+use record_layout::LF_ARRAY;
+use record_layout::LF_BITFIELD;
+use record_layout::LF_CLASS;
+use record_layout::LF_ENUM;
+use record_layout::LF_FIELDLIST;
+use record_layout::LF_INTERFACE;
+use record_layout::LF_METHODLIST;
+use record_layout::LF_MFUNCTION;
+use record_layout::LF_MODIFIER;
+use record_layout::LF_POINTER;
+use record_layout::LF_PROCEDURE;
+use record_layout::LF_STRUCTURE;
+use record_layout::LF_STRUCTURE19;
+use record_layout::LF_UNION;
+use record_layout::LF_VTSHAPE;
 use word_attributes::FlagAnswer;
 use word_attributes::FunctionAttributes;
 use word_attributes::KindAnswer;
@@ -633,52 +649,52 @@ pub fn type_data(s: &[u8]) -> TypeAnswer
     let Read16::Got(leaf, p) = fixed::u16_at(s, 0) else {
         return TypeAnswer::Refused(Refusal::Ended);
     };
-    if leaf == 0x1001 {
+    if leaf == LF_MODIFIER {
         return modifier_at(s, p);
     }
-    if leaf == 0x1002 {
+    if leaf == LF_POINTER {
         return pointer_at(s, p);
     }
-    if leaf == 0x1008 {
+    if leaf == LF_PROCEDURE {
         return procedure_at(s, p);
     }
-    if leaf == 0x1009 {
+    if leaf == LF_MFUNCTION {
         return member_function_at(s, p);
     }
-    if leaf == 0x1205 {
+    if leaf == LF_BITFIELD {
         return bitfield_at(s, p);
     }
-    if leaf == 0x1503 {
+    if leaf == LF_ARRAY {
         return array_at(s, p);
     }
-    if leaf == 0x1504 {
+    if leaf == LF_CLASS {
         return class_at(s, p);
     }
-    if leaf == 0x1505 {
+    if leaf == LF_STRUCTURE {
         return structure_at(s, p);
     }
-    if leaf == 0x1519 {
+    if leaf == LF_INTERFACE {
         return interface_at(s, p);
     }
-    if leaf == 0x1506 {
+    if leaf == LF_UNION {
         return union_at(s, p);
     }
-    if leaf == 0x1507 {
+    if leaf == LF_ENUM {
         return enumeration_at(s, p);
     }
-    if leaf == 0x1609 {
+    if leaf == LF_STRUCTURE19 {
         return structure19_at(s, p);
     }
-    if leaf == 0x000a {
+    if leaf == LF_VTSHAPE {
         return shape_at(s, p);
     }
-    if leaf == 0x1201 {
+    if leaf == LF_ARGLIST {
         return arguments_at(s, p);
     }
-    if leaf == 0x1206 {
+    if leaf == LF_METHODLIST {
         return TypeAnswer::Answered(TypeData::MethodList);
     }
-    if leaf == 0x1203 {
+    if leaf == LF_FIELDLIST {
         return TypeAnswer::Answered(TypeData::FieldList);
     }
     TypeAnswer::Refused(Refusal::LeafUnknown(leaf))

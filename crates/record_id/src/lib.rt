@@ -19,6 +19,13 @@ use field::index::TypeIndex;
 use field_text::After;
 use field_text::RawString;
 use field_text::ReadString;
+use record_layout::LF_BUILDINFO;
+use record_layout::LF_FUNC_ID;
+use record_layout::LF_MFUNC_ID;
+use record_layout::LF_STRING_ID;
+use record_layout::LF_SUBSTR_LIST;
+use record_layout::LF_UDT_MOD_SRC_LINE;
+use record_layout::LF_UDT_SRC_LINE;
 
 // 0x1601: a global function, usually inlined.
 pub struct FunctionId {
@@ -214,25 +221,25 @@ pub fn id_data(s: &[u8]) -> IdAnswer
     let Read16::Got(leaf, p) = fixed::u16_at(s, 0) else {
         return IdAnswer::Refused(Refusal::Ended);
     };
-    if leaf == 0x1601 {
+    if leaf == LF_FUNC_ID {
         return function_at(s, p);
     }
-    if leaf == 0x1602 {
+    if leaf == LF_MFUNC_ID {
         return member_function_at(s, p);
     }
-    if leaf == 0x1603 {
+    if leaf == LF_BUILDINFO {
         return build_info_at(s, p);
     }
-    if leaf == 0x1604 {
+    if leaf == LF_SUBSTR_LIST {
         return string_list_at(s, p);
     }
-    if leaf == 0x1605 {
+    if leaf == LF_STRING_ID {
         return string_id_at(s, p);
     }
-    if leaf == 0x1606 {
+    if leaf == LF_UDT_SRC_LINE {
         return local_source_at(s, p);
     }
-    if leaf == 0x1607 {
+    if leaf == LF_UDT_MOD_SRC_LINE {
         return remote_source_at(s, p);
     }
     IdAnswer::Refused(Refusal::LeafUnknown(leaf))

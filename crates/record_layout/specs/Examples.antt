@@ -6,11 +6,11 @@ use Rattle.answer.specs.Answer.{Answer, answered, refused}
 use Rattle.answer.specs.Tables.{find, among}
 use Rattle.field.specs.Fields.{le, fixedAt}
 use Rattle.field.specs.Indices.{optionalOf, optionalAt}
-use Rattle.field_text.specs.Texts.{Part, toZero, stringAt}
+use Rattle.field_text.specs.Texts.{Part, toZero, stringAt, bytesAfter}
 use Rattle.field_number.specs.Numbers.{prefixes, numericAt, sizeAt, unsignedAt}
 use Rattle.word_attributes.specs.Pointers.{pointerKinds, pointerModes, kindOf, modeOf, toMemberOf}
 use Rattle.record_layout.specs.Fields.{Value, number, absent, many, readField, readFields}
-use Rattle.record_layout.specs.Layouts.{typeLeaves, readLeaf, leafOf, recordOf}
+use Rattle.record_layout.specs.Layouts.{typeLeaves, idLeaves, readLeaf, leafOf, recordOf}
 
 -- data.rs, test kind_1609
 abbrev pub kind-1609 : List ℕ
@@ -77,3 +77,15 @@ refuses-kind = refl
 pub refuses-first : recordOf typeLeaves (0x02 ∷ 0x10 ∷ 0x00 ∷ 0x10 ∷ 0x00 ∷ 0x00 ∷ 0x4d ∷ 0x00 ∷ 0x01 ∷ 0x00 ∷ []) ≡ refused 12 []
 unfolding recordOf leafOf readLeaf le fixedAt find readField readFields typeLeaves kindOf modeOf toMemberOf pointerKinds pointerModes
 refuses-first = refl
+
+-- a pointer to member, of mode 2, and its class
+pub reads-member-pointer : recordOf typeLeaves (0x02 ∷ 0x10 ∷ 0x00 ∷ 0x10 ∷ 0x00 ∷ 0x00 ∷ 0x4c ∷ 0x00 ∷ 0x00 ∷ 0x00 ∷ 0x01 ∷ 0x10 ∷ 0x00 ∷ 0x00 ∷ [])
+    ≡ answered (number 0x1002 ∷ number 0x1000 ∷ number 0x4c ∷ number 0x1001 ∷ [])
+unfolding recordOf leafOf readLeaf le fixedAt find among optionalOf optionalAt readField readFields typeLeaves kindOf modeOf toMemberOf pointerKinds pointerModes
+reads-member-pointer = refl
+
+-- a list of one id, counted by a u16
+pub reads-build-info : recordOf idLeaves (0x03 ∷ 0x16 ∷ 1 ∷ 0 ∷ 0x00 ∷ 0x10 ∷ 0 ∷ 0 ∷ [])
+    ≡ answered (number 0x1603 ∷ number 1 ∷ many (record { place = 4; length = 4 }) ∷ [])
+unfolding recordOf leafOf readLeaf le fixedAt find bytesAfter readField readFields idLeaves
+reads-build-info = refl

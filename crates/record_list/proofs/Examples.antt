@@ -10,8 +10,9 @@ use Rattle.field.specs.Fields.{le, fixedAt, signedAt}
 use Rattle.field_text.specs.Texts.{toZero, stringAt, bytesAfter, pad, paddingAfter}
 use Rattle.field_number.specs.Numbers.{prefixes, numericAt}
 use Rattle.record_layout.specs.Fields.{number, integer, absent, many, readField, readFields}
-use Rattle.record_layout.specs.Layouts.{readLeaf, readRecord, memberLeaves}
-use Rattle.record_list.specs.Lists.{typeElement, idElement, methodElement, memberElement, elementsAt, counted, startOf, startIdsOf, countedStep, methodStep, memberStep, nextMember, stepOf, stepIdsOf, elementBy, elementOf, elementOf Ids}
+use Rattle.record_layout.specs.Layouts.{typeLeaves, idLeaves, readLeaf, readRecord, memberLeaves}
+use Rattle.stream_item.specs.declared.Stream.the-variants.{Types, Ids}
+use Rattle.record_list.specs.Lists.{typeElement, idElement, methodElement, memberElement, countedBy, counted, startTypes, startIds, startOf, countedStep, methodStep, memberStep, nextMember, stepOf, elementBy, elementOf}
 
 -- two enumerators, -1 "A" behind 0x8000 with the padding f3 f2 f1, and 2 "B"; there is no third
 abbrev enumerators : List ℕ
@@ -74,7 +75,7 @@ pub two-arguments :
     × (elementOf Types arguments 2 ≡ refused 15 [])
     × (elementOf Types (0x01 ∷ 0x12 ∷ 2 ∷ 0 ∷ 0 ∷ 0 ∷ 0x74 ∷ 0 ∷ 0 ∷ 0 ∷ 0x02 ∷ 0x10 ∷ 0 ∷ []) 0 ≡ refused 1 [])
     × (elementOf Types (0x01 ∷ 0x12 ∷ 0 ∷ 0 ∷ 0 ∷ 0x40 ∷ 0x74 ∷ 0 ∷ 0 ∷ 0 ∷ []) 0 ≡ refused 1 [])
-unfolding le fixedAt bytesAfter readField readFields counted startOf countedStep stepOf elementBy elementOf startTypes startIds leafOf readLeaf find typeLeaves idLeaves
+unfolding le fixedAt bytesAfter readField readFields counted startOf countedStep stepOf elementBy elementOf startTypes startIds find typeLeaves idLeaves countedBy
 two-arguments = (refl, refl, refl, refl, refl)
 
 pub without-list :
@@ -92,5 +93,5 @@ pub two-ids :
     × (elementOf Ids (0x03 ∷ 0x16 ∷ 2 ∷ 0 ∷ 0x00 ∷ 0x10 ∷ 0 ∷ 0 ∷ 0x01 ∷ 0x10 ∷ 0 ∷ 0 ∷ []) 1 ≡ answered (idElement (number 0x1001 ∷ [])))
     × (elementOf Ids (0x03 ∷ 0x16 ∷ 2 ∷ 0 ∷ 0x00 ∷ 0x10 ∷ 0 ∷ 0 ∷ 0x01 ∷ 0x10 ∷ 0 ∷ 0 ∷ []) 2 ≡ refused 15 [])
     × (elementOf Ids (0x04 ∷ 0x16 ∷ 1 ∷ 0 ∷ 0 ∷ 0 ∷ 0x00 ∷ 0x10 ∷ 0 ∷ 0 ∷ []) 0 ≡ answered (typeElement (number 0x1000 ∷ [])))
-unfolding le fixedAt bytesAfter readField readFields counted countedStep elementBy elementOf startOf startTypes startIds leafOf readLeaf find typeLeaves idLeaves
+unfolding le fixedAt bytesAfter readField readFields counted countedStep elementBy elementOf startOf startTypes startIds find typeLeaves idLeaves countedBy stepOf
 two-ids = (refl, refl, refl, refl)

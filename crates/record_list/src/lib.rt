@@ -17,6 +17,11 @@ use field::index::ReadId;
 use field::index::ReadType;
 use field::index::TypeIndex;
 use field_text::After;
+use record_layout::LF_ARGLIST;
+use record_layout::LF_BUILDINFO;
+use record_layout::LF_FIELDLIST;
+use record_layout::LF_METHODLIST;
+use record_layout::LF_SUBSTR_LIST;
 use record_member::Member;
 use record_member::MethodListEntry;
 use record_member::ReadMember;
@@ -62,17 +67,6 @@ pub enum ElementAnswer {
     Refused(Refusal),
 }
 
-// The leaves of lists, by their names in cvinfo.h.
-pub const LF_ARGLIST: u16 = 0x1201;
-
-pub const LF_FIELDLIST: u16 = 0x1203;
-
-pub const LF_METHODLIST: u16 = 0x1206;
-
-pub const LF_BUILDINFO: u16 = 0x1603;
-
-pub const LF_SUBSTR_LIST: u16 = 0x1604;
-
 // Where a list starts.
 
 // A list of this leaf at place p: its count, a u16, then so many id indices.
@@ -100,7 +94,8 @@ fn counted32_at(s: &[u8], leaf: u16, p: usize) -> StartAnswer
     let Read32::Got(count, q) = fixed::u32_at(s, p) else {
         return StartAnswer::Refused(Refusal::Ended);
     };
-    let After::At(_) = field_text::after_bytes(s, q, 4 * (count as usize)) else {
+    let total = 4 * (count as usize);
+    let After::At(_) = field_text::after_bytes(s, q, total) else {
         return StartAnswer::Refused(Refusal::Ended);
     };
     StartAnswer::Answered(ListCursor {

@@ -20,6 +20,17 @@ use field_number::Variant;
 use field_text::OptString;
 use field_text::RawString;
 use field_text::ReadString;
+use record_layout::LF_BCLASS;
+use record_layout::LF_ENUMERATE;
+use record_layout::LF_INDEX;
+use record_layout::LF_IVBCLASS;
+use record_layout::LF_MEMBER;
+use record_layout::LF_METHOD;
+use record_layout::LF_NESTTYPE;
+use record_layout::LF_ONEMETHOD;
+use record_layout::LF_STMEMBER;
+use record_layout::LF_VBCLASS;
+use record_layout::LF_VFUNCTAB;
 use word_attributes::FieldAttributes;
 
 // 0x1400: a base class and where it lies in the class. The crate's kind is left out: 01 takes no other leaf for a base class.
@@ -415,37 +426,37 @@ pub fn member_at(s: &[u8], p: usize) -> ReadMember
     let Read16::Got(leaf, q) = fixed::u16_at(s, p) else {
         return ReadMember::Refused(Refusal::Ended);
     };
-    if leaf == 0x1400 {
+    if leaf == LF_BCLASS {
         return base_class_at(s, q);
     }
-    if leaf == 0x1401 {
+    if leaf == LF_VBCLASS {
         return virtual_base_class_at(s, q, true);
     }
-    if leaf == 0x1402 {
+    if leaf == LF_IVBCLASS {
         return virtual_base_class_at(s, q, false);
     }
-    if leaf == 0x1404 {
+    if leaf == LF_INDEX {
         return continuation_at(s, q);
     }
-    if leaf == 0x1409 {
+    if leaf == LF_VFUNCTAB {
         return table_pointer_at(s, q);
     }
-    if leaf == 0x1502 {
+    if leaf == LF_ENUMERATE {
         return enumerate_at(s, q);
     }
-    if leaf == 0x150d {
+    if leaf == LF_MEMBER {
         return data_member_at(s, q);
     }
-    if leaf == 0x150e {
+    if leaf == LF_STMEMBER {
         return static_member_at(s, q);
     }
-    if leaf == 0x150f {
+    if leaf == LF_METHOD {
         return overloaded_method_at(s, q);
     }
-    if leaf == 0x1510 {
+    if leaf == LF_NESTTYPE {
         return nested_at(s, q);
     }
-    if leaf == 0x1511 {
+    if leaf == LF_ONEMETHOD {
         return method_at(s, q);
     }
     ReadMember::Refused(Refusal::LeafUnknown(leaf))

@@ -4,6 +4,7 @@ use crate::record_lines;
 use crate::stream_lines;
 use stream_item::Entry;
 use stream_item::Item;
+use stream_item::Stream;
 use stream_item::iter::ItemIter;
 use stream_item::iter::IterAnswer;
 use stream_item::iter::NextAnswer;
@@ -69,11 +70,23 @@ fn walk_from<'a>(tpi: &'a [u8], ipi: &'a [u8], s: &'a [u8], a: IterAnswer, data:
 }
 
 pub fn walk(s: &[u8], data: bool) {
-    walk_from(s, &s[0..0], s, stream_item::iter::types(s), data);
+    walk_from(
+        s,
+        &s[0..0],
+        s,
+        stream_item::iter::iter(Stream::Types, s),
+        data,
+    );
 }
 
 pub fn walk_ids(s: &[u8], data: bool) {
-    walk_from(&s[0..0], s, s, stream_item::iter::ids(s), data);
+    walk_from(
+        &s[0..0],
+        s,
+        s,
+        stream_item::iter::iter(Stream::Ids, s),
+        data,
+    );
 }
 
 // An item of this index whose bytes are all of s.

@@ -23,11 +23,10 @@ use record_id::MemberFunctionId;
 use record_id::StringId;
 use record_id::UserDefinedTypeSourceFileRef;
 use record_id::UserDefinedTypeSourceId;
+use record_layout::LF_ARGLIST;
+use record_layout::LF_SUBSTR_LIST;
 use record_list::Element;
 use record_list::ElementAnswer;
-use record_list::IdElement;
-use record_list::IdElementAnswer;
-use record_list::IdStepAnswer;
 use record_list::ListCursor;
 use record_list::StartAnswer;
 use record_list::StepAnswer;
@@ -44,6 +43,7 @@ use record_member::StaticMemberType;
 use record_member::VirtualBaseClassType;
 use record_parse::ParseAnswer;
 use stream_item::Entry;
+use stream_item::Stream;
 
 // The place and the length of a string that may be absent, as a form takes them.
 
@@ -433,16 +433,10 @@ fn method(r: MethodListEntry) {
 
 fn element(e: Element) {
     match e {
-        Element::Argument(t) => lines::number(t.0 as u64),
+        Element::Type(t) => lines::number(t.0 as u64),
+        Element::Id(i) => lines::number(i.0 as u64),
         Element::Method(r) => method(r),
         Element::Member(m) => member(m),
-    }
-}
-
-fn id_element(e: IdElement) {
-    match e {
-        IdElement::Id(i) => lines::number(i.0 as u64),
-        IdElement::Type(t) => lines::number(t.0 as u64),
     }
 }
 
@@ -459,10 +453,10 @@ fn list_end(e: Refusal) {
     lines::refusal(e);
 }
 
-// The arguments of 0x1201 are read by `next_of`, the members of other lists by steps in place: each is tried.
+// Type indices are read by `step`, the elements of other lists by steps of a reader in place: each is tried.
 
 fn list_next(s: &[u8], c: ListCursor) -> Onward {
-    match record_reader::next_of(s, c) {
+    match record_list::step(s, c) {
         StepAnswer::Answered(e, behind) => {
             element(e);
             Onward::To(behind)
@@ -492,49 +486,13 @@ fn list_step(s: &[u8], c: ListCursor) -> Onward {
 
 fn list_turn(s: &[u8], c: ListCursor) -> Onward {
     lines::put(b" ; ");
-    if c.leaf == 0x1201 {
+    if c.leaf == LF_ARGLIST {
+        return list_next(s, c);
+    }
+    if c.leaf == LF_SUBSTR_LIST {
         return list_next(s, c);
     }
     list_step(s, c)
-}
-
-// The types of 0x1604 are read by `next_id_of`, the ids of 0x1603 by steps in place.
-
-fn id_list_next(s: &[u8], c: ListCursor) -> Onward {
-    match record_reader::next_id_of(s, c) {
-        IdStepAnswer::Answered(e, behind) => {
-            id_element(e);
-            Onward::To(behind)
-        }
-        IdStepAnswer::Refused(e) => {
-            list_end(e);
-            Onward::Over
-        }
-    }
-}
-
-fn id_list_step(s: &[u8], c: ListCursor) -> Onward {
-    let t = record_reader::step_id_of(s, c);
-    let behind = t.cursor;
-    let answer = t.answer;
-    match answer {
-        IdElementAnswer::Answered(e) => {
-            id_element(e);
-            Onward::To(behind)
-        }
-        IdElementAnswer::Refused(e) => {
-            list_end(e);
-            Onward::Over
-        }
-    }
-}
-
-fn id_list_turn(s: &[u8], c: ListCursor) -> Onward {
-    lines::put(b" ; ");
-    if c.leaf == 0x1604 {
-        return id_list_next(s, c);
-    }
-    id_list_step(s, c)
 }
 
 // Each element takes two bytes at least, so that 65,536 bytes end before the turns do.
@@ -551,29 +509,9 @@ fn list_walk(s: &[u8], from: ListCursor) {
     }
 }
 
-fn id_list_walk(s: &[u8], from: ListCursor) {
-    let mut c = from;
-    let mut turns: u32 = 65536;
-    while 0 < turns {
-        turns -= 1;
-        let t = id_list_turn(s, c);
-        let Onward::To(behind) = t else {
-            return;
-        };
-        c = behind;
-    }
-}
-
-fn elements(s: &[u8]) {
-    match record_list::start(s) {
+fn elements(stream: Stream, s: &[u8]) {
+    match record_list::start(stream, s) {
         StartAnswer::Answered(c) => list_walk(s, c),
-        StartAnswer::Refused(_) => {}
-    }
-}
-
-fn id_elements(s: &[u8]) {
-    match record_list::start_ids(s) {
-        StartAnswer::Answered(c) => id_list_walk(s, c),
         StartAnswer::Refused(_) => {}
     }
 }
@@ -682,16 +620,16 @@ fn fields(a: ParseAnswer) -> Lists {
 pub fn entry(tpi: &[u8], ipi: &[u8], e: Entry, s: &[u8]) {
     match fields(record_parse::parse(tpi, ipi, e)) {
         Lists::None => {}
-        Lists::Types => elements(s),
-        Lists::Ids => id_elements(s),
+        Lists::Types => elements(Stream::Types, s),
+        Lists::Ids => elements(Stream::Ids, s),
     }
     lines::put(b"\n");
 }
 
 // One element by its number.
 
-pub fn nth(s: &[u8], k: u32) {
-    match record_reader::nth(s, k) {
+fn nth_in(stream: Stream, s: &[u8], k: u32) {
+    match record_reader::nth(stream, s, k) {
         ElementAnswer::Answered(e) => {
             lines::put(b"0 ");
             element(e);
@@ -701,13 +639,10 @@ pub fn nth(s: &[u8], k: u32) {
     lines::put(b"\n");
 }
 
+pub fn nth(s: &[u8], k: u32) {
+    nth_in(Stream::Types, s, k);
+}
+
 pub fn nth_id(s: &[u8], k: u32) {
-    match record_reader::nth_id(s, k) {
-        IdElementAnswer::Answered(e) => {
-            lines::put(b"0 ");
-            id_element(e);
-        }
-        IdElementAnswer::Refused(e) => lines::refusal(e),
-    }
-    lines::put(b"\n");
+    nth_in(Stream::Ids, s, k);
 }

@@ -14,8 +14,7 @@ use field_text::OptString;
 use record_data::TypeAnswer;
 use record_list::Element;
 use record_list::ElementAnswer;
-use record_list::IdElement;
-use record_list::IdElementAnswer;
+use record_list::StartAnswer;
 use stream_item::Entry;
 use stream_item::Item;
 use stream_item::ItemIndex;
@@ -169,20 +168,32 @@ fn element_name(s: &[u8], e: Element) {
     }
 }
 
+fn element_of(stream: Stream, s: &[u8], k: u32) -> ElementAnswer {
+    match record_list::start(stream, s) {
+        StartAnswer::Answered(c) => record_list::element_from(s, c, k),
+        StartAnswer::Refused(e) => ElementAnswer::Refused(e),
+    }
+}
+
 fn member_name(s: &[u8], k: u32) {
-    match record_list::element_at(s, k) {
+    match element_of(Stream::Types, s, k) {
         ElementAnswer::Answered(e) => element_name(s, e),
         ElementAnswer::Refused(e) => lines::refusal(e),
     }
 }
 
+fn element_number(e: Element) {
+    match e {
+        Element::Id(i) => lines::field(b"0 ", i.0 as u64),
+        Element::Type(t) => lines::field(b"0 ", t.0 as u64),
+        _ => lines::put(b"0 -"),
+    }
+}
+
 fn id_at(s: &[u8], k: u32) {
-    match record_list::element_at_ids(s, k) {
-        IdElementAnswer::Answered(e) => match e {
-            IdElement::Id(i) => lines::field(b"0 ", i.0 as u64),
-            IdElement::Type(t) => lines::field(b"0 ", t.0 as u64),
-        },
-        IdElementAnswer::Refused(e) => lines::refusal(e),
+    match element_of(Stream::Ids, s, k) {
+        ElementAnswer::Answered(e) => element_number(e),
+        ElementAnswer::Refused(e) => lines::refusal(e),
     }
 }
 

@@ -276,13 +276,16 @@ pub fn lookup(s: &[u8], t: &[u32], f: ItemFinder, ids: bool, n: u32) {
 // The same over the first n places.
 pub fn find_lent(s: &[u8], t: &[u32], n: usize, f: ItemFinder, i: ItemIndex) {
     if n <= t.len() {
-        find_line(stream_finder::lent::find_local(f, s, &t[0..n], i));
+        match i {
+            ItemIndex::Types(x) => find_line(stream_finder::find_type(s, &t[0..n], f, x)),
+            ItemIndex::Ids(x) => find_line(stream_finder::find_id(s, &t[0..n], f, x)),
+        }
     }
 }
 
 pub fn max_index(f: ItemFinder) {
-    let i = stream_finder::lent::max_index_local(f, Stream::Types);
-    lines::form2(b"#\n", &[i.number() as u64, 0]);
+    let i = f.max_type_index();
+    lines::form2(b"#\n", &[i.0 as u64, 0]);
 }
 
 fn max_typed(f: ItemFinder, ids: bool) -> u32 {
@@ -329,14 +332,14 @@ pub enum Begun {
 
 fn iter_in(s: &[u8], ids: bool) -> IterAnswer {
     if ids {
-        return stream_item::iter::ids(s);
+        return stream_item::iter::iter(Stream::Ids, s);
     }
-    stream_item::iter::types(s)
+    stream_item::iter::iter(Stream::Types, s)
 }
 
 // The finder after one update from this cursor.
 fn early_update(t: &mut [u32; 8192], f: ItemFinder, c: ItemIter) -> ItemFinder {
-    match stream_finder::update(t, f, c) {
+    match stream_finder::update(f, t, c) {
         FinderAnswer::Answered(g) => g,
         FinderAnswer::Refused(_) => f,
     }

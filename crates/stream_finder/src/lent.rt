@@ -1,16 +1,11 @@
-// The finder lent, by `&mut` as document 01 has it ("`update` changes the finder in place") and by `&`. Each function is thin over the one
-// by value. A caller of a lent form takes a proof by hand, so above each stands a function with plain parameters, `.._local`, which makes
-// the finder in a local and lends it: callers of that one are proved by search.
-ghost use mathlib.Core.Path.{_≡_};
-ghost use Rattle.stream_finder.specs.Finder.{state, maxIndexOf, findOf, saidFind};
-ghost use Rattle.stream_item.specs.Items.{indexIn};
+// The finder lent by `&mut`, as document 01 has it: "`update` changes the finder in place". Thin over the update by value. A caller of a lent form
+// takes a proof by hand, so above it stands a function with plain parameters, `update_local`, which makes the finder in a local and lends it:
+// callers of that one are proved by search.
+ghost use Rattle.stream_finder.specs.Finder.{state};
 ghost use Rattle.stream_finder.specs.Lent.{Updates};
-use crate::FindAnswer;
 use crate::FinderAnswer;
 use crate::ItemFinder;
 use answer::Refusal;
-use stream_item::ItemIndex;
-use stream_item::Stream;
 use stream_item::iter::ItemIter;
 
 // An update in place answers with no value; what it refuses it leaves as it was, finder and table.
@@ -29,7 +24,7 @@ pub struct UpdateStep {
 fn updated(f: ItemFinder, t: &mut [u32], c: ItemIter) -> UpdateStep
     ensures { λ u. ⌜ Updates (state f (now (t .entry))) c (u .answer) (state (u .finder) (now (t .exit))) ⌝ }
 {
-    match crate::update(t, f, c) {
+    match crate::update(f, t, c) {
         FinderAnswer::Answered(g) => UpdateStep {
             answer: UpdateAnswer::Answered,
             finder: g,
@@ -50,13 +45,6 @@ impl ItemFinder {
         *self = u.finder;
         u.answer
     }
-
-    // The record of an index, or the marker below the minimum, with the links passed on the way.
-    pub fn find(&self, s: &[u8], t: &[u32], i: ItemIndex) -> FindAnswer
-        ensures { λ r. ⌜ saidFind r ≡ findOf (now (s .entry)) (state (now (self .entry)) (now (t .entry))) i ⌝ }
-    {
-        crate::find(s, t, *self, i)
-    }
 }
 
 // Above `update`, with plain parameters.
@@ -66,27 +54,4 @@ pub fn update_local(f: ItemFinder, t: &mut [u32], c: ItemIter) -> UpdateStep
     let mut g = f;
     let answer = g.update(t, c);
     UpdateStep { answer, finder: g }
-}
-
-// Above `find`, with plain parameters.
-pub fn find_local(f: ItemFinder, s: &[u8], t: &[u32], i: ItemIndex) -> FindAnswer
-    ensures { λ r. ⌜ saidFind r ≡ findOf (now (s .entry)) (state f (now (t .entry))) i ⌝ }
-{
-    let g = f;
-    g.find(s, t, i)
-}
-
-// The highest index that the held places serve, in the finder's stream; the method of this name takes the finder by value.
-pub fn max_index(f: &ItemFinder, stream: Stream) -> ItemIndex
-    ensures { λ r. ⌜ r ≡ indexIn stream (maxIndexOf (now (f .entry))) ⌝ }
-{
-    (*f).max_index(stream)
-}
-
-// Above `max_index`, with plain parameters.
-pub fn max_index_local(f: ItemFinder, stream: Stream) -> ItemIndex
-    ensures { λ r. ⌜ r ≡ indexIn stream (maxIndexOf f) ⌝ }
-{
-    let g = f;
-    max_index(&g, stream)
 }

@@ -10,7 +10,6 @@
 pub mod lent;
 
 ghost use mathlib.Core.Path.{_≡_};
-ghost use Rattle.stream_item.specs.Items.{indexIn};
 ghost use Rattle.stream_item.specs.declared.ItemIndex.the-variants as index;
 ghost use Rattle.stream_finder.specs.Finder.{state, begunOf, createOf, updateOf, Leaves, maxIndexOf, findOf, saidFind};
 use answer::Refusal;
@@ -22,7 +21,6 @@ use stream_header::LONGEST;
 use stream_item::Entry;
 use stream_item::Item;
 use stream_item::ItemIndex;
-use stream_item::Stream;
 use stream_item::iter::ItemIter;
 use stream_item::link::Hit;
 
@@ -88,7 +86,7 @@ fn begun(t: &mut [u32], h: Header) -> FinderAnswer
 }
 
 // The finder after an iterator came to a record: it holds the record's place if that starts the next block.
-pub fn update(t: &mut [u32], f: ItemFinder, c: ItemIter) -> FinderAnswer
+pub fn update(f: ItemFinder, t: &mut [u32], c: ItemIter) -> FinderAnswer
     ensures { λ r. ⌜ Leaves (now (t .entry)) (updateOf (state f (now (t .entry))) c) r (now (t .exit)) ⌝ }
 {
     let at = c.at;
@@ -143,13 +141,7 @@ impl ItemFinder {
         top as u32
     }
 
-    // The highest index that the held places serve, in the finder's stream: of what is below it some may still be past the stream's end.
-    pub fn max_index(self, stream: Stream) -> ItemIndex
-        ensures { λ r. ⌜ r ≡ indexIn stream (maxIndexOf self) ⌝ }
-    {
-        stream.index(self.highest())
-    }
-
+    // The highest index that the held places serve: of what is below it some may still be past the stream's end.
     pub fn max_type_index(self) -> TypeIndex
         ensures { λ r. ⌜ r .0 ≡ maxIndexOf self ⌝ }
     {
@@ -178,7 +170,7 @@ pub fn find_id(s: &[u8], t: &[u32], f: ItemFinder, i: IdIndex) -> FindAnswer
 }
 
 // The record of an index, or the marker below the minimum, with the links passed on the way.
-pub fn find(s: &[u8], t: &[u32], f: ItemFinder, i: ItemIndex) -> FindAnswer
+fn find(s: &[u8], t: &[u32], f: ItemFinder, i: ItemIndex) -> FindAnswer
     ensures { λ r. ⌜ saidFind r ≡ findOf (now (s .entry)) (state f (now (t .entry))) i ⌝ }
 {
     let minimum = f.minimum_index;

@@ -41,7 +41,7 @@ pub fn turn(s: &[u8], t: &mut [u32], f: ItemFinder, c: ItemIter) -> TurnAnswer
     ensures { λ r. ⌜ Leads (now (t .entry)) (turnOf (now (s .entry)) (state f (now (t .entry))) c) r (now (t .exit)) ⌝ }
 {
     match iter::next(s, c) {
-        NextAnswer::Yielded(_, d) => match stream_finder::update(t, f, d) {
+        NextAnswer::Yielded(_, d) => match stream_finder::update(f, t, d) {
             FinderAnswer::Answered(g) => TurnAnswer::Moved(g, d),
             FinderAnswer::Refused(e) => TurnAnswer::Refused(e),
         },

@@ -2,7 +2,6 @@
 ghost use mathlib.Core.Path.{_≡_};
 ghost use Prim.Native.Nat.{_+_, _≤_, _<_};
 ghost use Rattle.answer.specs.Answer.{answered};
-ghost use Rattle.stream_item.specs.declared.Stream.the-variants as stream;
 ghost use Rattle.stream_item.specs.Iterator.{iterOf, saidIter, overRecord, nextOf, saidNext};
 use crate::Item;
 use crate::Stream;
@@ -29,20 +28,6 @@ pub enum NextAnswer {
     Done,
     Yielded(Item, ItemIter),
     Refused(Refusal),
-}
-
-// A fresh iterator over the TPI stream.
-pub fn types(s: &[u8]) -> IterAnswer
-    ensures { λ r. ⌜ saidIter r ≡ iterOf stream.Types (now (s .entry)) ⌝ }
-{
-    iter(Stream::Types, s)
-}
-
-// A fresh iterator over the IPI stream.
-pub fn ids(s: &[u8]) -> IterAnswer
-    ensures { λ r. ⌜ saidIter r ≡ iterOf stream.Ids (now (s .entry)) ⌝ }
-{
-    iter(Stream::Ids, s)
 }
 
 // A fresh iterator over a stream: it stands behind the header, at the minimum index.

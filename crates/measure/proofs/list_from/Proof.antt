@@ -15,8 +15,8 @@ loop-holds c = search needs
 sub-turns : tie.Need-sub-turns Inv-loop μ-loop
 sub-turns c = search needs
 
-next-of-requires : tie.Need-next-of-requires Inv-loop μ-loop
-next-of-requires c κs = search needs
+step-requires : tie.Need-step-requires Inv-loop μ-loop
+step-requires c κs = search needs
 
 enum-known-e : tie.Need-enum-known-e Inv-loop μ-loop
 enum-known-e c = search needs
@@ -50,7 +50,7 @@ list-from-spec =
     μ-loop
     loop-holds
     sub-turns
-    next-of-requires
+    step-requires
     enum-known-e
     element-requires
     add-requires
