@@ -45,24 +45,10 @@ use Rattle.claim_model.specs.TpiWords.{packed, constructors, overloaded-
 use Rattle.claim_model.specs.TpiHelpers.{parse-optional-type-index, parse-optional-id-index, parse-string, parse-padding, is-cross-module}
 use Rattle.claim_model.specs.TpiId.{parse-id}
 use Rattle.claim_model.specs.Equal.{Equal, Same, Replaced, Stepwise, shownBy}
-use Rattle.claim_model.specs.Shown.{information, iterShown, nextShown, finderShown, entryShown, unlinked, Roomy, CanStand, readShown, textShown, primitiveShown, idShown, idAnswerShown}
-use Rattle.claim_model.specs.HeaderEqual.{header}
-use Rattle.claim_model.specs.NextEqual.{next-alike}
-use Rattle.claim_model.specs.CreateEqual.{first, iter-equal, create-equal}
-use Rattle.claim_model.specs.UpdateEqual.{update-equal}
-use Rattle.claim_model.specs.FindEqual.{max-equal, find-equal}
-use Rattle.claim_model.specs.Run.{Lent, RunsEqual}
-use Rattle.claim_model.specs.RunEqual.{run-equal}
-use Rattle.claim_model.specs.RunStays.{RunsSame, run-same}
+use Rattle.claim_model.specs.Shown.{information, iterShown, nextShown, finderShown, entryShown, unlinked, Roomy, CanStand, readShown, textShown, primitiveShown, idShown, idAnswerShown, first, Within}
+use Rattle.claim_model.specs.EntryShown.{listed, asElement, asId, asPrimitive}
+use Rattle.claim_model.specs.Run.{Lent, RunsEqual, RunsSame}
 use Rattle.claim_model.specs.Course.{CoursesEqual}
-use Rattle.claim_model.specs.CourseEqual.{course-equal}
-use Rattle.claim_model.specs.ItemsEqual.{Within, len-same, is-empty-same, item-len-is, item-is-empty-is, raw-kind-equal}
-use Rattle.claim_model.specs.PrimitiveEqual.{primitive-same, primitive-equal}
-use Rattle.claim_model.specs.WordsEqual.{properties, hfa-is, mocom-is, access-is, method-properties-is, methods, calling-convention-is, functions, pointers, kind-is, mode-is, to-member-is, reference-is, size-is}
-use Rattle.claim_model.specs.HelpersEqual.{optional-type, optional-id, string, padding, cross-module}
-use Rattle.claim_model.specs.IdEqual.{id-same, id-answers}
-use Rattle.claim_model.specs.ListEqual.{listed, asElement, build-elements, string-elements}
-use Rattle.claim_model.specs.ParseEqual.{asId, asPrimitive, id-items, type-items}
 
 -- these methods of a word give these bits of it, for every word
 abbrev Flags : List (ℕ → Bool) → List ℕ → Type 0
@@ -135,49 +121,3 @@ pub record Demand2 : Type 0 where
   -- "`Vec` lists become a place and a count, or the reader": element k of the two counted id lists is the crate's, 15 where its `Vec` has none
   pub build-arguments : (s : List ℕ) → le 2 s 0 ≡ 0x1603 → (k : ℕ) → Same (_>>=_ (parse-id s) λ d. gives (getElem? (listed d) k)) (asElement (elementIdsOf s k))
   pub substrings : (s : List ℕ) → le 2 s 0 ≡ 0x1604 → (k : ℕ) → Same (_>>=_ (parse-id s) λ d. gives (getElem? (listed d) k)) (asElement (elementIdsOf s k))
-
-pub demand2 : Demand2
-demand2 = record {
-  headers = header;
-  counts = len-same;
-  empties = is-empty-same;
-  starts = iter-equal;
-  steps = next-alike;
-  lengths = item-len-is;
-  none-long = item-is-empty-is;
-  raw-kinds = raw-kind-equal;
-  creations = create-equal;
-  updates = update-equal 3;
-  lookups = find-equal 3;
-  highest = max-equal 3;
-  runs = run-equal;
-  reach = run-same;
-  courses = course-equal;
-  primitives = primitive-same;
-  every-primitive = primitive-equal;
-  optional-types = optional-type;
-  optional-ids = optional-id;
-  cross-modules = cross-module;
-  type-flags = properties;
-  hfas = hfa-is;
-  mocoms = mocom-is;
-  accesses = access-is;
-  method-fields = method-properties-is;
-  method-kinds = methods;
-  conventions = calling-convention-is;
-  function-flags = functions;
-  pointer-flags = pointers;
-  pointer-kinds = kind-is;
-  pointer-modes = mode-is;
-  members = to-member-is;
-  references = reference-is;
-  pointer-sizes = size-is;
-  strings = string;
-  paddings = padding;
-  ids = id-same;
-  id-data = id-answers;
-  type-items = type-items;
-  id-items = id-items;
-  build-arguments = build-elements;
-  substrings = string-elements;
-}

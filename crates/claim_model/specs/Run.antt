@@ -1,10 +1,12 @@
 -- A whole use, in the crate and in the port: the header, a fresh finder, a fresh iterator, at most n records with an update behind each, then
 -- one lookup.
-use Prim.Native.Nat.{ℕ, zero, suc, _≤_}
+use Prim.Native.Nat.{ℕ, zero, suc, _+_, _*_, _≤_, _<_}
+use mathlib.Core.Path.{_≡_}
 use mathlib.Core.List.{List}
 use lib.ListN.{length}
 use Rattle.answer.specs.Answer.{Answer, answered, then}
-use Rattle.stream_header.specs.Header.{longest}
+use Rattle.stream_header.specs.Header.{longest, headerOf}
+use Rattle.stream_header.specs.declared.Header.{Header}
 use Rattle.stream_item.specs.Items.{indexIn}
 use Rattle.stream_item.specs.Iterator.{iterOf, Next, done, yielded, nextOf}
 use Rattle.stream_item.specs.declared.Stream.{Stream}
@@ -14,7 +16,7 @@ use Rattle.claim_model.specs.Rust.{Rust, _>>=_}
 use Rattle.claim_model.specs.ParseBuffer.{Bytes}
 use Rattle.claim_model.specs.TpiHeader.{parse-information}
 use Rattle.claim_model.specs.TpiItems.{Item, iter, finder, tour, find}
-use Rattle.claim_model.specs.Equal.{Equal}
+use Rattle.claim_model.specs.Equal.{Equal, Same}
 use Rattle.claim_model.specs.Shown.{unlinked, Roomy}
 
 unfoldable pub crateRun : List ℕ → ℕ → ℕ → Rust Item
@@ -53,3 +55,10 @@ unfoldable pub RunsEqual : Type 0
 RunsEqual =
     (tag : Stream) (s t : List ℕ) (n i : ℕ) → Lent s → Roomy (portRun tag s t n i)
     → Equal (crateRun s n i) (unlinked s (portRun tag s t n i))
+
+-- and how far the domain reaches: where eight times one more than the turns, and the minimum, fit a u32, the crate's run neither panics nor wraps
+unfoldable pub RunsSame : Type 0
+RunsSame =
+    (tag : Stream) (s t : List ℕ) (n i : ℕ) → Lent s → Roomy (portRun tag s t n i)
+    → ((h : Header) → headerOf s ≡ answered h → h .«minimum_index» + 8 * (1 + n) < 4294967296)
+    → Same (crateRun s n i) (unlinked s (portRun tag s t n i))

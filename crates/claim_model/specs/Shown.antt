@@ -10,6 +10,7 @@ use Rattle.field.specs.Fields.{le}
 use Rattle.field_text.specs.Texts.{Part}
 use Rattle.stream_item.specs.Items.{numberIn as indexShown}
 use Rattle.stream_item.specs.Iterator.{Next, done, yielded}
+use Rattle.stream_item.specs.declared.Stream.{Stream}
 use Rattle.stream_item.specs.declared.Item.{Item as PortItem}
 use Rattle.stream_item.specs.declared.Entry.{Entry}
 use Rattle.stream_item.specs.declared.Entry.the-variants.{Record, Marker}
@@ -81,6 +82,10 @@ entryShown s (Marker i) = record { index = indexShown i; bytes = PRIMITIVE-TYPE 
 abbrev pub iterShown : List ℕ → PortIter → ItemIter
 iterShown s c = record { buf = at s (c .at); index = c .index }
 
+-- the cursor behind the header
+abbrev pub first : Stream → PortHeader → PortIter
+first tag h = record { stream = tag; at = h .«header_size»; index = h .«minimum_index» }
+
 abbrev pub nextShown : List ℕ → PortIter → Next → Option Item × ItemIter
 nextShown s c done = (none, iterShown s c)
 nextShown s c (yielded i d) = (some (itemShown s i), iterShown s d)
@@ -109,6 +114,11 @@ pub record CanStand (s : List ℕ) (c : PortIter) : Type 0 where
   pub short : length s ≤ longest
   pub inside : c .at ≤ length s
   pub index : c .index ≤ 4294967295
+
+-- an item lies in its stream, as a slice of it does
+abbrev pub Within : List ℕ → Entry → Type 0
+Within s (Record i) = i .place + i .length ≤ length s
+Within s (Marker i) = Unit
 
 -- ---- primitives
 -- the port's Direct is the crate's None

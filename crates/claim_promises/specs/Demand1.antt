@@ -9,10 +9,9 @@ use mathlib.Core.Path.{_≡_}
 use mathlib.Core.List.{List, [], _∷_}
 use Rattle.answer.specs.Answer.{refused}
 use Rattle.answer.specs.Refusals.{numberOf, detailsOf, listed}
-use Rattle.answer.specs.OneOutcome.{in-table}
 use Rattle.answer.specs.declared.Refusal.{Refusal}
 use Rattle.field.specs.Fields.{fixedAt, signedAt}
-use Rattle.field.specs.Indices.{noType, noId, optionalAt}
+use Rattle.field.specs.Indices.{optionalAt}
 use Rattle.field_text.specs.Texts.{stringAt, countedStringAt, stringOf, bytesAfter, paddingAfter}
 use Rattle.field_number.specs.Numbers.{numericAt, sizeAt}
 use Rattle.word_primitive.specs.Primitive.{primitiveOf}
@@ -43,9 +42,6 @@ use Rattle.record_list.specs.declared.IdElementAnswer.{IdElementAnswer}
 use Rattle.record_reader.specs.Reader.{Steps, StepsIds}
 use Rattle.record_parse.specs.Record.{parseOf}
 use Rattle.claim_promises.specs.ByTable.{Refuses, FindRefuses}
-use Rattle.claim_promises.specs.ReadingRefuses.{fixed-refuses, signed-refuses, optional-refuses, string-refuses, counted-refuses, string-of-refuses, bytes-refuses, padding-refuses, numeric-refuses, size-refuses}
-use Rattle.claim_promises.specs.StreamRefuses.{primitive-refuses, kind-refuses, mode-refuses, to-member-refuses, reference-refuses, pointer-size-refuses, header-refuses, iter-refuses, len-refuses, is-empty-refuses, next-refuses, view-refuses, raw-kind-refuses, create-refuses, update-refuses, find-refuses, turn-refuses, type-refuses, id-refuses, member-refuses, method-refuses, start-refuses, start-ids-refuses, step-refuses, step-ids-refuses, element-by-refuses, element-refuses, element-ids-refuses, parse-refuses}
-use Rattle.claim_promises.specs.LeftAlone.{leaves-alone, changes-nothing, leads-nowhere, steps-nowhere, steps-ids-nowhere}
 
 pub record Demand1 : Type 0 where
   -- "Numbers a caller gets back": every case of the enum `Refusal`, which is all that a refused answer holds, is a line of the table
@@ -113,55 +109,3 @@ pub record Demand1 : Type 0 where
   pub step-leaves : (s : List ℕ) (c : ListCursor) (r : ElementAnswer) (c′ : ListCursor) (n : ℕ) (d : List ℕ) → Steps c (stepOf s c) r c′ → saidElement r ≡ refused n d → c′ ≡ c
   pub id-step-leaves : (s : List ℕ) (c : ListCursor) (r : IdElementAnswer) (c′ : ListCursor) (n : ℕ) (d : List ℕ)
       → StepsIds c (stepIdsOf s c) r c′ → saidElementIds r ≡ refused n d → c′ ≡ c
-
-pub demand1 : Demand1
-demand1 = record {
-  table = in-table;
-  fields = fixed-refuses;
-  signed-fields = signed-refuses;
-  optional-indices = optional-refuses;
-  strings = string-refuses;
-  counted-strings = counted-refuses;
-  strings-by-leaf = string-of-refuses;
-  runs = bytes-refuses;
-  paddings = padding-refuses;
-  numbers = numeric-refuses;
-  sizes = size-refuses;
-  primitives = primitive-refuses;
-  pointer-kinds = kind-refuses;
-  pointer-modes = mode-refuses;
-  pointers-to-members = to-member-refuses;
-  references = reference-refuses;
-  pointer-sizes = pointer-size-refuses;
-  headers = header-refuses;
-  counts = len-refuses;
-  empties = is-empty-refuses;
-  iterators = iter-refuses;
-  nexts = next-refuses;
-  views = view-refuses;
-  raw-kinds = raw-kind-refuses;
-  creations = create-refuses;
-  updates = update-refuses;
-  finds = find-refuses;
-  turns = turn-refuses;
-  types = type-refuses;
-  ids = id-refuses;
-  members = member-refuses;
-  methods = method-refuses;
-  entries = parse-refuses;
-  starts = start-refuses;
-  id-starts = start-ids-refuses;
-  steps = step-refuses;
-  id-steps = step-ids-refuses;
-  elements-on = λ s. element-by-refuses _ (stepOf s) (step-refuses s);
-  id-elements-on = λ s. element-by-refuses _ (stepIdsOf s) (step-ids-refuses s);
-  elements = element-refuses;
-  id-elements = element-ids-refuses;
-  create-leaves = λ s t. leaves-alone t (createOf s t);
-  update-leaves = λ f t c. leaves-alone t (updateOf (state f t) c);
-  turn-leaves = λ s f t c. leads-nowhere t (turnOf s (state f t) c);
-  walk-leaves = λ tag s t e t′ h. h .1;
-  lent-update-leaves = λ σ c. changes-nothing σ (updateOf σ c);
-  step-leaves = λ s c. steps-nowhere c (stepOf s c);
-  id-step-leaves = λ s c. steps-ids-nowhere c (stepIdsOf s c);
-}

@@ -1,23 +1,23 @@
 -- What is promised, in one place: the customer's three demands, document 01's examples, and that every contract admits one outcome.
+-- `demands : Demands` (proofs/Demands.antt) is its proof.
 use mathlib.Core.Path.{_≡_}
 use mathlib.Core.List.{map}
-use Rattle.claim_model.specs.Demand2.{Demand2, demand2}
+use Rattle.claim_model.specs.Demand2.{Demand2}
 use Rattle.stream_finder.specs.Demand.{Demand3, NotIndexed}
-use Rattle.stream_finder.proofs.DemandProof.{demand3, not-indexed}
-use Rattle.claim_promises.specs.Demand1.{Demand1, demand1}
-use Rattle.claim_promises.specs.Examples.{examples, asked, given, examples-hold}
-use Rattle.claim_promises.specs.OneOutcome.{OneOutcome, one-outcome}
+use Rattle.claim_promises.specs.Demand1.{Demand1}
+use Rattle.claim_promises.specs.Examples.{examples, asked, given}
+use Rattle.claim_promises.specs.OneOutcome.{OneOutcome}
 
 pub record Demands : Type 1 where
   -- "Every byte string and every number is answered or refused by document 01's table. A refusal gives nothing but its number and named detail,
   -- and all lent memory stays unchanged." Demand1.antt
   pub first : Demand1
-  -- "Header, iteration, finding, ids, primitives and attribute words equal the crate's on the domain in 01": crates/model/specs/Demand2.antt.
+  -- "Header, iteration, finding, ids, primitives and attribute words equal the crate's on the domain in 01": crates/claim_model/specs/Demand2.antt.
   -- "Type leaves equal 01's layouts" is the contracts of `type_data`, `member_at` and the lists, which cite the tables of
-  -- crates/layout/specs/Layouts.antt
+  -- crates/record_layout/specs/Layouts.antt
   pub second : Demand2
   -- "Take an accepted stream counting at least one record, .. A lookup .. at distance d .. gives link d of the chain counted by lengths alone,
-  -- having skipped d mod 8 links, or 'ended' if that chain breaks first": crates/finder/specs/Demand.antt
+  -- having skipped d mod 8 links, or 'ended' if that chain breaks first": crates/stream_finder/specs/Demand.antt
   pub third : Demand3
   -- "is 'not indexed' exactly if d/8 exceeds N/8, both rounded down"
   pub exactly-if : NotIndexed
@@ -25,6 +25,3 @@ pub record Demands : Type 1 where
   pub shown : map asked examples ≡ map given examples
   -- "For each, show that the contract admits one outcome": OneOutcome.antt
   pub one : OneOutcome
-
-pub demands : Demands
-demands = record { first = demand1; second = demand2; third = demand3; exactly-if = not-indexed; shown = examples-hold; one = one-outcome }

@@ -1,20 +1,16 @@
 -- Document 01, "Examples": those marked P, together as one statement over their list, of the definitions that the contracts cite.
--- Assumes nothing.
-use Prim.Native.Nat.{ℕ, zero, suc, _+_, _%_, _/_}
-use mathlib.Core.Path.{_≡_, refl}
-use mathlib.Core.List.{List, [], _∷_, map}
+-- `map asked examples ≡ map given examples` says that every line holds; proofs/Examples.antt shows it.
+use Prim.Native.Nat.{ℕ, zero, suc, _+_}
+use mathlib.Core.List.{List, [], _∷_}
 use lib.ListN.{take}
 use Rattle.answer.specs.Answer.{Answer, answered, refused, then}
-use Rattle.answer.specs.Tables.{find}
-use Rattle.field.specs.Fields.{le}
-use Rattle.field_text.specs.Texts.{pad, paddingAfter}
-use Rattle.word_primitive.specs.Kinds.{kinds, indirections}
+use Rattle.field_text.specs.Texts.{paddingAfter}
 use Rattle.word_primitive.specs.Primitive.{primitiveOf}
 use Rattle.word_primitive.specs.declared.PrimitiveKind.{PrimitiveKind}
 use Rattle.word_primitive.specs.declared.PrimitiveKind.the-variants.{I32}
 use Rattle.word_primitive.specs.declared.Indirection.{Indirection}
 use Rattle.word_primitive.specs.declared.Indirection.the-variants.{Near64}
-use Rattle.word_attributes.specs.Pointers.{pointerKinds, pointerModes, kindOf, modeOf, sizeOf}
+use Rattle.word_attributes.specs.Pointers.{kindOf, modeOf, sizeOf}
 use Rattle.word_attributes.specs.declared.PointerKind.{PointerKind}
 use Rattle.word_attributes.specs.declared.PointerKind.the-variants.{Ptr64}
 use Rattle.word_attributes.specs.declared.PointerMode.{PointerMode}
@@ -22,12 +18,11 @@ use Rattle.word_attributes.specs.declared.PointerMode.the-variants.{Pointer}
 use Rattle.stream_header.specs.Header.{headerOf}
 use Rattle.stream_header.specs.Examples.{four, headerE, streamE}
 use Rattle.stream_item.specs.Items.{indexIn, numberIn}
-use Rattle.stream_item.specs.Links.{linkAt, chain, linkOf}
 use Rattle.stream_item.specs.Iterator.{iterOf, Next, done, yielded, nextOf}
 use Rattle.stream_item.specs.declared.Stream.the-variants.{Types}
 use Rattle.stream_item.specs.declared.Entry.{Entry}
 use Rattle.stream_item.specs.declared.Entry.the-variants as entry
-use Rattle.stream_finder.specs.Finder.{begunBy, createBy, maxIndexBy, lookBy, createOf, findOf}
+use Rattle.stream_finder.specs.Finder.{createOf, findOf}
 
 -- what is asked: an entry and its input
 pub data Asked : Type 0 where
@@ -125,8 +120,3 @@ asked (a gives r) = outcome a
 
 abbrev pub given : Example → Answer Shown
 given (a gives r) = r
-
--- every line holds
-pub examples-hold : map asked examples ≡ map given examples
-unfolding examples iterOf headerOf nextOf le createBy begunBy lookBy linkOf chain linkAt maxIndexBy kindOf modeOf sizeOf find pointerKinds pointerModes paddingAfter pad primitiveOf kinds indirections
-examples-hold = refl

@@ -9,38 +9,18 @@ use native.Mathlib.Omega.{arith}
 use lib.ListN.{length, getElem?}
 use lib.Dec.{eqb}
 use borrow.Author.Tests.{le-ltb, lt-ltb, ne-eqb}
-use Rattle.answer.specs.Answer.{Answer, answered, refused, pick}
+use Rattle.answer.specs.Answer.{Answer, answered, refused}
 use Rattle.field.specs.Fields.{le}
 use Rattle.field_text.specs.Texts.{Part, bytesAfter}
 use Rattle.record_layout.specs.Fields.{Value, number, readField, readFields}
-use Rattle.record_layout.specs.OneOutcome.{nth, numberIn}
-use Rattle.record_list.specs.Lists.{Entry, typeEntry, idEntry, methodEntry, memberEntry, inCounted, elementsAt, counted, startIdsOf, countedStep, stepIdsOf, elementBy, elementIdsOf}
+use Rattle.record_list.specs.Lists.{Entry, typeEntry, idEntry, inCounted, elementsAt, counted, startIdsOf, countedStep, stepIdsOf, elementBy, elementIdsOf}
 use Rattle.claim_model.specs.Rust.{gives, _>>=_, match}
-use Rattle.claim_model.specs.TpiId.{IdData, Function, MemberFunction, BuildInfo, StringList, String, UserDefinedTypeSource, build-info, string-list, by-leaf, try-from-ctx, parse-id}
+use Rattle.claim_model.specs.TpiId.{build-info, string-list, by-leaf, try-from-ctx, parse-id}
 use Rattle.claim_model.specs.Equal.{Same}
 use Rattle.claim_model.specs.Shown.{elements}
-use Rattle.claim_model.specs.BufferLaws.{parse-in, parse-out, fixed-in, fixed-out, same, same-end, by-order}
-use Rattle.claim_model.specs.IdEqual.{pushed-in, pushed-out}
-
--- the crate's `Vec` of an id list
-abbrev pub listed : IdData → List ℕ
-listed (BuildInfo l) = l
-listed (StringList l) = l
-listed (Function r) = []
-listed (MemberFunction r) = []
-listed (String r) = []
-listed (UserDefinedTypeSource r) = []
-
--- an element's number; 15 is `None`
-abbrev pub entryNumber : Entry → ℕ
-entryNumber (typeEntry vs) = numberIn (nth 0 vs)
-entryNumber (idEntry vs) = numberIn (nth 0 vs)
-entryNumber (methodEntry vs) = numberIn (nth 0 vs)
-entryNumber (memberEntry vs) = numberIn (nth 0 vs)
-
-abbrev pub asElement : Answer Entry → Answer (Option ℕ)
-asElement (answered x) = answered (some (entryNumber x))
-asElement (refused n d) = pick (eqb n 15) (answered none) (refused n d)
+use Rattle.claim_model.specs.EntryShown.{listed, asElement}
+use Rattle.claim_model.proofs.BufferLaws.{parse-in, parse-out, fixed-in, fixed-out, same, same-end, by-order}
+use Rattle.claim_model.proofs.IdEqual.{pushed-in, pushed-out}
 
 -- what the reader gives for an element of a list, or past its end
 abbrev chosen : (List (Value Part) → Entry) → Option ℕ → Answer Entry

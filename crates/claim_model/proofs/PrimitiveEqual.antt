@@ -17,8 +17,8 @@ use Rattle.claim_model.specs.Rust.{Rust, gives, errs, _>>=_, match, Type
 use Rattle.claim_model.specs.TpiPrimitive.{indirection-arms, kind-arms, type-data-for-primitive}
 use Rattle.claim_model.specs.Equal.{Equal, Same, shownBy}
 use Rattle.claim_model.specs.Shown.{pointed, primitiveShown}
-use Rattle.claim_model.specs.BufferLaws.{equal-panics, by-order}
-use Rattle.claim_model.specs.Agree.{agree}
+use Rattle.claim_model.proofs.BufferLaws.{equal-panics, by-order}
+use Rattle.claim_model.proofs.Agree.{agree}
 
 -- what the port's lists have, in the crate's words
 abbrev found : {A B : Type 0} → (A → B) → Rust B → Option A → Rust B

@@ -16,7 +16,8 @@ use Rattle.field_text.specs.Texts.{toZero, partOr, stringAt, bytesAfter, counte
 use Rattle.field_number.specs.Numbers.{Wide, signed, unsigned, prefixes, unsignedAt, wideAt, numericAt, natural, sizeAt}
 use Rattle.record_layout.specs.Fields.{Field, fixed, type, optionalType, optionalId, word, gap, numeric, size, string, run, when, bytesOf, wordAfter, readField, readFields}
 use Rattle.record_layout.specs.Layouts.{Layout, Table, class as classLayout, kind, mode, typeLeaves, memberLeaves, method, idLeaves, byLayout, readLeaf, readRecord, leafOf, recordOf}
-use Rattle.claim_promises.specs.ByTable.{fits, gives, refuses, by-pick, by-stop, by-then, within, wider, Refuses}
+use Rattle.claim_promises.specs.ByTable.{fits, gives, refuses, Refuses}
+use Rattle.claim_promises.proofs.ByTable.{by-pick, by-stop, by-then, within, wider}
 
 -- Fields, strings, padding: 1
 

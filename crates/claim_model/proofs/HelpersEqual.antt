@@ -21,8 +21,8 @@ use Rattle.claim_model.specs.ParseBuffer.{ParseBuffer, at, Bytes, beyond
 use Rattle.claim_model.specs.TpiHelpers.{parse-optional-type-index, parse-optional-id-index, parse-string, pad-byte, padding-loop, parse-padding, is-cross-module}
 use Rattle.claim_model.specs.Equal.{Same, shownBy}
 use Rattle.claim_model.specs.Shown.{readShown, textShown}
-use Rattle.claim_model.specs.BufferLaws.{some-left, none-left, parse-in, parse-out, peek-in, fixed-in, fixed-out, take-in, take-out, same, same-end, by-order}
-use Rattle.claim_model.specs.WordsEqual.{flag}
+use Rattle.claim_model.proofs.BufferLaws.{some-left, none-left, parse-in, parse-out, peek-in, fixed-in, fixed-out, take-in, take-out, same, same-end, by-order}
+use Rattle.claim_model.proofs.WordsEqual.{flag}
 
 module _ (s : List ℕ) where
   -- ---- optional indices

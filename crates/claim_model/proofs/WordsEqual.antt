@@ -24,7 +24,7 @@ use Rattle.word_attributes.specs.declared.PointerMode.the-variants.{Pointer, LV
 use Rattle.claim_model.specs.Rust.{Rust, gives, errs, panics, wraps, _>>=_, if, not, or, match, as-u8}
 use Rattle.claim_model.specs.TpiWords.{set, packed, constructors, overloaded-operators, is-nested-type, contains-nested-types, overloaded-assignment, overloaded-casting, forward-reference, scoped-definition, has-unique-name, sealed, intrinsic-type, hfa, mocom, access, method-properties, is-static, is-virtual, is-pure-virtual, is-intro-virtual, calling-convention, cxx-return-udt, is-constructor, is-constructor-with-virtual-bases, kind-arms, pointer-kind, mode-arms, pointer-mode, of-member, pointer-to-member, is-flat-32, is-volatile, is-const, is-unaligned, is-restrict, is-mocom, of-reference, is-reference, size-by-kind, pointer-size}
 use Rattle.claim_model.specs.Equal.{Replaced}
-use Rattle.claim_model.specs.Agree.{agree}
+use Rattle.claim_model.proofs.Agree.{agree}
 
 -- ---- a flag
 alone : (k w : ℕ) → bitAnd w (2 ^ k) ≡ w / 2 ^ k % 2 * 2 ^ k

@@ -24,10 +24,10 @@ use Rattle.claim_model.specs.ParseBuffer.{at, take, if-some}
 use Rattle.claim_model.specs.TpiItems.{Item, ItemFinder, PRIMITIVE-TYPE, max-index, hit, miss, find}
 use Rattle.claim_model.specs.Equal.{Equal, Stays, Same}
 use Rattle.claim_model.specs.Shown.{itemShown, finderShown, unlinked}
-use Rattle.claim_model.specs.BufferLaws.{take-in, take-out, equal-wraps, same-gives, same-errs, by-order}
-use Rattle.claim_model.specs.Compose.{unlinked-numbered, bind-equal, stays-bind}
-use Rattle.claim_model.specs.UpdateEqual.{resolve-in}
-use Rattle.claim_model.specs.LinkEqual.{read-whole, read-broken, skipped-chain}
+use Rattle.claim_model.proofs.BufferLaws.{take-in, take-out, equal-wraps, same-gives, same-errs, by-order}
+use Rattle.claim_model.proofs.Compose.{unlinked-numbered, bind-equal, stays-bind}
+use Rattle.claim_model.proofs.UpdateEqual.{resolve-in}
+use Rattle.claim_model.proofs.LinkEqual.{read-whole, read-broken, skipped-chain}
 
 -- ---- a place of the `Vec`
 get-in : (l : List ℕ) (i : ℕ) → i < length l → getElem? l i ≡ some (getD l i 0)

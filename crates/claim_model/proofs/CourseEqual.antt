@@ -20,15 +20,15 @@ use Rattle.claim_model.specs.ParseBuffer.{if-some}
 use Rattle.claim_model.specs.TpiHeader.{parse-information}
 use Rattle.claim_model.specs.TpiItems.{iter, finder, next, update, find}
 use Rattle.claim_model.specs.Equal.{Equal}
-use Rattle.claim_model.specs.Shown.{information, iterShown, nextShown, finderShown, unlinked, Roomy, CanStand}
-use Rattle.claim_model.specs.Compose.{unlinked-numbered, bind-equal, roomy-first, roomy-then}
-use Rattle.claim_model.specs.HeaderEqual.{header}
-use Rattle.claim_model.specs.NextEqual.{number-in, next-equal}
-use Rattle.claim_model.specs.CreateEqual.{first, iter-equal, create-equal}
-use Rattle.claim_model.specs.UpdateEqual.{update-equal}
-use Rattle.claim_model.specs.FindEqual.{find-equal}
+use Rattle.claim_model.specs.Shown.{information, iterShown, nextShown, finderShown, unlinked, Roomy, CanStand, first}
+use Rattle.claim_model.proofs.Compose.{unlinked-numbered, bind-equal, roomy-first, roomy-then}
+use Rattle.claim_model.proofs.HeaderEqual.{header}
+use Rattle.claim_model.proofs.NextEqual.{number-in, next-equal}
+use Rattle.claim_model.proofs.CreateEqual.{iter-equal, create-equal}
+use Rattle.claim_model.proofs.UpdateEqual.{update-equal}
+use Rattle.claim_model.proofs.FindEqual.{find-equal}
 use Rattle.claim_model.specs.Run.{Lent}
-use Rattle.claim_model.specs.RunEqual.{Accepted, accepted, created-ind, updated-ind, Stood, stood}
+use Rattle.claim_model.proofs.RunEqual.{Accepted, accepted, created-ind, updated-ind, Stood, stood}
 use Rattle.claim_model.specs.Course.{Action, begins, steps, updates, crateUses, crateCourse, behind, portUses, portCourse, CoursesEqual}
 
 -- ---- lists of iterators

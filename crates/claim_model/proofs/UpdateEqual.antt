@@ -19,7 +19,7 @@ use Rattle.claim_model.specs.Rust.{gives, wraps, and, as-u32}
 use Rattle.claim_model.specs.TpiItems.{ItemFinder, resolve, update}
 use Rattle.claim_model.specs.Equal.{Equal, Same, shownBy}
 use Rattle.claim_model.specs.Shown.{iterShown, finderShown, Roomy}
-use Rattle.claim_model.specs.BufferLaws.{equal-wraps, same-gives, by-order}
+use Rattle.claim_model.proofs.BufferLaws.{equal-wraps, same-gives, by-order}
 
 -- ---- resolve
 module _ (f : ItemFinder) (i : ℕ) where

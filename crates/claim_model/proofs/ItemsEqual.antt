@@ -24,12 +24,12 @@ use Rattle.claim_model.specs.Rust.{gives, _>>=_}
 use Rattle.claim_model.specs.TpiHeader.{parse-information}
 use Rattle.claim_model.specs.TpiItems.{item-len, item-is-empty, raw-kind, information-len, information-is-empty}
 use Rattle.claim_model.specs.Equal.{Equal, Same}
-use Rattle.claim_model.specs.Shown.{information, entryShown}
-use Rattle.claim_model.specs.BufferLaws.{equal-panics, same-gives, by-order}
-use Rattle.claim_model.specs.Compose.{bind-same}
-use Rattle.claim_model.specs.HeaderEqual.{header}
+use Rattle.claim_model.specs.Shown.{information, entryShown, Within}
+use Rattle.claim_model.proofs.BufferLaws.{equal-panics, same-gives, by-order}
+use Rattle.claim_model.proofs.Compose.{bind-same}
+use Rattle.claim_model.proofs.HeaderEqual.{header}
 use Rattle.claim_model.specs.Run.{Lent}
-use Rattle.claim_model.specs.RunEqual.{accepted}
+use Rattle.claim_model.proofs.RunEqual.{accepted}
 
 -- ---- ItemInformation
 module _ (s : List ℕ) (ok : Lent s) where
@@ -52,11 +52,6 @@ module _ (s : List ℕ) (ok : Lent s) where
       regroup (refused n d) = refl
 
 -- ---- Item
--- an item lies in its stream, as a slice of it does
-abbrev pub Within : List ℕ → Entry → Type 0
-Within s (Record i) = i .place + i .length ≤ length s
-Within s (Marker i) = Unit
-
 -- its payload's length is the bytes' own
 pub part-length : (s : List ℕ) (p n : ℕ) → p + n ≤ length s → length (front n (drop p s)) ≡ n
 part-length s p n h = length-take-le n (drop p s) (rw length-drop (omega arith))

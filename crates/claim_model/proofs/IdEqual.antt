@@ -29,8 +29,8 @@ use Rattle.claim_model.specs.TpiHelpers.{parse-string}
 use Rattle.claim_model.specs.TpiId.{UserDefinedTypeSource, function-id, member-function-id, pushed, build-info, string-list, string-id, source-line, by-leaf, try-from-ctx, parse-id}
 use Rattle.claim_model.specs.Equal.{Same, shownBy}
 use Rattle.claim_model.specs.Shown.{elements, idShown, fileShown, idDataShown, idAnswerShown}
-use Rattle.claim_model.specs.BufferLaws.{parse-in, parse-out, fixed-in, fixed-out, same, same-end, by-order}
-use Rattle.claim_model.specs.HelpersEqual.{id-in, id-out, optional-in, optional-out, by-text}
+use Rattle.claim_model.proofs.BufferLaws.{parse-in, parse-out, fixed-in, fixed-out, same, same-end, by-order}
+use Rattle.claim_model.proofs.HelpersEqual.{id-in, id-out, optional-in, optional-out, by-text}
 
 -- ---- "A counted list is 1 unless four bytes per element are there": n reads of four bytes fail exactly where 4 n bytes are not left
 module _ (s : List ℕ) where

@@ -11,7 +11,7 @@ use Rattle.stream_item.proofs.LinkLaws.{link-whole, link-broken, chain-none, ch
 use Rattle.claim_model.specs.Rust.{Rust, gives, errs, _>>=_, UnexpectedEof, usize}
 use Rattle.claim_model.specs.ParseBuffer.{ParseBuffer, at, parse, take}
 use Rattle.claim_model.specs.TpiItems.{skipped}
-use Rattle.claim_model.specs.BufferLaws.{parse-in, parse-out, take-in, take-out, by-order}
+use Rattle.claim_model.proofs.BufferLaws.{parse-in, parse-out, take-in, take-out, by-order}
 
 -- ---- a link, read
 module _ (s : List ℕ) (l : length s < usize) (p : ℕ) where

@@ -19,29 +19,17 @@ use Rattle.stream_item.specs.Items.{indexOf}
 use Rattle.stream_item.specs.declared.ItemIndex.the-variants as index
 use Rattle.stream_item.specs.declared.Entry.{Entry}
 use Rattle.stream_item.specs.declared.Entry.the-variants.{Record, Marker}
-use Rattle.record_parse.specs.Record.{Parsed, primitive, type, id, idBytes, typeItem, typeMarker, parseOf}
+use Rattle.record_parse.specs.Record.{primitive, id, idBytes, typeItem, typeMarker, parseOf}
 use Rattle.claim_model.specs.TpiItems.{PRIMITIVE-TYPE}
-use Rattle.claim_model.specs.TpiPrimitive.{PrimitiveType, type-data-for-primitive}
-use Rattle.claim_model.specs.TpiId.{IdData, parse-id}
+use Rattle.claim_model.specs.TpiPrimitive.{type-data-for-primitive}
+use Rattle.claim_model.specs.TpiId.{parse-id}
 use Rattle.claim_model.specs.Equal.{Same, shownBy}
-use Rattle.claim_model.specs.Shown.{entryShown, primitiveShown, idShown}
-use Rattle.claim_model.specs.PrimitiveEqual.{primitive-same}
-use Rattle.claim_model.specs.IdEqual.{id-same}
+use Rattle.claim_model.specs.Shown.{entryShown, primitiveShown, idShown, Within}
+use Rattle.claim_model.specs.EntryShown.{asId, asPrimitive}
+use Rattle.claim_model.proofs.PrimitiveEqual.{primitive-same}
+use Rattle.claim_model.proofs.IdEqual.{id-same}
 use Rattle.claim_model.specs.Run.{Lent}
-use Rattle.claim_model.specs.ItemsEqual.{Within, part-length}
-
--- what the port's reader of entries says, as the crate's data: an id's, its bytes being b; a primitive's. 0 is no number of 01's table
-abbrev pub asId : List ℕ → Answer Parsed → Answer IdData
-asId b (answered (id vs)) = answered (idShown b vs)
-asId b (answered (primitive p)) = refused 0 []
-asId b (answered (type vs)) = refused 0 []
-asId b (refused n d) = refused n d
-
-abbrev pub asPrimitive : Answer Parsed → Answer PrimitiveType
-asPrimitive (answered (primitive p)) = answered (primitiveShown p)
-asPrimitive (answered (type vs)) = refused 0 []
-asPrimitive (answered (id vs)) = refused 0 []
-asPrimitive (refused n d) = refused n d
+use Rattle.claim_model.proofs.ItemsEqual.{part-length}
 
 as-id : (b : List ℕ) (a : Answer (List (Value Part))) → asId b (then a (λ vs. answered (id vs))) ≡ shownBy (idShown b) a
 as-id b (answered vs) = refl

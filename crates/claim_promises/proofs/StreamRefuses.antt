@@ -38,8 +38,9 @@ use Rattle.field_text.specs.Texts.{Part}
 use Rattle.record_list.specs.Lists.{Entry as Element, Step, elementsAt, counted, startOf, startIdsOf, countedStep, methodStep, memberStep, nextMember, stepOf, stepIdsOf, elementBy, elementOf, elementIdsOf, typeEntry, idEntry}
 use Rattle.record_list.specs.declared.ListCursor.{ListCursor}
 use Rattle.record_parse.specs.Record.{bytes, numberedOf, typeBytes, idBytes, typeItem, typeMarker, itemOf, markerOf, entryOf as parsedOf, parseOf}
-use Rattle.claim_promises.specs.ByTable.{elsewhere, Refuses, FindRefuses, fits, gives, refuses, by-pick, by-stop, by-then, within, wider}
-use Rattle.claim_promises.specs.ReadingRefuses.{fixed-refuses, bytes-refuses, padding-refuses, TakesAll, no-more, _&_, fields-refuse, read-record-refuses, record-refuses, type-takes, member-takes, method-takes, id-takes}
+use Rattle.claim_promises.specs.ByTable.{elsewhere, Refuses, FindRefuses, fits, gives, refuses}
+use Rattle.claim_promises.proofs.ByTable.{by-pick, by-stop, by-then, within, wider}
+use Rattle.claim_promises.proofs.ReadingRefuses.{fixed-refuses, bytes-refuses, padding-refuses, TakesAll, no-more, _&_, fields-refuse, read-record-refuses, record-refuses, type-takes, member-takes, method-takes, id-takes}
 
 -- Primitives: 8. Pointer words: 12
 

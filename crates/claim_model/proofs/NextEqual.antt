@@ -18,7 +18,7 @@ use Rattle.claim_model.specs.ParseBuffer.{at, parse}
 use Rattle.claim_model.specs.TpiItems.{next}
 use Rattle.claim_model.specs.Equal.{Equal, Same, Stepwise, alike, used-up, shownBy}
 use Rattle.claim_model.specs.Shown.{iterShown, nextShown, CanStand}
-use Rattle.claim_model.specs.BufferLaws.{some-left, none-left, parse-in, parse-out, take-in, take-out, same-gives, same-errs, equal-wraps, by-order}
+use Rattle.claim_model.proofs.BufferLaws.{some-left, none-left, parse-in, parse-out, take-in, take-out, same-gives, same-errs, equal-wraps, by-order}
 
 -- an index's number
 pub number-in : (tag : Stream) (n : ℕ) → numberIn (indexIn tag n) ≡ n

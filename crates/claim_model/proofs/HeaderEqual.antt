@@ -20,7 +20,7 @@ use Rattle.claim_model.specs.ParseBuffer.{ParseBuffer, at, parse, take}
 use Rattle.claim_model.specs.TpiHeader.{fields, parse-header, parse-information}
 use Rattle.claim_model.specs.Equal.{Same, shownBy}
 use Rattle.claim_model.specs.Shown.{headerShown, information}
-use Rattle.claim_model.specs.BufferLaws.{some-left, none-left, parse-in, parse-out, take-in, take-out, same-gives, same-errs, by-order}
+use Rattle.claim_model.proofs.BufferLaws.{some-left, none-left, parse-in, parse-out, take-in, take-out, same-gives, same-errs, by-order}
 
 -- an i32, as the machine has it and as the port's definition says it
 i32 : (x : ℕ) → toZ w32 x ≡ twos 4 x

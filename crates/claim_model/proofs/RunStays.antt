@@ -10,7 +10,6 @@ use Rattle.stream_header.specs.Header.{longest, headerOf}
 use Rattle.stream_header.specs.declared.Header.{Header}
 use Rattle.stream_item.specs.Items.{indexIn}
 use Rattle.stream_item.specs.Iterator.{Next, done, yielded, nextOf}
-use Rattle.stream_item.specs.declared.Stream.{Stream}
 use Rattle.stream_item.specs.declared.iter.ItemIter.{ItemIter}
 use Rattle.stream_item.proofs.NextLaws.{Yields, yields}
 use Rattle.stream_finder.specs.Finder.{State, begunOf, updateOf, Found, findOf}
@@ -19,21 +18,15 @@ use Rattle.claim_model.specs.ParseBuffer.{if-some}
 use Rattle.claim_model.specs.TpiHeader.{parse-information}
 use Rattle.claim_model.specs.TpiItems.{iter, finder, next, update, tour, find}
 use Rattle.claim_model.specs.Equal.{Same, shownBy}
-use Rattle.claim_model.specs.Shown.{information, iterShown, nextShown, finderShown, unlinked, Roomy, CanStand}
-use Rattle.claim_model.specs.Compose.{shown-numbered, unlinked-numbered, bind-same, roomy-first, roomy-then}
-use Rattle.claim_model.specs.HeaderEqual.{header}
-use Rattle.claim_model.specs.NextEqual.{number-in, next-same}
-use Rattle.claim_model.specs.CreateEqual.{first, iter-same, create-same}
-use Rattle.claim_model.specs.UpdateEqual.{update-same}
-use Rattle.claim_model.specs.FindEqual.{find-same}
-use Rattle.claim_model.specs.Run.{crateRun, followed, turns, portRun, Lent}
-use Rattle.claim_model.specs.RunEqual.{Accepted, accepted, created-ind, updated-ind, Stood, stood, standing, once, run-once}
-
-unfoldable pub RunsSame : Type 0
-RunsSame =
-    (tag : Stream) (s t : List ℕ) (n i : ℕ) → Lent s → Roomy (portRun tag s t n i)
-    → ((h : Header) → headerOf s ≡ answered h → h .«minimum_index» + 8 * (1 + n) < 4294967296)
-    → Same (crateRun s n i) (unlinked s (portRun tag s t n i))
+use Rattle.claim_model.specs.Shown.{information, iterShown, nextShown, finderShown, unlinked, Roomy, CanStand, first}
+use Rattle.claim_model.proofs.Compose.{shown-numbered, unlinked-numbered, bind-same, roomy-first, roomy-then}
+use Rattle.claim_model.proofs.HeaderEqual.{header}
+use Rattle.claim_model.proofs.NextEqual.{number-in, next-same}
+use Rattle.claim_model.proofs.CreateEqual.{iter-same, create-same}
+use Rattle.claim_model.proofs.UpdateEqual.{update-same}
+use Rattle.claim_model.proofs.FindEqual.{find-same}
+use Rattle.claim_model.specs.Run.{crateRun, followed, turns, RunsSame}
+use Rattle.claim_model.proofs.RunEqual.{Accepted, accepted, created-ind, updated-ind, Stood, stood, standing, once, run-once}
 
 -- ---- after k turns from the minimum m
 pub record Grown (m k : ℕ) (σ : State) : Type 0 where

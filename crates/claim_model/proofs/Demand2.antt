@@ -1,0 +1,63 @@
+-- Demand 2 is met: each field by its theorem. Assumes nothing.
+use Rattle.claim_model.proofs.HeaderEqual.{header}
+use Rattle.claim_model.proofs.NextEqual.{next-alike}
+use Rattle.claim_model.proofs.CreateEqual.{iter-equal, create-equal}
+use Rattle.claim_model.proofs.UpdateEqual.{update-equal}
+use Rattle.claim_model.proofs.FindEqual.{max-equal, find-equal}
+use Rattle.claim_model.proofs.RunEqual.{run-equal}
+use Rattle.claim_model.proofs.RunStays.{run-same}
+use Rattle.claim_model.proofs.CourseEqual.{course-equal}
+use Rattle.claim_model.proofs.ItemsEqual.{len-same, is-empty-same, item-len-is, item-is-empty-is, raw-kind-equal}
+use Rattle.claim_model.proofs.PrimitiveEqual.{primitive-same, primitive-equal}
+use Rattle.claim_model.proofs.WordsEqual.{properties, hfa-is, mocom-is, access-is, method-properties-is, methods, calling-convention-is, functions, pointers, kind-is, mode-is, to-member-is, reference-is, size-is}
+use Rattle.claim_model.proofs.HelpersEqual.{optional-type, optional-id, string, padding, cross-module}
+use Rattle.claim_model.proofs.IdEqual.{id-same, id-answers}
+use Rattle.claim_model.proofs.ListEqual.{build-elements, string-elements}
+use Rattle.claim_model.proofs.ParseEqual.{id-items, type-items}
+use Rattle.claim_model.specs.Demand2.{Demand2}
+
+pub demand2 : Demand2
+demand2 = record {
+  headers = header;
+  counts = len-same;
+  empties = is-empty-same;
+  starts = iter-equal;
+  steps = next-alike;
+  lengths = item-len-is;
+  none-long = item-is-empty-is;
+  raw-kinds = raw-kind-equal;
+  creations = create-equal;
+  updates = update-equal 3;
+  lookups = find-equal 3;
+  highest = max-equal 3;
+  runs = run-equal;
+  reach = run-same;
+  courses = course-equal;
+  primitives = primitive-same;
+  every-primitive = primitive-equal;
+  optional-types = optional-type;
+  optional-ids = optional-id;
+  cross-modules = cross-module;
+  type-flags = properties;
+  hfas = hfa-is;
+  mocoms = mocom-is;
+  accesses = access-is;
+  method-fields = method-properties-is;
+  method-kinds = methods;
+  conventions = calling-convention-is;
+  function-flags = functions;
+  pointer-flags = pointers;
+  pointer-kinds = kind-is;
+  pointer-modes = mode-is;
+  members = to-member-is;
+  references = reference-is;
+  pointer-sizes = size-is;
+  strings = string;
+  paddings = padding;
+  ids = id-same;
+  id-data = id-answers;
+  type-items = type-items;
+  id-items = id-items;
+  build-arguments = build-elements;
+  substrings = string-elements;
+}

@@ -1,0 +1,45 @@
+-- What the port's reader of entries says, and an element of its list reader, as the crate's data.
+use Prim.Native.Nat.{ℕ}
+use mathlib.Core.List.{List, []}
+use mathlib.Core.Option.{Option, none, some}
+use lib.Dec.{eqb}
+use Rattle.answer.specs.Answer.{Answer, answered, refused, pick}
+use Rattle.record_layout.specs.OneOutcome.{nth, numberIn}
+use Rattle.record_list.specs.Lists.{Entry, typeEntry, idEntry, methodEntry, memberEntry}
+use Rattle.record_parse.specs.Record.{Parsed, primitive, type, id}
+use Rattle.claim_model.specs.TpiPrimitive.{PrimitiveType}
+use Rattle.claim_model.specs.TpiId.{IdData, Function, MemberFunction, BuildInfo, StringList, String, UserDefinedTypeSource}
+use Rattle.claim_model.specs.Shown.{primitiveShown, idShown}
+
+-- what the port's reader of entries says, as the crate's data: an id's, its bytes being b; a primitive's. 0 is no number of 01's table
+abbrev pub asId : List ℕ → Answer Parsed → Answer IdData
+asId b (answered (id vs)) = answered (idShown b vs)
+asId b (answered (primitive p)) = refused 0 []
+asId b (answered (type vs)) = refused 0 []
+asId b (refused n d) = refused n d
+
+abbrev pub asPrimitive : Answer Parsed → Answer PrimitiveType
+asPrimitive (answered (primitive p)) = answered (primitiveShown p)
+asPrimitive (answered (type vs)) = refused 0 []
+asPrimitive (answered (id vs)) = refused 0 []
+asPrimitive (refused n d) = refused n d
+
+-- the crate's `Vec` of an id list
+abbrev pub listed : IdData → List ℕ
+listed (BuildInfo l) = l
+listed (StringList l) = l
+listed (Function r) = []
+listed (MemberFunction r) = []
+listed (String r) = []
+listed (UserDefinedTypeSource r) = []
+
+-- an element's number; 15 is `None`
+abbrev pub entryNumber : Entry → ℕ
+entryNumber (typeEntry vs) = numberIn (nth 0 vs)
+entryNumber (idEntry vs) = numberIn (nth 0 vs)
+entryNumber (methodEntry vs) = numberIn (nth 0 vs)
+entryNumber (memberEntry vs) = numberIn (nth 0 vs)
+
+abbrev pub asElement : Answer Entry → Answer (Option ℕ)
+asElement (answered x) = answered (some (entryNumber x))
+asElement (refused n d) = pick (eqb n 15) (answered none) (refused n d)

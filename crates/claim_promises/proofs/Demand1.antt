@@ -1,0 +1,61 @@
+-- Demand 1 is met: each field by its law. Assumes nothing.
+use Rattle.answer.specs.OneOutcome.{in-table}
+use Rattle.stream_finder.specs.Finder.{state, createOf, updateOf}
+use Rattle.stream_index.specs.Walk.{turnOf}
+use Rattle.record_list.specs.Lists.{stepOf, stepIdsOf}
+use Rattle.claim_promises.proofs.ReadingRefuses.{fixed-refuses, signed-refuses, optional-refuses, string-refuses, counted-refuses, string-of-refuses, bytes-refuses, padding-refuses, numeric-refuses, size-refuses}
+use Rattle.claim_promises.proofs.StreamRefuses.{primitive-refuses, kind-refuses, mode-refuses, to-member-refuses, reference-refuses, pointer-size-refuses, header-refuses, iter-refuses, len-refuses, is-empty-refuses, next-refuses, view-refuses, raw-kind-refuses, create-refuses, update-refuses, find-refuses, turn-refuses, type-refuses, id-refuses, member-refuses, method-refuses, start-refuses, start-ids-refuses, step-refuses, step-ids-refuses, element-by-refuses, element-refuses, element-ids-refuses, parse-refuses}
+use Rattle.claim_promises.proofs.LeftAlone.{leaves-alone, changes-nothing, leads-nowhere, steps-nowhere, steps-ids-nowhere}
+use Rattle.claim_promises.specs.Demand1.{Demand1}
+
+pub demand1 : Demand1
+demand1 = record {
+  table = in-table;
+  fields = fixed-refuses;
+  signed-fields = signed-refuses;
+  optional-indices = optional-refuses;
+  strings = string-refuses;
+  counted-strings = counted-refuses;
+  strings-by-leaf = string-of-refuses;
+  runs = bytes-refuses;
+  paddings = padding-refuses;
+  numbers = numeric-refuses;
+  sizes = size-refuses;
+  primitives = primitive-refuses;
+  pointer-kinds = kind-refuses;
+  pointer-modes = mode-refuses;
+  pointers-to-members = to-member-refuses;
+  references = reference-refuses;
+  pointer-sizes = pointer-size-refuses;
+  headers = header-refuses;
+  counts = len-refuses;
+  empties = is-empty-refuses;
+  iterators = iter-refuses;
+  nexts = next-refuses;
+  views = view-refuses;
+  raw-kinds = raw-kind-refuses;
+  creations = create-refuses;
+  updates = update-refuses;
+  finds = find-refuses;
+  turns = turn-refuses;
+  types = type-refuses;
+  ids = id-refuses;
+  members = member-refuses;
+  methods = method-refuses;
+  entries = parse-refuses;
+  starts = start-refuses;
+  id-starts = start-ids-refuses;
+  steps = step-refuses;
+  id-steps = step-ids-refuses;
+  elements-on = λ s. element-by-refuses _ (stepOf s) (step-refuses s);
+  id-elements-on = λ s. element-by-refuses _ (stepIdsOf s) (step-ids-refuses s);
+  elements = element-refuses;
+  id-elements = element-ids-refuses;
+  create-leaves = λ s t. leaves-alone t (createOf s t);
+  update-leaves = λ f t c. leaves-alone t (updateOf (state f t) c);
+  turn-leaves = λ s f t c. leads-nowhere t (turnOf s (state f t) c);
+  walk-leaves = λ tag s t e t′ h. h .1;
+  lent-update-leaves = λ σ c. changes-nothing σ (updateOf σ c);
+  step-leaves = λ s c. steps-nowhere c (stepOf s c);
+  id-step-leaves = λ s c. steps-ids-nowhere c (stepIdsOf s c);
+}
