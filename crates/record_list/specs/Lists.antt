@@ -2,15 +2,14 @@
 use Prim.Native.Nat.{ℕ, zero, suc, _-_, _*_}
 use mathlib.Core.Bool.{Bool, true, false}
 use mathlib.Core.List.{List, [], _∷_}
-use mathlib.Core.Path.{_≡_, refl}
 use lib.ListN.{length}
 use lib.Dec.{leb, eqb}
 use Rattle.answer.specs.Answer.{Answer, answered, refused, pick, stop, then, and-then}
 use Rattle.field.specs.Fields.{fixedAt}
 use Rattle.field_text.specs.Texts.{Part, bytesAfter, paddingAfter}
-use Rattle.record_layout.specs.Fields.{Value, number, Field, readFields}
+use Rattle.record_layout.specs.Fields.{Value, Field, readFields}
 use Rattle.record_layout.specs.Layouts.{T, id, memberLeaves, method, readRecord}
-use Rattle.record_member.specs.Said.{leafIn, virtualLeaf}
+use Rattle.record_member.specs.Said.{leafIn}
 use Rattle.record_list.specs.declared.ListCursor.{ListCursor}
 
 -- an element: a type index, an id index, a method of 0x1206 or a member of 0x1203, with the values of its layout, for a member its leaf first
@@ -82,11 +81,6 @@ methodStep s p =
 -- 0x1404 is an element that ends the list
 abbrev pub leftAfter : List (Value Part) → ℕ
 leftAfter vs = pick (eqb (leafIn vs) 0x1404) 0 1
-
--- a virtual base class does not, direct or not
-pub virtual-goes-on : (direct : Bool) → leftAfter (number (virtualLeaf direct) ∷ []) ≡ 1
-virtual-goes-on true = refl
-virtual-goes-on false = refl
 
 -- 0x1203 to the end
 unfoldable pub memberStep : List ℕ → ℕ → Answer Step

@@ -6,7 +6,7 @@ use borrow.Author.Needs.{needs}
 use Rattle.answer.proofs.Told.{told}
 use Rattle.record_list.specs.Lists.{stepOf, elementBy}
 use Rattle.record_list.specs.Said.{saidStep}
-use Rattle.record_list.specs.ListLaws.{element-next, element-here, element-refused}
+use Rattle.record_list.proofs.ListLaws.{element-next, element-here, element-refused}
 use Rattle.record_list.proofs.element_from.Statement.{statement}
 use Rattle.record_list.proofs.element_from.Tie as tie
 

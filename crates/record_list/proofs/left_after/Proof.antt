@@ -1,7 +1,7 @@
 -- `record_list::left_after` meets its contract: by the member; the leaf of a virtual base class is not 0x1404, direct or not. Assumes nothing.
 use borrow.Author.Needs.{needs}
 use mathlib.Core.Path.{sym}
-use Rattle.record_list.specs.Lists.{virtual-goes-on}
+use Rattle.record_list.proofs.ListLaws.{virtual-goes-on}
 use Rattle.record_list.proofs.left_after.Statement.{statement}
 use Rattle.record_list.proofs.left_after.Tie as tie
 

@@ -4,15 +4,17 @@
 use Prim.Native.Nat.{ℕ, zero, suc, _+_, _*_}
 use native.Mathlib.Omega.{arith}
 use mathlib.Core.Path.{_≡_, refl, ap, sym, _∙_}
+use mathlib.Core.Bool.{Bool, true, false}
 use mathlib.Core.List.{List, [], _∷_}
 use Rattle.answer.specs.Answer.{Answer, answered, refused, Got, Read, then, and-then}
 use Rattle.field.specs.Fields.{fixedAt}
 use Rattle.field_text.specs.Texts.{Part, bytesAfter}
-use Rattle.record_layout.specs.Fields.{Value, word, types, ids, run, readField, readFields}
+use Rattle.record_layout.specs.Fields.{Value, number, word, types, ids, run, readField, readFields}
 use Rattle.record_layout.specs.Layouts.{always}
-use Rattle.record_layout.specs.OneOutcome.{nth, numberIn, stringIn}
+use Rattle.record_layout.specs.Values.{nth, numberIn, stringIn}
+use Rattle.record_member.specs.Said.{virtualLeaf}
 use Rattle.record_list.specs.declared.ListCursor.{ListCursor}
-use Rattle.record_list.specs.Lists.{Entry, Step, inCounted, elementsAt, counted, elementBy}
+use Rattle.record_list.specs.Lists.{Entry, Step, inCounted, elementsAt, counted, elementBy, leftAfter}
 
 module _ (step : ListCursor → Answer Step) (c : ListCursor) where
   -- element k + 1 is element k of the step's next cursor
@@ -87,3 +89,8 @@ module _ (k leaf : ℕ) (s : List ℕ) (p : ℕ) where
   pub counted-ids : and-then (readFields (word k always ∷ run ids ∷ []) 0 s p) (λ vs e. firstIn leaf vs) ≡ counted k leaf s p
   unfolding readFields readField
   counted-ids = counted-types
+
+-- a virtual base class does not end its list, direct or not
+pub virtual-goes-on : (direct : Bool) → leftAfter (number (virtualLeaf direct) ∷ []) ≡ 1
+virtual-goes-on true = refl
+virtual-goes-on false = refl
