@@ -18,7 +18,8 @@ use Rattle.stream_item.specs.declared.ItemIndex.{ItemIndex}
 use Rattle.stream_item.specs.declared.link.Hit.the-variants.{Missed}
 use Rattle.stream_item.proofs.LinkLaws.{link-whole, link-broken, chain-none, linkOf-landed, linkOf-missed, linkOf-broke, linkOf-cut}
 use Rattle.stream_finder.specs.Finder.{State, maxIndexBy, landed, findBy}
-use Rattle.stream_finder.proofs.FinderLaws.{Ready, find-marker, find-above, find-unheld, find-held, max-none, max-top}
+use Rattle.stream_finder.specs.Places.{Ready}
+use Rattle.stream_finder.proofs.FinderLaws.{find-marker, find-above, find-unheld, find-held, max-none, max-top}
 use Rattle.claim_model.specs.Rust.{Rust, gives, errs, wraps, _>>=_, as-u32, usize, UnexpectedEof, TypeNotFound, TypeNotIndexed}
 use Rattle.claim_model.specs.ParseBuffer.{at, take, if-some}
 use Rattle.claim_model.specs.TpiItems.{Item, ItemFinder, PRIMITIVE-TYPE, max-index, hit, miss, find}

@@ -15,7 +15,7 @@ use Rattle.field.specs.Indices.{noId, optionalOf, idSaid}
 use Rattle.field_text.specs.Texts.{bytesAfter}
 use Rattle.record_layout.specs.Fields.{readField, readFields}
 use Rattle.record_layout.specs.Layouts.{idLeaves, readLeaf, leafOf, recordOf}
-use Rattle.record_layout.specs.OneOutcome.{option-back}
+use Rattle.record_layout.proofs.OneOutcome.{option-back}
 use Rattle.record_id.specs.Said.{sourceValues, idValues, saidIdData}
 use Rattle.record_id.specs.declared.UserDefinedTypeSourceFileRef.{UserDefinedTypeSourceFileRef}
 use Rattle.record_id.specs.declared.UserDefinedTypeSourceFileRef.the-variants as file

@@ -1,7 +1,8 @@
 -- Demand 2: "the domain of equality is every stream on which the Rust neither panics, wraps nor aborts, an iterator being compared up to its first
 -- refusal, and a finder where no update came from an iterator that had refused and its lent table never lacked room." On the left of each
 -- statement stands the crate's function (Tpi*.antt), on the right the definition that the port's contracts cite, its values shown as the
--- crate's (Shown.antt). `Same`: the crate neither panics nor wraps, and the answers are equal. `Equal`: they are equal wherever it does not.
+-- crate's (Shown.antt, EntryShown.antt). `Same`: the crate neither panics nor wraps, and the answers are equal. `Equal`: they are equal wherever it
+-- does not.
 use Prim.Native.Nat.{ℕ, _*_, _≤_, _<_}
 use mathlib.Core.Bool.{Bool}
 use mathlib.Core.List.{List, [], _∷_, map}
@@ -31,7 +32,7 @@ use Rattle.stream_item.specs.declared.ItemIndex.the-variants as index
 use Rattle.stream_item.specs.declared.Entry.{Entry}
 use Rattle.stream_item.specs.declared.iter.ItemIter.{ItemIter}
 use Rattle.stream_finder.specs.Finder.{State, begunOf, updateOf, maxIndexOf, findOf}
-use Rattle.stream_finder.proofs.FinderLaws.{Ready}
+use Rattle.stream_finder.specs.Places.{Ready}
 use Rattle.record_layout.specs.Layouts.{idLeaves, recordOf}
 use Rattle.record_id.specs.Said.{saidIdData}
 use Rattle.record_parse.specs.Record.{parseOf}

@@ -4,7 +4,7 @@ use mathlib.Core.List.{List, []}
 use mathlib.Core.Option.{Option, none, some}
 use lib.Dec.{eqb}
 use Rattle.answer.specs.Answer.{Answer, answered, refused, pick}
-use Rattle.record_layout.specs.OneOutcome.{nth, numberIn}
+use Rattle.record_layout.specs.Values.{nth, numberIn}
 use Rattle.record_list.specs.Lists.{ElementValues, typeElement, idElement, methodElement, memberElement}
 use Rattle.record_parse.specs.Record.{Parsed, primitive, type, id}
 use Rattle.claim_model.specs.TpiPrimitive.{PrimitiveType}

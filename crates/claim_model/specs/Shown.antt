@@ -20,7 +20,7 @@ use Rattle.field.specs.Indices.{idSaid}
 use Rattle.field_text.specs.declared.RawString.{RawString}
 use Rattle.answer.specs.Refusals.{no}
 use Rattle.record_layout.specs.Fields.{Value}
-use Rattle.record_layout.specs.OneOutcome.{nth, numberIn, optionIn, stringIn}
+use Rattle.record_layout.specs.Values.{nth, numberIn, optionIn, stringIn}
 use Rattle.stream_header.specs.Header.{longest}
 use Rattle.stream_header.specs.declared.Slice.{Slice as PortSlice}
 use Rattle.stream_header.specs.declared.Header.{Header as PortHeader}

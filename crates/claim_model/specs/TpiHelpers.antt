@@ -45,7 +45,7 @@ padding-loop (suc n) buf = do
       buf ← pad-byte buf
       padding-loop n buf) (gives buf))
 
--- data.rs 458: every turn moves on by a byte at least, so that the tests are enough: HelpersEqual.antt
+-- data.rs 458: every turn moves on by a byte at least, so that the tests are enough: proofs/HelpersEqual.antt
 unfoldable pub parse-padding : ParseBuffer → Rust ParseBuffer
 parse-padding buf = padding-loop (suc (length (buf .bytes))) buf
 

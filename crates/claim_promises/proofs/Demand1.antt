@@ -1,5 +1,5 @@
 -- Demand 1 is met: each field by its law. Assumes nothing.
-use Rattle.answer.specs.OneOutcome.{in-table}
+use Rattle.answer.proofs.OneOutcome.{in-table}
 use Rattle.stream_finder.specs.Finder.{state, createOf, updateOf}
 use Rattle.stream_index.specs.Walk.{turnOf}
 use Rattle.record_list.specs.Lists.{stepOf}

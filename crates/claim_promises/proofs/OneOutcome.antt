@@ -3,43 +3,43 @@ use Prim.Native.Nat.{ℕ}
 use mathlib.Core.Path.{_≡_, sym, ap, _∙_}
 use mathlib.Core.List.{List}
 use Rattle.answer.specs.Refusals.{detailsOf}
-use Rattle.answer.specs.OneOutcome.{one-details}
+use Rattle.answer.proofs.OneOutcome.{one-details}
 use Rattle.field.specs.Fields.{fixedAt, signedAt}
 use Rattle.field.specs.Indices.{noType, noId, optionalOf, optionalAt}
 use Rattle.field_text.specs.Texts.{stringAt, countedStringAt, stringOf, bytesAfter, paddingAfter}
 use Rattle.field_number.specs.Numbers.{numericAt, sizeAt}
-use Rattle.field.specs.OneOutcome.{one-u8, one-u16, one-u32, one-u64, one-i8, one-i16, one-i32, one-i64, one-type, one-id, one-string-ref, one-optional-type, one-optional-id, one-read-type, one-read-id}
-use Rattle.field_text.specs.OneOutcome.{one-optional-string, one-string, one-after}
-use Rattle.field_number.specs.OneOutcome.{one-variant, one-size}
+use Rattle.field.proofs.OneOutcome.{one-u8, one-u16, one-u32, one-u64, one-i8, one-i16, one-i32, one-i64, one-type, one-id, one-string-ref, one-optional-type, one-optional-id, one-read-type, one-read-id}
+use Rattle.field_text.proofs.OneOutcome.{one-optional-string, one-string, one-after}
+use Rattle.field_number.proofs.OneOutcome.{one-variant, one-size}
 use Rattle.field.specs.declared.index.TypeIndex.{TypeIndex}
 use Rattle.field.specs.declared.index.IdIndex.{IdIndex}
 use Rattle.word_primitive.specs.Primitive.{primitiveOf}
-use Rattle.word_primitive.specs.OneOutcome.{one-primitive}
+use Rattle.word_primitive.proofs.OneOutcome.{one-primitive}
 use Rattle.word_attributes.specs.Pointers.{kindOf, modeOf, toMemberOf, referenceOf, sizeOf}
-use Rattle.word_attributes.specs.OneOutcome.{one-kind as one-pointer-kind, one-mode, one-flag, one-size as one-pointer-size}
+use Rattle.word_attributes.proofs.OneOutcome.{one-kind as one-pointer-kind, one-mode, one-flag, one-size as one-pointer-size}
 use Rattle.stream_header.specs.Header.{headerOf}
-use Rattle.stream_header.specs.OneOutcome.{one-header}
+use Rattle.stream_header.proofs.OneOutcome.{one-header}
 use Rattle.stream_item.specs.Iterator.{iterOf, nextOf}
 use Rattle.stream_view.specs.Views.{viewOf, rawKindOf}
 use Rattle.stream_item.specs.Information.{lenOf, isEmptyOf}
-use Rattle.stream_item.specs.OneOutcome.{one-iter, one-next, one-len, one-empty}
-use Rattle.stream_view.specs.OneOutcome.{one-view, one-kind}
+use Rattle.stream_item.proofs.OneOutcome.{one-iter, one-next, one-len, one-empty}
+use Rattle.stream_view.proofs.OneOutcome.{one-view, one-kind}
 use Rattle.stream_item.specs.declared.iter.ItemIter.{ItemIter}
 use Rattle.stream_finder.specs.Finder.{State, state, createOf, updateOf, findOf, maxIndexOf}
-use Rattle.stream_finder.specs.Lent.{Updates, one-change}
-use Rattle.stream_finder.specs.OneOutcome.{one-find, one-leaves}
+use Rattle.stream_finder.specs.Lent.{Updates}
+use Rattle.stream_finder.proofs.OneOutcome.{one-change, one-find, one-leaves}
 use Rattle.stream_finder.specs.declared.ItemFinder.{ItemFinder}
 use Rattle.stream_finder.specs.declared.lent.UpdateStep.{UpdateStep}
 use Rattle.stream_index.specs.Walk.{turnOf}
-use Rattle.stream_index.specs.OneOutcome.{one-leads}
+use Rattle.stream_index.proofs.OneOutcome.{one-leads}
 use Rattle.stream_index.proofs.OneWalk.{one-walks, one-indexes}
 use Rattle.record_layout.specs.Fields.{readFields}
 use Rattle.record_layout.specs.Layouts.{typeLeaves, memberLeaves, method, idLeaves, readRecord, recordOf}
-use Rattle.record_id.specs.OneOutcome.{one-id as one-id-data}
+use Rattle.record_id.proofs.OneOutcome.{one-id as one-id-data}
 use Rattle.record_data.specs.Said.{nameOf as typeNameOf}
-use Rattle.record_data.specs.OneOutcome.{one-type-data, one-name as one-type-name}
+use Rattle.record_data.proofs.OneOutcome.{one-type-data, one-name as one-type-name}
 use Rattle.record_member.specs.Said.{memberValues, nameOf as memberNameOf}
-use Rattle.record_member.specs.OneOutcome.{one-member, one-entry}
+use Rattle.record_member.proofs.OneOutcome.{one-member, one-entry}
 use Rattle.record_list.specs.Lists.{startOf, stepOf, elementBy, elementOf}
 use Rattle.record_list.proofs.OneOutcome.{one-start, one-step, one-element}
 use Rattle.record_list.specs.declared.ListCursor.{ListCursor}
@@ -48,7 +48,7 @@ use Rattle.record_reader.proofs.OneOutcome.{one-reader, one-steps}
 use Rattle.record_reader.specs.declared.ListReader.{ListReader}
 use Rattle.record_reader.specs.declared.Stepped.{Stepped}
 use Rattle.record_parse.specs.Record.{parseOf}
-use Rattle.record_parse.specs.OneOutcome.{one-parse}
+use Rattle.record_parse.proofs.OneOutcome.{one-parse}
 use Rattle.claim_promises.specs.OneOutcome.{Once, OnceLent, OneOutcome}
 
 -- what an answer says fixes it

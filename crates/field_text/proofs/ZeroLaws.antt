@@ -13,8 +13,19 @@ use Rattle.field.proofs.FieldLaws.{le-below}
 use mathlib.Core.Option.{some}
 use Rattle.answer.specs.Answer.{got, ended}
 use Rattle.field_text.specs.Texts.{toZero, stringAt}
-use Rattle.field_text.specs.Zeros.{Passed, ZeroAt, FirstZero, Marks, marksOf}
+use Rattle.field_text.specs.Zeros.{Passed, ZeroAt, marksOf}
 use Rattle.field_text.proofs.TextLaws.{goes-on, finds, runs-out, found, lost}
+
+-- byte t is the first of the k bytes at p that is zero
+pub record FirstZero (s : List ℕ) (p k t : ℕ) : Type 0 where
+  pub within : t < k
+  pub passed : Passed s p (p + t)
+  pub there : getD s (p + t) 0 ≡ 0
+
+-- m marks the k bytes at p: it is 0 if none is zero, and else its lowest set bit lies in the first that is
+pub record Marks (s : List ℕ) (p k m : ℕ) : Type 0 where
+  pub none : m ≡ 0 → Passed s p (p + k)
+  pub first : (m ≡ 0 → ⊥) → FirstZero s p k (trailingZeros (8 * k) m / 8)
 
 -- ---- what was passed
 module _ (s : List ℕ) (p : ℕ) where

@@ -2,9 +2,9 @@
 -- Assumes nothing.
 use mathlib.Core.Path.{_≡_, refl, ap}
 use Rattle.answer.specs.Answer.{Answer}
-use Rattle.answer.specs.OneOutcome.{one-of, heard, refusal-back}
-use Rattle.record_layout.specs.OneOutcome.{nth, numberIn}
-use Rattle.record_member.specs.OneOutcome.{memberIn, member-back, entryIn, entry-back}
+use Rattle.answer.proofs.OneOutcome.{one-of, heard, refusal-back}
+use Rattle.record_layout.specs.Values.{nth, numberIn}
+use Rattle.record_member.proofs.OneOutcome.{memberIn, member-back, entryIn, entry-back}
 use Rattle.record_list.specs.Lists.{ElementValues, typeElement, idElement, methodElement, memberElement, Step}
 use Rattle.record_list.specs.Said.{saidStart, elementValues, saidStep, saidElement}
 use Rattle.record_list.specs.declared.ListCursor.{ListCursor}

@@ -3,7 +3,7 @@ use Prim.Native.Nat.{ℕ, zero, suc, _-_}
 use mathlib.Core.Bool.{Bool, true, false}
 use mathlib.Core.List.{List, [], _∷_}
 use mathlib.Core.Option.{Option, none, some}
-use lib.ListN.{length, getD}
+use lib.ListN.{length}
 use lib.Dec.{leb, eqb}
 use Rattle.answer.specs.Answer.{Answer, answered, refused, pick, stop, then, and-then}
 use Rattle.answer.specs.Tables.{find}
@@ -11,7 +11,8 @@ use Rattle.field.specs.Fields.{fixedAt}
 use Rattle.field_text.specs.Texts.{Part, paddingAfter}
 use Rattle.stream_item.specs.declared.Stream.{Stream}
 use Rattle.stream_item.specs.declared.Stream.the-variants as stream
-use Rattle.record_layout.specs.Fields.{Value, number, integer, absent, many, numberOr, Field, id, readFields}
+use Rattle.record_layout.specs.Fields.{Value, Field, id, readFields}
+use Rattle.record_layout.specs.Values.{nth, numberIn, stringIn}
 use Rattle.record_layout.specs.Layouts.{T, Layout, Table, typeLeaves, idLeaves, memberLeaves, method, readRecord}
 use Rattle.record_member.specs.Said.{leafIn}
 use Rattle.record_list.specs.declared.ListCursor.{ListCursor}
@@ -41,19 +42,12 @@ afterMember p left = record { leaf = 0x1203; at = p; left = left; padded = true 
 
 -- Where a list starts ---------------------------------------------------------------------------------------------------------
 
--- where a part that was read starts
-abbrev pub placeIn : Value Part → ℕ
-placeIn (many x) = x .place
-placeIn (number n) = 0
-placeIn (integer z) = 0
-placeIn absent = 0
-
 -- A counted list by its layout, `count ∷ run`: where its run starts, with as many elements as its count says. The layout's reading is 1 unless
 -- four bytes per element are there
 unfoldable pub countedBy : Layout → ℕ → List ℕ → ℕ → Answer ListCursor
 countedBy fs leaf s p =
     and-then (readFields fs 0 s p) (λ vs e.
-    answered (inCounted leaf (placeIn (getD vs 1 absent)) (numberOr (getD vs 0 absent) 0)))
+    answered (inCounted leaf (stringIn (nth 1 vs) .place) (numberIn (nth 0 vs))))
 
 abbrev pub byLine : Option Layout → ℕ → List ℕ → ℕ → Answer ListCursor
 byLine none leaf s p = refused 10 (leaf ∷ [])

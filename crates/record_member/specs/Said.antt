@@ -1,8 +1,7 @@
 -- What a member and a method of a list say: the leaf of the member, and the values of its layout in the layout's order. To be read against
 -- the table memberLeaves of layout/specs/Layouts.antt.
 use Prim.Native.Nat.{ℕ}
-use mathlib.Core.Bool.{Bool, true, false}
-use mathlib.Core.Path.{_≡_, refl}
+use mathlib.Core.Bool.{Bool}
 use mathlib.Core.List.{List, [], _∷_}
 use mathlib.Core.Option.{Option, none, some}
 use Rattle.answer.specs.Answer.{Read, got, ended, pick}
@@ -84,9 +83,3 @@ stringAmong (absent ∷ vs) = stringAmong vs
 
 unfoldable pub nameOf : List (Value Part) → Option Part
 nameOf vs = pick (among (leafIn vs) namedLeaves) (stringAmong vs) none
-
--- a virtual base class has none, direct or not
-pub virtual-unnamed : (direct : Bool) (vs : List (Value Part)) → nameOf (number (virtualLeaf direct) ∷ vs) ≡ none
-unfolding among nameOf namedLeaves
-virtual-unnamed true vs = refl
-virtual-unnamed false vs = refl

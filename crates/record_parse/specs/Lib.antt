@@ -1,3 +1,1 @@
 pub mod Record
-pub mod OneOutcome
-pub mod Examples

@@ -26,12 +26,12 @@ use Rattle.stream_item.specs.declared.iter.ItemIter.{ItemIter}
 use Rattle.stream_item.specs.declared.link.Hit.{Hit}
 use Rattle.stream_item.specs.declared.link.Hit.the-variants.{Landed, Missed}
 use Rattle.stream_finder.specs.Finder.{State, state, holding, begunBy, createBy, due, updateBy, after, Found, maxIndexBy, findBy}
-use Rattle.stream_finder.specs.Places.{Placed, OnChain}
+use Rattle.stream_finder.specs.Places.{Placed, Ready}
 use Rattle.stream_finder.specs.Demand.{Walked, none, more, gives, looked, Demand3By, Demand3, numberOf, NotIndexedBy, NotIndexed}
 use Rattle.stream_finder.specs.declared.ItemFinder.{ItemFinder}
-use Rattle.stream_finder.proofs.FinderLaws.{begun-full, begun-some, create-is, Open, update-keeps, update-full, update-stores, due-yes, due-mod, Ready}
+use Rattle.stream_finder.proofs.FinderLaws.{begun-full, begun-some, create-is, Open, update-keeps, update-full, update-stores, due-yes, due-mod}
 use Rattle.stream_finder.proofs.Accepted.{Accepted, accepted}
-use Rattle.stream_finder.proofs.PlaceLaws.{update-ind, placed-update, on-start, on-next, find-placed}
+use Rattle.stream_finder.proofs.PlaceLaws.{OnChain, update-ind, placed-update, on-start, on-next, find-placed}
 
 -- the fresh cursor
 abbrev pub start : Stream → Header → ItemIter

@@ -17,6 +17,7 @@ use Rattle.stream_item.specs.declared.ItemIndex.{ItemIndex}
 use Rattle.stream_item.specs.declared.Entry.the-variants as entry
 use Rattle.stream_item.specs.declared.iter.ItemIter.{ItemIter}
 use Rattle.stream_finder.specs.Finder.{State, state, holding, begunBy, createBy, due, stored, updateBy, Found, maxIndexBy, landed, lookBy, findBy, saidFinder, finderOf, tableAfter, Leaves}
+use Rattle.stream_finder.specs.Places.{Ready}
 use Rattle.stream_finder.specs.declared.ItemFinder.{ItemFinder}
 use Rattle.stream_finder.specs.declared.FinderAnswer.{FinderAnswer}
 
@@ -118,11 +119,6 @@ module _ (b : ℕ) (f : ItemFinder) where
   max-over h l = max-some h ∙ min-eq-right l
 
 -- ---- find
--- neither the stream's length nor the finder's claim refuses
-pub record Ready (s : List ℕ) (σ : State) : Type 0 where
-  pub short : length s ≤ longest
-  pub held : σ .finder .held ≤ length (σ .table)
-
 module _ (b : ℕ) (s : List ℕ) (σ : State) (i : ItemIndex) (n : ℕ) where
   pub find-long : longest < length s → lookBy b s σ i n ≡ refused 16 []
   unfolding lookBy

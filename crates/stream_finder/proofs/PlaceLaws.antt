@@ -26,9 +26,14 @@ use Rattle.stream_item.specs.declared.iter.ItemIter.{ItemIter}
 use Rattle.stream_item.specs.declared.link.Hit.{Hit}
 use Rattle.stream_item.specs.declared.link.Hit.the-variants.{Landed, Missed}
 use Rattle.stream_finder.specs.Finder.{State, due, stored, updateBy, after, maxIndexBy, landed, lookBy, findBy}
-use Rattle.stream_finder.specs.Places.{Placed, OnChain}
+use Rattle.stream_finder.specs.Places.{Placed, Ready}
 use Rattle.stream_finder.specs.Demand.{gives, looked}
-use Rattle.stream_finder.proofs.FinderLaws.{Ready, find-unheld, find-held}
+use Rattle.stream_finder.proofs.FinderLaws.{find-unheld, find-held}
+
+-- the cursor stands where so many links lead as its index is above m
+pub record OnChain (s : List ℕ) (p m : ℕ) (c : ItemIter) : Type 0 where
+  pub index : m ≤ c .index
+  pub at : chain s p (c .index - m) ≡ reached (c .at)
 
 -- ---- what an update may do
 pub record Stores (b : ℕ) (σ : State) (c : ItemIter) : Type 0 where

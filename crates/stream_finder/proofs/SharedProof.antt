@@ -8,11 +8,11 @@ use Rattle.stream_header.specs.declared.Header.{Header}
 use Rattle.stream_item.specs.Items.{indexIn}
 use Rattle.stream_item.specs.declared.iter.ItemIter.{ItemIter}
 use Rattle.stream_finder.specs.Finder.{State, updateBy, after, findBy}
-use Rattle.stream_finder.specs.Places.{Placed, OnChain}
+use Rattle.stream_finder.specs.Places.{Placed}
 use Rattle.stream_finder.specs.Demand.{looked}
 use Rattle.stream_finder.specs.Shared.{Roamed, begun, moved, Updated, untouched, by, SharedBy, Shared}
 use Rattle.stream_finder.proofs.Accepted.{Accepted, accepted}
-use Rattle.stream_finder.proofs.PlaceLaws.{update-ind, placed-update, on-start, on-next, find-placed}
+use Rattle.stream_finder.proofs.PlaceLaws.{OnChain, update-ind, placed-update, on-start, on-next, find-placed}
 use Rattle.stream_finder.proofs.DemandProof.{begun-placed, fresh-finder, fresh-room, fresh-iter}
 
 roamed : (s : List ℕ) (p m : ℕ) (c d : ItemIter) → OnChain s p m c → Roamed s c d → OnChain s p m d

@@ -12,12 +12,12 @@ use Rattle.stream_header.specs.Examples.{four, streamE}
 use Rattle.stream_item.specs.Items.{indexIn}
 use Rattle.stream_item.specs.Links.{linkAt, chain, linkOf}
 use Rattle.stream_item.specs.Iterator.{iterOf, yielded, itemAt, nextOf}
-use Rattle.stream_item.specs.Examples.{cursor}
+use Rattle.stream_item.proofs.Examples.{cursor}
 use Rattle.stream_item.specs.declared.Stream.the-variants.{Types}
 use Rattle.stream_item.specs.declared.iter.ItemIter.{ItemIter}
 use Rattle.stream_finder.specs.Finder.{State, state, begunBy, createBy, updateBy, after, Found, findOf}
 use Rattle.stream_finder.specs.Demand.{Walked, none, more, Premises, Demand3By, Demand3}
-use Rattle.stream_finder.specs.Examples.{finderTo, found}
+use Rattle.stream_finder.proofs.Examples.{finderTo, found}
 use Rattle.stream_finder.proofs.DemandProof.{demand3}
 
 -- ---- stream E, N = 2: one place is enough

@@ -1,8 +1,6 @@
--- Document 01, "Finder": `update` changes the finder in place. What it answers, and the finder and the table after it; and that there is one
--- such outcome. Assumes nothing.
-use mathlib.Core.Path.{_≡_, refl, sym, _∙_}
+-- Document 01, "Finder": `update` changes the finder in place. What it answers, and the finder and the table after it.
+use mathlib.Core.Path.{_≡_}
 use Rattle.answer.specs.Answer.{Answer, answered, refused}
-use Rattle.answer.specs.OneOutcome.{one-of, heard, heard-no}
 use Rattle.answer.specs.Refusals.{no}
 use Rattle.stream_finder.specs.Finder.{State, updateOf, after}
 use Rattle.stream_item.specs.declared.iter.ItemIter.{ItemIter}
@@ -27,13 +25,3 @@ pub record Changes (σ : State) (a : Answer State) (r : UpdateAnswer) (τ : Stat
 -- an update of σ by the cursor c
 abbrev pub Updates : State → ItemIter → UpdateAnswer → State → Type 0
 Updates σ c = Changes σ (updateOf σ c)
-
-update-back : (r : UpdateAnswer) → heard (λ x. update.Answered) update.Refused (saidUpdate r) ≡ r
-update-back update.Answered = refl
-update-back (update.Refused e) = heard-no {A = Unit {0}} (λ x. update.Answered) update.Refused e
-
-pub one-update : (r q : UpdateAnswer) → saidUpdate r ≡ saidUpdate q → r ≡ q
-one-update = one-of saidUpdate (heard (λ x. update.Answered) update.Refused) update-back
-
-pub one-change : (σ : State) (a : Answer State) (r q : UpdateAnswer) (τ υ : State) → Changes σ a r τ → Changes σ a q υ → (r ≡ q) × (τ ≡ υ)
-one-change σ a r q τ υ x y = (one-update r q (x .answer ∙ sym (y .answer)), x .left ∙ sym (y .left))

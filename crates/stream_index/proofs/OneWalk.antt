@@ -11,14 +11,14 @@ use lib.Dec.{ltb}
 use borrow.Author.Tests.{ltb-true, ltb-false}
 use Rattle.answer.specs.Answer.{Answer, answered}
 use Rattle.answer.specs.Refusals.{no}
-use Rattle.answer.specs.OneOutcome.{one-refusal}
+use Rattle.answer.proofs.OneOutcome.{one-refusal}
 use Rattle.answer.specs.declared.Refusal.{Refusal}
 use Rattle.stream_item.specs.declared.Stream.{Stream}
 use Rattle.stream_item.specs.declared.iter.ItemIter.{ItemIter}
 use Rattle.stream_finder.specs.Finder.{State, state}
 use Rattle.stream_finder.specs.declared.ItemFinder.{ItemFinder}
 use Rattle.stream_index.specs.Walk.{moved, turnBy, Turns, none, more, saidEnd, Walks, Indexes}
-use Rattle.stream_index.specs.OneOutcome.{one-end}
+use Rattle.stream_index.proofs.OneOutcome.{one-end}
 use Rattle.stream_index.specs.declared.End.{End}
 use Rattle.stream_index.specs.declared.End.the-variants as end
 use Rattle.stream_index.specs.declared.Tour.{Tour}

@@ -1,3 +1,1 @@
 pub mod Views
-pub mod OneOutcome
-pub mod Examples

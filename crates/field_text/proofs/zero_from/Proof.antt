@@ -6,8 +6,8 @@ use mathlib.Core.Path.{refl, sym, ap, _∙_}
 use lib.ListN.{length}
 use Rattle.field.specs.Fields.{said64}
 use Rattle.field.proofs.FieldLaws.{There, field-got}
-use Rattle.field_text.specs.Zeros.{Passed, Marks}
-use Rattle.field_text.proofs.ZeroLaws.{passed-none, passed-then, word-marks}
+use Rattle.field_text.specs.Zeros.{Passed}
+use Rattle.field_text.proofs.ZeroLaws.{Marks, passed-none, passed-then, word-marks}
 use Rattle.field_text.proofs.zero_from.Statement.{statement}
 use Rattle.field_text.proofs.zero_from.Tie as tie
 

@@ -2,7 +2,8 @@
 use borrow.Author.Needs.{needs}
 use mathlib.Core.Path.{sym}
 use Rattle.answer.specs.Tables.{among}
-use Rattle.record_member.specs.Said.{nameOf, namedLeaves, stringAmong, virtual-unnamed}
+use Rattle.record_member.specs.Said.{nameOf, namedLeaves, stringAmong}
+use Rattle.record_member.proofs.SaidLaws.{virtual-unnamed}
 use Rattle.record_member.proofs.Member.name.Statement.{statement}
 use Rattle.record_member.proofs.Member.name.Tie as tie
 

@@ -1,6 +1,6 @@
 -- What each answer of this crate says fixes the answer. Assumes nothing.
 use mathlib.Core.Path.{_≡_, refl}
-use Rattle.answer.specs.OneOutcome.{one-of, heard, heard-no}
+use Rattle.answer.proofs.OneOutcome.{one-of, heard, heard-no}
 use Rattle.stream_item.specs.Iterator.{Next, done, yielded, saidIter, saidNext}
 use Rattle.stream_item.specs.Information.{saidLen, saidEmpty}
 use Rattle.stream_item.specs.declared.iter.IterAnswer.{IterAnswer}

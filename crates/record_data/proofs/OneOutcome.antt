@@ -4,12 +4,13 @@ use mathlib.Core.Path.{_≡_, refl, ap, _∙_}
 use mathlib.Core.List.{List}
 use lib.Dec.{eqb}
 use Rattle.answer.specs.Answer.{Answer, answered, refused, pick}
-use Rattle.answer.specs.OneOutcome.{one-of, refusalIn, refusal-back}
+use Rattle.answer.proofs.OneOutcome.{one-of, refusalIn, refusal-back}
 use Rattle.field_text.specs.Texts.{Part}
-use Rattle.field.specs.OneOutcome.{hear-optional-type}
+use Rattle.field.proofs.OneOutcome.{hear-optional-type}
 use Rattle.field.specs.declared.index.OptTypeIndex.{OptTypeIndex}
 use Rattle.record_layout.specs.Fields.{Value, number, integer, absent, many}
-use Rattle.record_layout.specs.OneOutcome.{nth, numberIn, stringIn, optionIn, type-back}
+use Rattle.record_layout.specs.Values.{nth, numberIn, stringIn, optionIn}
+use Rattle.record_layout.proofs.OneOutcome.{type-back}
 use Rattle.record_data.specs.Said.{optString, classFrom, fieldsFrom, kindValues, typeValues, saidTypeData}
 use Rattle.record_data.specs.declared.ClassKind.{ClassKind}
 use Rattle.record_data.specs.declared.ClassKind.the-variants as kind

@@ -1,7 +1,7 @@
 -- What a header's answer says fixes the answer. Assumes nothing.
 use mathlib.Core.Path.{_≡_, refl}
 use Rattle.answer.specs.Answer.{Answer}
-use Rattle.answer.specs.OneOutcome.{one-of, heard, heard-no}
+use Rattle.answer.proofs.OneOutcome.{one-of, heard, heard-no}
 use Rattle.stream_header.specs.Header.{saidHeader}
 use Rattle.stream_header.specs.declared.Header.{Header}
 use Rattle.stream_header.specs.declared.HeaderAnswer.{HeaderAnswer}

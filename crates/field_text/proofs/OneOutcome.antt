@@ -4,7 +4,7 @@ use Prim.Native.Nat.{ℕ}
 use mathlib.Core.Path.{_≡_, refl}
 use mathlib.Core.Option.{Option, none, some}
 use Rattle.answer.specs.Answer.{Answer, answered, refused, Read}
-use Rattle.answer.specs.OneOutcome.{one-of}
+use Rattle.answer.proofs.OneOutcome.{one-of}
 use Rattle.field_text.specs.Texts.{Part, stringSaid, saidString, saidAfter}
 use Rattle.field_text.specs.declared.OptString.{OptString}
 use Rattle.field_text.specs.declared.OptString.the-variants as optional

@@ -1,7 +1,7 @@
 -- A contract `saidPrimitive r ≡ ..` admits one outcome: the answer is read back from what it says. Assumes nothing.
 use mathlib.Core.Path.{_≡_, refl}
 use Rattle.answer.specs.Answer.{Answer}
-use Rattle.answer.specs.OneOutcome.{heard, heard-no, one-of}
+use Rattle.answer.proofs.OneOutcome.{heard, heard-no, one-of}
 use Rattle.word_primitive.specs.Primitive.{saidPrimitive}
 use Rattle.word_primitive.specs.declared.PrimitiveType.{PrimitiveType}
 use Rattle.word_primitive.specs.declared.PrimitiveAnswer.{PrimitiveAnswer}

@@ -1,9 +1,9 @@
 -- What an entry's answer says fixes the answer. Assumes nothing.
 use mathlib.Core.Path.{_≡_, refl, ap}
 use Rattle.answer.specs.Answer.{Answer, answered, refused}
-use Rattle.answer.specs.OneOutcome.{one-of, heard, heard-no}
-use Rattle.record_data.specs.OneOutcome.{dataIn, data-back}
-use Rattle.record_id.specs.OneOutcome.{idIn, id-data-back}
+use Rattle.answer.proofs.OneOutcome.{one-of, heard, heard-no}
+use Rattle.record_data.proofs.OneOutcome.{dataIn, data-back}
+use Rattle.record_id.proofs.OneOutcome.{idIn, id-data-back}
 use Rattle.record_parse.specs.Record.{Parsed, primitive, type, id, saidParse}
 use Rattle.record_parse.specs.declared.ParseAnswer.{ParseAnswer}
 use Rattle.record_parse.specs.declared.ParseAnswer.the-variants as parsed

@@ -1,6 +1,6 @@
 -- What each answer of this crate says fixes the answer. Assumes nothing.
 use mathlib.Core.Path.{_≡_, refl}
-use Rattle.answer.specs.OneOutcome.{one-of, heard, heard-no}
+use Rattle.answer.proofs.OneOutcome.{one-of, heard, heard-no}
 use Rattle.field_text.specs.Texts.{Part}
 use Rattle.stream_view.specs.Views.{saidView, saidKind}
 use Rattle.stream_view.specs.declared.ViewAnswer.{ViewAnswer}

@@ -3,7 +3,7 @@ use Prim.Native.Nat.{ℕ}
 use mathlib.Core.Path.{_≡_, refl, sym, ap, _∙_}
 use mathlib.Core.List.{List}
 use Rattle.answer.specs.Answer.{Answer}
-use Rattle.answer.specs.OneOutcome.{one-of, heard, heard-no}
+use Rattle.answer.proofs.OneOutcome.{one-of, heard, heard-no}
 use Rattle.stream_index.specs.Walk.{Turn, over, moved, saidTurn, Leads, saidEnd}
 use Rattle.stream_index.specs.declared.TurnAnswer.{TurnAnswer}
 use Rattle.stream_index.specs.declared.TurnAnswer.the-variants as turn

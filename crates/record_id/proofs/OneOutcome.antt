@@ -4,11 +4,12 @@ use mathlib.Core.Path.{_≡_, refl, ap, _∙_}
 use mathlib.Core.List.{List}
 use lib.Dec.{eqb}
 use Rattle.answer.specs.Answer.{Answer, answered, refused, pick}
-use Rattle.answer.specs.OneOutcome.{one-of, refusalIn, refusal-back}
+use Rattle.answer.proofs.OneOutcome.{one-of, refusalIn, refusal-back}
 use Rattle.field_text.specs.Texts.{Part}
-use Rattle.field.specs.OneOutcome.{hear-optional-id}
+use Rattle.field.proofs.OneOutcome.{hear-optional-id}
 use Rattle.record_layout.specs.Fields.{Value}
-use Rattle.record_layout.specs.OneOutcome.{nth, numberIn, stringIn, optionIn, id-back}
+use Rattle.record_layout.specs.Values.{nth, numberIn, stringIn, optionIn}
+use Rattle.record_layout.proofs.OneOutcome.{id-back}
 use Rattle.record_id.specs.Said.{sourceValues, idValues, saidIdData}
 use Rattle.record_id.specs.declared.UserDefinedTypeSourceFileRef.{UserDefinedTypeSourceFileRef}
 use Rattle.record_id.specs.declared.UserDefinedTypeSourceFileRef.the-variants as file

@@ -6,11 +6,12 @@ use mathlib.Core.List.{List}
 use mathlib.Core.Option.{Option, none, some}
 use lib.Dec.{eqb}
 use Rattle.answer.specs.Answer.{Answer, answered, refused, Read, pick}
-use Rattle.answer.specs.OneOutcome.{one-of, refusalIn, refusal-back}
+use Rattle.answer.proofs.OneOutcome.{one-of, refusalIn, refusal-back}
 use Rattle.field_text.specs.Texts.{Part}
-use Rattle.field_number.specs.OneOutcome.{hear-number}
+use Rattle.field_number.proofs.OneOutcome.{hear-number}
 use Rattle.record_layout.specs.Fields.{Value, orAbsent}
-use Rattle.record_layout.specs.OneOutcome.{nth, numberIn, stringIn, integerIn, optionIn, option-back, number-back}
+use Rattle.record_layout.specs.Values.{nth, numberIn, stringIn, optionIn}
+use Rattle.record_layout.proofs.OneOutcome.{integerIn, option-back, number-back}
 use Rattle.record_member.specs.Said.{offsetSaid, virtualLeaf, memberValues, saidMember, entryValues, saidEntry}
 use Rattle.record_member.specs.declared.OptOffset.{OptOffset}
 use Rattle.record_member.specs.declared.OptOffset.the-variants as offset

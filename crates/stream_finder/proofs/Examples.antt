@@ -9,7 +9,7 @@ use Rattle.stream_header.specs.Examples.{streamE}
 use Rattle.stream_item.specs.Items.{indexIn}
 use Rattle.stream_item.specs.Links.{linkAt, chain, linkOf}
 use Rattle.stream_item.specs.Iterator.{itemAt}
-use Rattle.stream_item.specs.Examples.{cursor}
+use Rattle.stream_item.proofs.Examples.{cursor}
 use Rattle.stream_item.specs.declared.Stream.the-variants.{Types, Ids}
 use Rattle.stream_item.specs.declared.Entry.the-variants.{Record, Marker}
 use Rattle.stream_finder.specs.Finder.{state, begunBy, createBy, updateBy, Found, maxIndexBy, lookBy, createOf, updateOf, findOf, maxIndexOf}

@@ -5,7 +5,7 @@ use mathlib.Core.Path.{_≡_, refl}
 use mathlib.Core.Option.{Option, none, some}
 use lib.IntN.{ℤ}
 use Rattle.answer.specs.Answer.{answered, refused, Read}
-use Rattle.answer.specs.OneOutcome.{one-of}
+use Rattle.answer.proofs.OneOutcome.{one-of}
 use Rattle.field.specs.Fields.{said8, said16, said32, said64, saidI8, saidI16, saidI32, saidI64}
 use Rattle.field.specs.Indices.{saidType, saidId, saidStringRef, typeSaid, idSaid, saidOptType, saidOptId}
 use Rattle.field.specs.declared.fixed.Read8.{Read8}

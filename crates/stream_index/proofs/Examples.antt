@@ -5,9 +5,9 @@ use Rattle.answer.specs.Answer.{answered, refused}
 use Rattle.field.specs.Fields.{le}
 use Rattle.stream_header.specs.Examples.{streamE}
 use Rattle.stream_item.specs.Iterator.{nextOf}
-use Rattle.stream_item.specs.Examples.{cursor}
+use Rattle.stream_item.proofs.Examples.{cursor}
 use Rattle.stream_finder.specs.Finder.{State, state, updateBy}
-use Rattle.stream_finder.specs.Examples.{finderTo}
+use Rattle.stream_finder.proofs.Examples.{finderTo}
 use Rattle.stream_index.specs.Walk.{over, turnBy, turnOf, Turns, none, more}
 
 abbrev fresh : State

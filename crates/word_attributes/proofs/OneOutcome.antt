@@ -1,6 +1,6 @@
 -- A contract `said.. r ≡ ..` of this crate admits one outcome: each answer is read back from what it says. Assumes nothing.
 use mathlib.Core.Path.{_≡_, refl}
-use Rattle.answer.specs.OneOutcome.{heard, heard-no, one-of}
+use Rattle.answer.proofs.OneOutcome.{heard, heard-no, one-of}
 use Rattle.word_attributes.specs.Said.{saidKind, saidMode, saidFlag, saidSize}
 use Rattle.word_attributes.specs.declared.KindAnswer.{KindAnswer}
 use Rattle.word_attributes.specs.declared.KindAnswer.the-variants as kind

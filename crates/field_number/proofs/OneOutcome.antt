@@ -4,7 +4,7 @@ use Prim.Native.Nat.{ℕ}
 use mathlib.Core.Path.{_≡_, refl, ap}
 use lib.IntN.{ℤ, pos, negsuc}
 use Rattle.answer.specs.Answer.{answered, refused, Read}
-use Rattle.answer.specs.OneOutcome.{one-of, refusal-back, refusalIn}
+use Rattle.answer.proofs.OneOutcome.{one-of, refusal-back, refusalIn}
 use Rattle.field_number.specs.Numbers.{numberSaid, saidVariant, saidSize}
 use Rattle.field_number.specs.declared.Number.{Number}
 use Rattle.field_number.specs.declared.Number.the-variants as number

@@ -1,0 +1,15 @@
+-- The name of a virtual base class: its leaf is one of two, and neither is named. Assumes nothing.
+use mathlib.Core.Bool.{Bool, true, false}
+use mathlib.Core.Path.{_≡_, refl}
+use mathlib.Core.List.{List, _∷_}
+use mathlib.Core.Option.{none}
+use Rattle.answer.specs.Tables.{among}
+use Rattle.field_text.specs.Texts.{Part}
+use Rattle.record_layout.specs.Fields.{Value, number}
+use Rattle.record_member.specs.Said.{virtualLeaf, namedLeaves, nameOf}
+
+-- a virtual base class has none, direct or not
+pub virtual-unnamed : (direct : Bool) (vs : List (Value Part)) → nameOf (number (virtualLeaf direct) ∷ vs) ≡ none
+unfolding among nameOf namedLeaves
+virtual-unnamed true vs = refl
+virtual-unnamed false vs = refl
