@@ -14,12 +14,13 @@ Where an expected line comes from:
 - A known difference: document 01's line, worked out by layouts.py or written out below, with the name of its line in docs/DIFFERENCES.md.
 - A command that the crate cannot be asked (next, create, update, findin, maxindex, view, marker, element, idelement): 01's rule, written again
   below beside 01's sentence, in Python, apart from the Rattle sources.
+- A command whose BYTES are none: `? bytes`, by PROTOCOL.md's sentence, written again below.
 - 01's examples: 01's lines, written out below. They must be what the rules above give too.
 
 No expected line is taken from REPLAY. It is run at the end, and must answer every line. The exit status is 1, and nothing is written, if an answer
 of the crate is not explained, if an example fails, if REPLAY answers otherwise or has no call of some public function, or if the list lacks one of:
 a command of PROTOCOL.md; a number 0 to 16; a leaf of 01; every prefix of a good record of every leaf; a record of the crate's tests; the largest
-counts; a table exactly full and one short.
+counts; a table exactly full and one short; bytes that are none, in every way, and as many bytes as there may be.
 """
 import os
 import random
@@ -294,6 +295,20 @@ PORT_ONLY = ("next", "create", "update", "findin", "maxindex", "view", "marker",
              "membername", "idat")
 
 
+# ---- words that should be BYTES ----
+
+# Where a command has its BYTES, the command itself being word 0; most have them as word 1.
+BYTES_AT = {**dict.fromkeys(("itemtype", "itemid", "string", "element", "idelement", "idat", "membername", "signs"), (2,)), "view": (1, 2),
+            **dict.fromkeys(("prim", "word", "opttype", "optid", "update", "maxindex", "marker", "cross", "item"), ())}
+MOST_BYTES = 65536
+
+
+def no_bytes(words):
+    """"Where it is missing, or has another letter than 0 to 9 and a to f, an odd number of digits, or more than 65,536 bytes.\""""
+    given = [words[at] if at < len(words) else "" for at in BYTES_AT.get(words[0], (1,))]
+    return any(w != "-" and (not re.fullmatch("([0-9a-f]{2})+", w) or len(w) > 2 * MOST_BYTES) for w in given)
+
+
 # ---- the crate's lines ----
 
 def record_line(o, data, why):
@@ -437,6 +452,13 @@ LARGEST = ["type 011200000040", "type 01120000004074000000", "type 0112ffffffff"
 E = header() + packed("0800 0110 74000000 0100 0a00 0210 00100000 0c000100")
 POINTER = "member=0 ref=0 flat32=0 volatile=0 const=0 unaligned=0 restrict=0"
 NO_COMMANDS = ["frobnicate", "antidisestablishmentarianism 12"]
+# Words that should be bytes and are not: another letter, upper case, half a byte, a minus too many, a file, none at all, one byte too many.
+NO_BYTES = [f"{kind} {word}" for kind in ("header", "kind", "type") for word in
+            ("zz", "0g", "011", "0", "01z", "0B", "0110AA", "--", "-00", "00-", "@e.tpi", "01,02", "")]
+NO_BYTES += ["find zz 0 0,1", "find 0 3 4096", "next 001 0 0", "create 0 7", "findin zz 4096 4120 0 - 4096", "view 0 01 t 0 0", "view 01 0 t 0 0",
+             "view zz zz i 0 0", "view 01", "string 4611 4", "signs 0 0x", "element 0 031", "itemtype 4096 0X10", "membername 0 0", "count 5",
+             "padding " + "00" * (MOST_BYTES + 1)]
+MOST = "padding " + "f1" * MOST_BYTES
 EXAMPLES = [
     (f"walk {E.hex()}", ["4096 1001 58+8", "4097 1002 68+10", "done 4098 78"]),
     (f"parse {E.hex()}", ["4096 1001 58+8", "  0 1001 t=116 const=1 volatile=0 unaligned=0", "4097 1002 68+10", "  0 1002 t=4096 word=65548 class=-",
@@ -725,7 +747,7 @@ def never_called():
     """The public functions that the program `replay` has no call of."""
     mir = subprocess.run(["rt", "mir", "replay"], cwd=HERE, check=True, capture_output=True, encoding="utf-8").stdout
     called = set(re.findall(r'fn-def "([^"]*)"', mir))
-    # A method goes by its type's crate: `finder::ItemFinder::find` stands in lent.rt.
+    # A method goes by its type's crate: `stream_finder::ItemFinder::find` stands in lent.rt.
     return [f for f in public_functions() if f not in called and "::".join([f.split("::")[0]] + f.split("::")[2:]) not in called]
 
 
@@ -740,7 +762,7 @@ def lacking(vectors):
     for word in ("props", "field", "func", "ptr"):
         if not any(c.startswith(f"word {word} ") for c in asked):
             yield f"word {word}"
-    numbers = {n for c, lines in vectors if c not in NO_COMMANDS for n in numbers_in(c.split(), lines)}
+    numbers = {n for c, lines in vectors if c not in NO_COMMANDS + NO_BYTES for n in numbers_in(c.split(), lines)}
     for n in set(range(17)) - numbers:
         yield f"number {n}"
     for leaf in list(layouts.RECORDS) + list(layouts.LISTS) + ID_LEAVES:
@@ -762,9 +784,12 @@ def lacking(vectors):
     for leaf, record in GOOD_IDS.items():
         if not answer[f"id {hexed(packed(record))}"][0].startswith(f"0 {leaf:04x}"):
             yield f"good record {leaf:04x}"
-    for command in LARGEST + [f"type {d.hex()}" for d in [CRATE_1609] + CRATE_ARRAYS] + [c for c, _ in EXAMPLES] + NO_COMMANDS:
+    for command in LARGEST + [f"type {d.hex()}" for d in [CRATE_1609] + CRATE_ARRAYS] + [c for c, _ in EXAMPLES] + NO_COMMANDS + NO_BYTES + [MOST]:
         if command not in asked:
             yield command[:80]
+    for command, lines in vectors:
+        if (lines == ["? bytes"]) != (command in NO_BYTES):
+            yield f"bytes that are none, or that are some: {command[:80]}"
     for command, line in (("update 4096 4126 2 5,6 99 4112", "13 held=2 ; 5 6"), ("update 4096 4126 1 5,6 99 4104", "0 held=2 ; 5 99"),
                           ("create " + header().hex() + " -", "13 ; -"), ("create " + header().hex() + " 7", "0 4096 4098 held=1 shift=3 ; 56")):
         if answer.get(command) != [line]:
@@ -783,17 +808,19 @@ def main():
     oracle, replay = (os.path.abspath(w) for w in words)
     make_inputs.rng.seed(seed)
     rng = make_inputs.rng
-    commands = [c for c, _ in EXAMPLES] + NO_COMMANDS + list(small_commands()) + list(record_commands(rng)) + list(word_commands(rng)) + list(stream_commands(rng))
+    commands = [c for c, _ in EXAMPLES] + NO_COMMANDS + NO_BYTES + [MOST] + list(small_commands()) + list(record_commands(rng)) + list(word_commands(rng)) + list(stream_commands(rng))
     commands = list(dict.fromkeys(commands))
     problems = compare.listed()
-    crate = [c for c in commands if c.split()[0] not in PORT_ONLY]
+    crate = [c for c in commands if c.split()[0] not in PORT_ONLY and (c in NO_COMMANDS or not no_bytes(c.split()))]
     lines_of = dict(zip(crate, compare.answers(oracle, crate)))
     primitives = dict(line.split(" ", 1) for line in compare.answers(oracle, ["prim 0 4096"])[0])
     vectors, reasons = [], {}
     for c in commands:
         why = set()
         try:
-            if c in lines_of:
+            if c not in NO_COMMANDS and no_bytes(c.split()):
+                lines = ["? bytes"]
+            elif c in lines_of:
                 lines = by_crate(c.split(), lines_of[c], why)
             else:
                 lines = [by_rule(c.split(), primitives.get(c.split()[2]) if c.startswith("marker") else None)]

@@ -67,7 +67,7 @@ def common_ini(text):
 def main(root):
     crates = os.path.join(root, "crates")
     if not os.path.isdir(os.path.join(crates, "common")):
-        print("rename_families: no crates/field, nothing to do")
+        print("rename_families: the crates have their names by family already, nothing to do")
         return
     for folder, _, files in os.walk(root):
         if os.sep + ".git" in folder or os.sep + "target" in folder or folder.endswith(os.sep + "driver"):

@@ -1,5 +1,6 @@
 // An outline of a type stream, as a generator of bindings would read one: each class, structure and interface that the stream defines, with
 // its size, and under it its data members, with their offsets and types. A type stands by its name, or by its index where it has none.
+// It reads at most 65,536 bytes from standard input, as `list` does. What is refused is said where it stands, by its number and name.
 use answer::Refusal;
 use field::index::OptTypeIndex;
 use field::index::TypeIndex;
@@ -17,9 +18,11 @@ use record_member::MemberType;
 use record_parse::ParseAnswer;
 use stream_finder::FindAnswer;
 use stream_finder::ItemFinder;
+use stream_index::End;
 use stream_index::WalkAnswer;
 use stream_item::Entry;
 use stream_item::Stream;
+use stream_item::iter::ItemIter;
 
 fn put(text: &[u8]) {
     io::write_all(STDOUT_FILENO, text);
@@ -32,6 +35,37 @@ fn put_number(n: u64) {
 fn put_index(t: TypeIndex) {
     put(b"#");
     put_number(t.0 as u64);
+}
+
+// A refusal's name, as docs/NUMBERS.md has it.
+fn put_name_of(e: Refusal) {
+    match e {
+        Refusal::Ended => put(b"ended"),
+        Refusal::EndedAfter(_) => put(b"ended"),
+        Refusal::HeaderSmall => put(b"header small"),
+        Refusal::HeaderLarge => put(b"header large"),
+        Refusal::MinimumLow => put(b"minimum low"),
+        Refusal::MaximumLow => put(b"maximum low"),
+        Refusal::TooShort => put(b"too short"),
+        Refusal::IndicesUsedUp => put(b"indices used up"),
+        Refusal::NotFound(_) => put(b"not found"),
+        Refusal::NotIndexed(_, _) => put(b"not indexed"),
+        Refusal::LeafUnknown(_) => put(b"leaf unknown"),
+        Refusal::NumberBad => put(b"number bad"),
+        Refusal::PointerWord => put(b"pointer word"),
+        Refusal::TableFull => put(b"table full"),
+        Refusal::ForeignCursor => put(b"foreign cursor"),
+        Refusal::NoSuchElement => put(b"no such element"),
+        Refusal::TooLong => put(b"too long"),
+    }
+}
+
+fn put_refused(e: Refusal) {
+    put(b"refused ");
+    put_number(e.number() as u64);
+    put(b" ");
+    put_name_of(e);
+    put(b"\n");
 }
 
 // A record's bytes in the type stream; the id stream is not at hand.
@@ -55,7 +89,7 @@ fn put_entry(tpi: &[u8], entry: Entry, t: TypeIndex) {
 }
 
 fn put_type(tpi: &[u8], places: &[u32], f: ItemFinder, t: TypeIndex) {
-    match stream_finder::find_type(tpi, places, f, t) {
+    match stream_finder::find_type(tpi, f, places, t) {
         FindAnswer::Found(entry, _) => put_entry(tpi, entry, t),
         FindAnswer::Refused(_) => put_index(t),
     }
@@ -73,57 +107,113 @@ fn put_member(tpi: &[u8], places: &[u32], f: ItemFinder, fields: &[u8], m: Membe
     put(b"\n");
 }
 
-fn put_element(tpi: &[u8], places: &[u32], f: ItemFinder, fields: &[u8], e: Element) {
+// What comes after an element: the next one of this list, or the list's end, and where it goes on from there, if it does.
+enum Onward {
+    To(ListCursor),
+    Over(OptTypeIndex),
+}
+
+fn put_element(
+    tpi: &[u8],
+    places: &[u32],
+    f: ItemFinder,
+    fields: &[u8],
+    e: Element,
+    behind: ListCursor,
+) -> Onward {
     match e {
         Element::Member(m) => match m {
-            Member::Member(d) => put_member(tpi, places, f, fields, d),
-            _ => {}
+            Member::Member(d) => {
+                put_member(tpi, places, f, fields, d);
+                Onward::To(behind)
+            }
+            Member::Continuation(t) => Onward::Over(OptTypeIndex::Some(t)),
+            _ => Onward::To(behind),
         },
-        _ => {}
+        _ => Onward::To(behind),
     }
 }
 
-enum Onward {
-    To(ListCursor),
-    Over,
+// A list ends by 15, "no such element"; any other refusal is said under its structure.
+fn put_list_end(e: Refusal) -> OptTypeIndex {
+    match e {
+        Refusal::NoSuchElement => OptTypeIndex::None,
+        _ => {
+            put(b"    ");
+            put_refused(e);
+            OptTypeIndex::None
+        }
+    }
 }
 
 fn step(tpi: &[u8], places: &[u32], f: ItemFinder, fields: &[u8], c: ListCursor) -> Onward {
-    match record_reader::next_of(fields, c) {
-        StepAnswer::Answered(e, behind) => {
-            put_element(tpi, places, f, fields, e);
-            Onward::To(behind)
-        }
-        StepAnswer::Refused(_) => Onward::Over,
+    match record_list::step(fields, c) {
+        StepAnswer::Answered(e, behind) => put_element(tpi, places, f, fields, e, behind),
+        StepAnswer::Refused(e) => Onward::Over(put_list_end(e)),
     }
 }
 
-// Each member takes two bytes at least, so that 65,536 bytes end before the turns do.
-fn put_members(tpi: &[u8], places: &[u32], f: ItemFinder, fields: &[u8], from: ListCursor) {
+// The members of one record, and where the list goes on. Each member takes two bytes at least, so that 65,536 bytes end before the turns do.
+fn put_members(
+    tpi: &[u8],
+    places: &[u32],
+    f: ItemFinder,
+    fields: &[u8],
+    from: ListCursor,
+) -> OptTypeIndex {
     let mut c = from;
     let mut turns: u32 = 65536;
     while 0 < turns {
         turns -= 1;
-        let t = step(tpi, places, f, fields, c);
-        let Onward::To(behind) = t else {
-            return;
-        };
-        c = behind;
+        match step(tpi, places, f, fields, c) {
+            Onward::To(behind) => {
+                c = behind;
+            }
+            Onward::Over(rest) => {
+                return rest;
+            }
+        }
     }
+    OptTypeIndex::None
 }
 
-fn put_list(tpi: &[u8], places: &[u32], f: ItemFinder, fields: &[u8]) {
-    match record_list::start(fields) {
+fn put_list(tpi: &[u8], places: &[u32], f: ItemFinder, fields: &[u8]) -> OptTypeIndex {
+    match record_list::start(Stream::Types, fields) {
         StartAnswer::Answered(c) => put_members(tpi, places, f, fields, c),
-        StartAnswer::Refused(_) => {}
+        StartAnswer::Refused(e) => put_list_end(e),
     }
 }
 
-fn put_fields(tpi: &[u8], places: &[u32], f: ItemFinder, t: TypeIndex) {
-    match stream_finder::find_type(tpi, places, f, t) {
+fn put_part(tpi: &[u8], places: &[u32], f: ItemFinder, t: TypeIndex) -> OptTypeIndex {
+    match stream_finder::find_type(tpi, f, places, t) {
         FindAnswer::Found(entry, _) => put_list(tpi, places, f, bytes_of(tpi, entry)),
-        FindAnswer::Refused(_) => {}
+        FindAnswer::Refused(e) => put_list_end(e),
     }
+}
+
+fn put_goes_on(t: TypeIndex) {
+    put(b"    goes on in ");
+    put_index(t);
+    put(b"\n");
+}
+
+// A field list and the records in which it goes on, 64 in all: compilers go on where a record is full at 64 KiB, and a list that goes on in
+// itself has no end. What is not followed is said.
+fn put_fields(tpi: &[u8], places: &[u32], f: ItemFinder, first: TypeIndex) {
+    let mut t = first;
+    let mut left: u32 = 64;
+    while 0 < left {
+        left -= 1;
+        match put_part(tpi, places, f, t) {
+            OptTypeIndex::Some(rest) => {
+                t = rest;
+            }
+            OptTypeIndex::None => {
+                return;
+            }
+        }
+    }
+    put_goes_on(t);
 }
 
 // A structure's line, and under it its members; one that is only announced here is passed over.
@@ -144,25 +234,50 @@ fn put_class(tpi: &[u8], places: &[u32], f: ItemFinder, record: &[u8], c: ClassT
     }
 }
 
+// A record that is refused is said by its index; a leaf that document 01 does not have is passed over.
+fn put_unread(entry: Entry, e: Refusal) {
+    match e {
+        Refusal::LeafUnknown(_) => {}
+        _ => {
+            let index = entry.index();
+            put(b"#");
+            put_number(index.number() as u64);
+            put(b" ");
+            put_refused(e);
+        }
+    }
+}
+
 fn put_record(tpi: &[u8], places: &[u32], f: ItemFinder, entry: Entry) {
     match record_parse::parse(tpi, &tpi[0..0], entry) {
         ParseAnswer::Type(d) => match d {
             TypeData::Class(c) => put_class(tpi, places, f, bytes_of(tpi, entry), c),
             _ => {}
         },
+        ParseAnswer::Refused(e) => put_unread(entry, e),
         _ => {}
     }
 }
 
 fn put_indexed(tpi: &[u8], places: &[u32], f: ItemFinder, t: TypeIndex) {
-    match stream_finder::find_type(tpi, places, f, t) {
+    match stream_finder::find_type(tpi, f, places, t) {
         FindAnswer::Found(entry, _) => put_record(tpi, places, f, entry),
         FindAnswer::Refused(_) => {}
     }
 }
 
-fn outline(tpi: &[u8], places: &[u32], f: ItemFinder) {
-    let end = f.maximum_index;
+// The last index is the header's or, where fewer records are there than it says, the last one that the walk came to.
+fn last_of(f: ItemFinder, c: ItemIter) -> u32 {
+    let named = f.maximum_index;
+    let walked = c.index;
+    if walked < named {
+        return walked;
+    }
+    named
+}
+
+fn outline(tpi: &[u8], places: &[u32], f: ItemFinder, c: ItemIter) {
+    let end = last_of(f, c);
     let mut i = f.minimum_index;
     while i < end {
         put_indexed(tpi, places, f, TypeIndex(i));
@@ -170,23 +285,34 @@ fn outline(tpi: &[u8], places: &[u32], f: ItemFinder) {
     }
 }
 
-fn put_refused(e: Refusal) {
-    put(b"refused ");
-    put_number(e.number() as u64);
-    put(b"\n");
+// Why the walk ended, where that is not the stream's end.
+fn put_end(end: End) {
+    match end {
+        End::Done => {}
+        End::Refused(e) => put_refused(e),
+    }
 }
 
 // The whole stream is indexed once; after that any type is found in at most eight steps.
 fn run(tpi: &[u8], places: &mut [u32; 2048]) {
     match stream_index::walk(Stream::Types, tpi, places) {
-        WalkAnswer::Answered(tour) => outline(tpi, places, tour.finder),
+        WalkAnswer::Answered(tour) => {
+            let end = tour.end;
+            outline(tpi, places, tour.finder, tour.cursor);
+            put_end(end);
+        }
         WalkAnswer::Refused(e) => put_refused(e),
     }
 }
 
+// One byte more than a stream may have is read, so that a longer one is told.
 fn main() {
-    let mut stream = [0u8; 65536];
+    let mut stream = [0u8; 65537];
     let mut places = [0u32; 2048];
     let n = io::read_full(STDIN_FILENO, &mut stream);
+    if 65536 < n {
+        put_refused(Refusal::TooLong);
+        return;
+    }
     run(&stream[..n], &mut places);
 }

@@ -214,9 +214,10 @@ pub fn read_numeral(buffer: &mut [u8; 65536], from: Input) -> Numeral {
     }
 }
 
-// Bytes in hex: `len` of them are in the lent array.
+// Bytes in hex: `len` of them are in the lent array. They are good if the word is the protocol's BYTES and no more than 65,536 of them.
 pub struct Bytes {
     pub len: usize,
+    pub good: bool,
     pub input: Input,
 }
 
@@ -235,9 +236,32 @@ fn nibble(code: u16) -> u8 {
     16
 }
 
-pub fn read_bytes(buffer: &mut [u8; 65536], from: Input, out: &mut [u8; 65536]) -> Bytes {
-    let mut input = blanks(buffer, from);
+fn both(a: bool, b: bool) -> bool {
+    a && b
+}
+
+// Half a byte is not good, nor is no digit.
+fn pairs_good(len: usize, half: bool) -> bool {
+    0 < len && !half
+}
+
+// The bytes that were read, and the input behind their word: good if they are and nothing is left of the word.
+fn bytes_end(buffer: &mut [u8; 65536], from: Input, len: usize, good: bool) -> Bytes {
+    let seen = peek(buffer, from);
+    let whole = ends_word(seen.code);
+    let behind = word_end(buffer, seen.input);
+    Bytes {
+        len: len,
+        good: both(good, whole),
+        input: behind,
+    }
+}
+
+// Digits by two, as long as they come.
+fn read_pairs(buffer: &mut [u8; 65536], from: Input, out: &mut [u8; 65536]) -> Bytes {
+    let mut input = from;
     let mut len: usize = 0;
+    let mut half = false;
     while len < 65536 {
         let high = peek(buffer, input);
         let h = nibble(high.code);
@@ -246,6 +270,7 @@ pub fn read_bytes(buffer: &mut [u8; 65536], from: Input, out: &mut [u8; 65536]) 
             break;
         }
         input = past(input);
+        half = true;
         let low = peek(buffer, input);
         let l = nibble(low.code);
         input = low.input;
@@ -253,14 +278,21 @@ pub fn read_bytes(buffer: &mut [u8; 65536], from: Input, out: &mut [u8; 65536]) 
             break;
         }
         input = past(input);
+        half = false;
         out[len] = h * 16 + l;
         len += 1;
     }
-    let behind = word_end(buffer, input);
-    Bytes {
-        len: len,
-        input: behind,
+    bytes_end(buffer, input, len, pairs_good(len, half))
+}
+
+// BYTES: lower-case hex, or `-` for no bytes.
+pub fn read_bytes(buffer: &mut [u8; 65536], from: Input, out: &mut [u8; 65536]) -> Bytes {
+    let start = blanks(buffer, from);
+    let seen = peek(buffer, start);
+    if seen.code == 45 {
+        return bytes_end(buffer, past(seen.input), 0, true);
     }
+    read_pairs(buffer, seen.input, out)
 }
 
 // Numbers with commas between them, each below 2^32, go into the lent table; `-` is none of them.
@@ -387,8 +419,9 @@ pub fn known(letters: &[u8; 16], n: usize, text: &[u8]) -> Name {
     }
 }
 
-// How many bytes, places and numbers were read, and the input behind them.
+// How many bytes, places and numbers were read, whether the bytes are good, and the input behind them.
 pub struct Arguments {
+    pub good: bool,
     pub first: usize,
     pub second: usize,
     pub places: usize,
@@ -399,6 +432,7 @@ pub struct Arguments {
 fn with_first(a: Arguments, b: Bytes) -> Arguments {
     let input = b.input;
     Arguments {
+        good: both(a.good, b.good),
         first: b.len,
         second: a.second,
         places: a.places,
@@ -410,6 +444,7 @@ fn with_first(a: Arguments, b: Bytes) -> Arguments {
 fn with_second(a: Arguments, b: Bytes) -> Arguments {
     let input = b.input;
     Arguments {
+        good: both(a.good, b.good),
         first: a.first,
         second: b.len,
         places: a.places,
@@ -421,6 +456,7 @@ fn with_second(a: Arguments, b: Bytes) -> Arguments {
 fn with_places(a: Arguments, t: Numbers) -> Arguments {
     let input = t.input;
     Arguments {
+        good: a.good,
         first: a.first,
         second: a.second,
         places: t.len,
@@ -436,6 +472,7 @@ fn with_number(a: Arguments, out: &mut [u64; 8], n: u64, input: Input) -> Argume
     }
     out[at] = n;
     Arguments {
+        good: a.good,
         first: a.first,
         second: a.second,
         places: a.places,
@@ -503,6 +540,7 @@ pub fn read_arguments(
     numbers: &mut [u64; 8],
 ) -> Arguments {
     let mut a = Arguments {
+        good: true,
         first: 0,
         second: 0,
         places: 0,

@@ -223,7 +223,7 @@ fn carry_out<'a>(
     find(buffer, a.input, tpi, command == 27, places, n[0] == 1, n[1])
 }
 
-// A command that has a name, and the input behind its words.
+// A command that has a name, and the input behind its words. Where its bytes are not good, that is its answer.
 fn named(
     buffer: &mut [u8; 65536],
     from: Input,
@@ -242,6 +242,10 @@ fn named(
         places,
         &mut numbers,
     );
+    if !a.good {
+        lines::put(b"? bytes\n");
+        return a.input;
+    }
     carry_out(
         buffer,
         a,

@@ -156,21 +156,21 @@ impl ItemFinder {
 }
 
 // The type of an index: s is the TPI stream, f its finder.
-pub fn find_type(s: &[u8], t: &[u32], f: ItemFinder, i: TypeIndex) -> FindAnswer
+pub fn find_type(s: &[u8], f: ItemFinder, t: &[u32], i: TypeIndex) -> FindAnswer
     ensures { λ r. ⌜ saidFind r ≡ findOf (now (s .entry)) (state f (now (t .entry))) (index.Types i) ⌝ }
 {
-    find(s, t, f, ItemIndex::Types(i))
+    find(s, f, t, ItemIndex::Types(i))
 }
 
 // The id of an index: s is the IPI stream, f its finder.
-pub fn find_id(s: &[u8], t: &[u32], f: ItemFinder, i: IdIndex) -> FindAnswer
+pub fn find_id(s: &[u8], f: ItemFinder, t: &[u32], i: IdIndex) -> FindAnswer
     ensures { λ r. ⌜ saidFind r ≡ findOf (now (s .entry)) (state f (now (t .entry))) (index.Ids i) ⌝ }
 {
-    find(s, t, f, ItemIndex::Ids(i))
+    find(s, f, t, ItemIndex::Ids(i))
 }
 
 // The record of an index, or the marker below the minimum, with the links passed on the way.
-fn find(s: &[u8], t: &[u32], f: ItemFinder, i: ItemIndex) -> FindAnswer
+fn find(s: &[u8], f: ItemFinder, t: &[u32], i: ItemIndex) -> FindAnswer
     ensures { λ r. ⌜ saidFind r ≡ findOf (now (s .entry)) (state f (now (t .entry))) i ⌝ }
 {
     let minimum = f.minimum_index;

@@ -37,7 +37,7 @@ pub enum WalkAnswer {
 }
 
 // One record on, and the finder updated; refused by either, it changes nothing.
-pub fn turn(s: &[u8], t: &mut [u32], f: ItemFinder, c: ItemIter) -> TurnAnswer
+pub fn turn(s: &[u8], f: ItemFinder, t: &mut [u32], c: ItemIter) -> TurnAnswer
     ensures { λ r. ⌜ Leads (now (t .entry)) (turnOf (now (s .entry)) (state f (now (t .entry))) c) r (now (t .exit)) ⌝ }
 {
     match iter::next(s, c) {
@@ -51,13 +51,13 @@ pub fn turn(s: &[u8], t: &mut [u32], f: ItemFinder, c: ItemIter) -> TurnAnswer
 }
 
 // As many turns as there are, from any finder and any cursor.
-pub fn walk_on(s: &[u8], t: &mut [u32], f: ItemFinder, c: ItemIter) -> Tour
+pub fn index_on(s: &[u8], f: ItemFinder, t: &mut [u32], c: ItemIter) -> Tour
     ensures { λ r. ⌜ Walks (now (s .entry)) c (state f (now (t .entry))) r (now (t .exit)) ⌝ }
 {
     let mut finder = f;
     let mut cursor = c;
     loop {
-        match turn(s, t, finder, cursor) {
+        match turn(s, finder, t, cursor) {
             TurnAnswer::Moved(g, d) => {
                 finder = g;
                 cursor = d;
@@ -81,12 +81,12 @@ pub fn walk_on(s: &[u8], t: &mut [u32], f: ItemFinder, c: ItemIter) -> Tour
 }
 
 // A whole stream, from a fresh finder and a fresh iterator.
-pub fn walk(stream: Stream, s: &[u8], t: &mut [u32]) -> WalkAnswer
+pub fn index_all(stream: Stream, s: &[u8], t: &mut [u32]) -> WalkAnswer
     ensures { λ r. ⌜ Indexes stream (now (s .entry)) (now (t .entry)) r (now (t .exit)) ⌝ }
 {
     match iter::iter(stream, s) {
         IterAnswer::Answered(c) => match stream_finder::create(s, t) {
-            FinderAnswer::Answered(f) => WalkAnswer::Answered(walk_on(s, t, f, c)),
+            FinderAnswer::Answered(f) => WalkAnswer::Answered(index_on(s, f, t, c)),
             FinderAnswer::Refused(e) => WalkAnswer::Refused(e),
         },
         IterAnswer::Refused(e) => WalkAnswer::Refused(e),

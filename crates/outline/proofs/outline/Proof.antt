@@ -1,4 +1,4 @@
--- `outline::outline` is safe and ends: the indices come to the maximum. Assumes nothing.
+-- `outline::outline` is safe and ends: the indices come to the last one. Assumes nothing.
 use Prim.Native.Nat.{_-_}
 use borrow.Author.Needs.{needs}
 use Rattle.outline.proofs.outline.Statement.{statement}
@@ -13,4 +13,5 @@ abbrev μ-loop : tie.MeasureT-loop
 pub outline-spec : {M : Type 1} → statement M
 outline-spec =
     tie.close (tie.spec Inv-loop μ-loop
-    (λ c. search needs) (λ c κs. search needs) (λ c. search needs) (λ c. search needs) (λ c. search needs) (λ c. search needs))
+    (λ c κs. search needs) (λ c. search needs) (λ c κs. search needs) (λ c. search needs) (λ c. search needs) (λ c. search needs)
+    (λ c. search needs))

@@ -1,17 +1,14 @@
--- `replay::input::read_bytes` is safe and ends: its turns are counted down. Assumes nothing.
+-- `replay::input::read_pairs` is safe and ends: its turns are counted down. Assumes nothing.
 use Prim.Native.Nat.{_-_}
 use borrow.Author.Needs.{needs}
-use Rattle.replay.proofs.input.read_bytes.Statement.{statement}
-use Rattle.replay.proofs.input.read_bytes.Tie as tie
+use Rattle.replay.proofs.input.read_pairs.Statement.{statement}
+use Rattle.replay.proofs.input.read_pairs.Tie as tie
 
 abbrev Inv-loop : tie.InvT-loop
-Inv-loop buffer₀ out₀ input₀ len₀ buffer out input len = Unit {0}
+Inv-loop buffer₀ out₀ input₀ len₀ half₀ buffer out input len half = Unit {0}
 
 abbrev μ-loop : tie.MeasureT-loop
-μ-loop buffer₀ out₀ input₀ len₀ buffer out input len = 65536 - len
-
-blanks-requires : tie.Need-blanks-requires Inv-loop μ-loop
-blanks-requires c κs = search needs
+μ-loop buffer₀ out₀ input₀ len₀ half₀ buffer out input len half = 65536 - len
 
 loop-holds : tie.Need-loop-holds Inv-loop μ-loop
 loop-holds c = search needs
@@ -52,19 +49,21 @@ loop-less c = search needs
 loop-again : tie.Need-loop-again Inv-loop μ-loop
 loop-again c = search needs
 
-word-end-requires : tie.Need-word-end-requires Inv-loop μ-loop
-word-end-requires c κs = search needs
+pairs-good-requires : tie.Need-pairs-good-requires Inv-loop μ-loop
+pairs-good-requires c κs = search needs
+
+bytes-end-requires : tie.Need-bytes-end-requires Inv-loop μ-loop
+bytes-end-requires c κs = search needs
 
 returns : tie.Need-returns Inv-loop μ-loop
 returns c = search needs
 
-pub read-bytes-spec : {M : Type 1} → statement M
-read-bytes-spec =
+pub read-pairs-spec : {M : Type 1} → statement M
+read-pairs-spec =
     tie.close
     (tie.spec
     Inv-loop
     μ-loop
-    blanks-requires
     loop-holds
     peek-requires
     nibble-requires
@@ -78,5 +77,6 @@ read-bytes-spec =
     add-len
     loop-less
     loop-again
-    word-end-requires
+    pairs-good-requires
+    bytes-end-requires
     returns)
