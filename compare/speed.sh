@@ -6,10 +6,12 @@
 # SPEED   the program speed that build.sh made
 # STREAM  raw streams of at most 262,144 bytes, .tpi or .ipi; without any: the larger ones of samples/
 #
-# Wanted: valgrind, and the port's program measure, which `rt check measure` makes.
+# Wanted: the port's program measure, which `rt check measure` makes; and valgrind, on x86-64.
 # Each operation is done 10 times and 20 times; the difference over 10 times the records is what one record costs, and what both runs do
 # once (starting, reading the input, a finder for `find`) is not in it. `header` is counted by the header and not by the record.
 # valgrind's callgrind counts every instruction of the program, so that a run can be repeated and gives the same numbers.
+# On another processor the port, which is compiled for x86-64, runs under the toolchain's emulator, one instruction a line of its log, once and
+# twice; the numbers are callgrind's. The crate is then not counted: its own build is for that processor (SPEED may be `-`).
 set -e
 if [ $# -lt 1 ]; then
   echo "usage: speed.sh SPEED [STREAM..]" >&2
@@ -23,9 +25,20 @@ if [ $# -eq 0 ]; then
   set -- "$root/samples/gen400-x64.tpi" "$root/samples/rich-x64.tpi" "$root/samples/rich-x64.ipi"
 fi
 
-count() { # program operation times stream
-  valgrind --tool=callgrind --callgrind-out-file=/dev/null "$1" "$2" "$3" < "$4" 2>&1 >/dev/null | sed -n 's/.*Collected : //p'
-}
+if [ "$(uname -m)" = x86_64 ]; then
+  fewest=10
+  count() { # program operation times stream
+    valgrind --tool=callgrind --callgrind-out-file=/dev/null "$1" "$2" "$3" < "$4" 2>&1 >/dev/null | sed -n 's/.*Collected : //p'
+  }
+else
+  fewest=1
+  speed=-
+  tools=$(dirname "$(dirname "$(rt doc)")")/on/$(uname -m)/toolchain
+  count() { # program operation times stream
+    "$tools/bin/qemu-x86_64" -one-insn-per-tb -d exec,nochain -D /dev/fd/3 \
+      "$tools/lib/ld-linux-x86-64.so.2" --library-path "$tools/lib" "$1" "$2" "$3" < "$4" 3>&1 >/dev/null | grep -c '^Trace'
+  }
+fi
 
 word() { # stream offset: the u32 there
   od -An -t u4 -j "$2" -N 4 "$1" | tr -d ' '
@@ -40,15 +53,19 @@ for stream; do
     *) operations="header walk index find parse elements" ;;
   esac
   for op in $operations; do
-    n=10 over=$((10 * records))
+    n=$fewest over=$((fewest * records))
     if [ $op = header ]; then
-      n=1000 over=1000
+      n=$((100 * fewest)) over=$n
+    fi
+    port=$(($(count "$measure" $op $((2 * n)) "$stream") - $(count "$measure" $op $n "$stream")))
+    if [ "$speed" = - ]; then
+      awk -v s="$(basename "$stream")" -v op=$op -v p=$port -v over=$over 'BEGIN { printf "| %s | %s | %.1f | | | |\n", s, op, p / over }'
+      continue
     fi
     same=alike
     if [ "$("$measure" $op $n < "$stream")" != "$("$speed" $op $n < "$stream")" ]; then
       same=differ
     fi
-    port=$(($(count "$measure" $op $((2 * n)) "$stream") - $(count "$measure" $op $n "$stream")))
     crate=$(($(count "$speed" $op $((2 * n)) "$stream") - $(count "$speed" $op $n "$stream")))
     awk -v s="$(basename "$stream")" -v op=$op -v p=$port -v c=$crate -v over=$over -v same=$same \
       'BEGIN { printf "| %s | %s | %.1f | %.1f | %.2f | %s |\n", s, op, p / over, c / over, p / c, same }'

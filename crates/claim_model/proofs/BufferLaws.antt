@@ -8,7 +8,7 @@ use lib.ListN.{length, take as front, drop, length-drop}
 use lib.Dec.{leb}
 use borrow.Author.Tests.{le-leb, lt-leb, lt-ltb, leb-true, leb-false, eq-eqb, ne-eqb}
 use Rattle.answer.specs.Answer.{Answer, answered, refused, got, ended}
-use Rattle.field.specs.Fields.{le, fixedAt}
+use Rattle.field.specs.Fields.{littleAt, fixedAt}
 use Rattle.claim_model.specs.Rust.{Rust, gives, errs, panics, wraps, Error, UnexpectedEof, usize}
 use Rattle.claim_model.specs.ParseBuffer.{at, len, is-empty, parse, peek, take}
 use Rattle.claim_model.specs.Equal.{numbered, Equal, Same}
@@ -28,7 +28,7 @@ module _ (s : List ℕ) (p : ℕ) where
 
   -- a number of k bytes, in the crate and in the port
   module _ (k : ℕ) where
-    pub parse-in : p + k ≤ length s → parse k (at s p) ≡ gives (le k s p, at s (p + k))
+    pub parse-in : p + k ≤ length s → parse k (at s p) ≡ gives (littleAt k s p, at s (p + k))
     unfolding parse
     parse-in h = simp (le-leb _ _ h)
 
@@ -36,11 +36,11 @@ module _ (s : List ℕ) (p : ℕ) where
     unfolding parse
     parse-out h = simp (lt-leb _ _ h)
 
-    pub peek-in : p + k ≤ length s → peek k (at s p) ≡ gives (le k s p)
+    pub peek-in : p + k ≤ length s → peek k (at s p) ≡ gives (littleAt k s p)
     unfolding peek
     peek-in h = simp (parse-in h)
 
-    pub fixed-in : p + k ≤ length s → fixedAt k s p ≡ got (le k s p) (p + k)
+    pub fixed-in : p + k ≤ length s → fixedAt k s p ≡ got (littleAt k s p) (p + k)
     unfolding fixedAt
     fixed-in h = simp (le-leb _ _ h)
 

@@ -5,7 +5,7 @@ use mathlib.Core.List.{List, [], _∷_, _++_, map}
 use mathlib.Core.Option.{none, some}
 use lib.ListN.{replicate}
 use Rattle.answer.specs.Answer.{answered, refused}
-use Rattle.field.specs.Fields.{le}
+use Rattle.field.specs.Fields.{littleAt}
 use Rattle.stream_header.specs.Header.{headerOf}
 use Rattle.stream_header.specs.Examples.{four, streamE}
 use Rattle.stream_item.specs.Items.{indexIn}
@@ -42,7 +42,7 @@ found i b = gives (record { index = i; bytes = b })
 -- "`find` 4097 in E passes 1 link; 4098 gives 1 with 2 passed; 4099 gives 8; 4095 the marker"
 pub crate-finds : map (crateRun streamE 2) (4096 ∷ 4097 ∷ 4098 ∷ 4099 ∷ 4095 ∷ [])
     ≡ found 4096 modifier ∷ found 4097 pointed ∷ errs UnexpectedEof ∷ errs (TypeNotFound 4099) ∷ found 4095 PRIMITIVE-TYPE ∷ []
-unfolding crateRun parse-information parse-header fields iter new resolve max-index update skipped hit miss find next tour len is-empty parse take le
+unfolding crateRun parse-information parse-header fields iter new resolve max-index update skipped hit miss find next tour len is-empty parse take littleAt
 crate-finds = refl
 
 abbrev port : ℕ → ℕ → ℕ → ℕ → Found
@@ -55,7 +55,7 @@ pub port-finds : map (portRun stream.Types streamE (0 ∷ []) 2) (4096 ∷ 4097 
     ∷ refused 8 (4099 ∷ [])
     ∷ answered (record { entry = Marker (indexIn stream.Types 4095); passed = 0 })
     ∷ []
-unfolding portRun createBy begunBy iterOf headerOf turns nextOf updateBy lookBy linkOf chain linkAt maxIndexBy le
+unfolding portRun createBy begunBy iterOf headerOf turns nextOf updateBy lookBy linkOf chain linkAt maxIndexBy littleAt
 port-finds = refl
 
 -- a header of that size, minimum and maximum, then bytes
@@ -87,12 +87,12 @@ pub crate-edges : map (λ s. crateRun s 1 4104)
     ∷ errs UnexpectedEof
     ∷ errs (TypeNotFound 4104)
     ∷ []
-unfolding crateRun parse-information parse-header fields iter new resolve max-index update skipped hit miss find next tour len is-empty parse take le
+unfolding crateRun parse-information parse-header fields iter new resolve max-index update skipped hit miss find next tour len is-empty parse take littleAt
 crate-edges = refl
 
 -- "Giving `find` the iterator's length rule: on a chain with a one-byte payload it must still answer"
 pub one-byte : crateRun (made (four 56 0) (four 0 16) (four 16 16) (1 ∷ 0 ∷ 5 ∷ 2 ∷ 0 ∷ 6 ∷ 7 ∷ [])) 0 4097 ≡ found 4097 (6 ∷ 7 ∷ [])
-unfolding crateRun parse-information parse-header fields iter new resolve max-index update skipped hit miss find next tour len is-empty parse take le
+unfolding crateRun parse-information parse-header fields iter new resolve max-index update skipped hit miss find next tour len is-empty parse take littleAt
 one-byte = refl
 
 -- two iterators: one steps past both records, the other updates behind the first; and an update by a fresh iterator of the empty stream
@@ -101,7 +101,7 @@ pub courses : crateCourse streamE (begins ∷ begins ∷ steps 0 ∷ updates 0 �
     ∷ crateCourse [] [] 0
     ∷ []
     ≡ found 4097 pointed ∷ errs UnexpectedEof ∷ errs (TypeNotIndexed 0 0) ∷ []
-unfolding crateCourse crateUses parse-information parse-header fields iter new resolve max-index update skipped hit miss find next len is-empty parse take le
+unfolding crateCourse crateUses parse-information parse-header fields iter new resolve max-index update skipped hit miss find next len is-empty parse take littleAt
 courses = refl
 
 -- "0x0674 is I32 by Near64; 0x0874 and 0x0004 give 8"; 0x1000 is outside the domain
@@ -127,13 +127,13 @@ sizes = refl
 -- "padding f3 f2 f1 consumes 3; f0 41 consumes 1; f2 alone gives 1"
 pub paddings : map (λ s. parse-padding (at s 0)) ((0xf3 ∷ 0xf2 ∷ 0xf1 ∷ []) ∷ (0xf0 ∷ 0x41 ∷ []) ∷ (0xf2 ∷ []) ∷ [])
     ≡ gives (at (0xf3 ∷ 0xf2 ∷ 0xf1 ∷ []) 3) ∷ gives (at (0xf0 ∷ 0x41 ∷ []) 1) ∷ errs UnexpectedEof ∷ []
-unfolding parse-padding padding-loop pad-byte len is-empty parse peek take le
+unfolding parse-padding padding-loop pad-byte len is-empty parse peek take littleAt
 paddings = refl
 
 -- a string up to its zero byte, and behind its length byte
 pub strings : map (λ (leaf : ℕ). parse-string leaf (at (1 ∷ 0x61 ∷ 0 ∷ []) 0)) (0x1501 ∷ 0x1500 ∷ [])
     ≡ gives (1 ∷ 0x61 ∷ [], at (1 ∷ 0x61 ∷ 0 ∷ []) 3) ∷ gives (0x61 ∷ [], at (1 ∷ 0x61 ∷ 0 ∷ []) 2) ∷ []
-unfolding parse-string parse-cstring parse-u8-pascal-string position parse take le
+unfolding parse-string parse-cstring parse-u8-pascal-string position parse take littleAt
 strings = refl
 
 -- one record of each id leaf, a list that is cut, an unknown leaf, one byte
@@ -160,7 +160,7 @@ pub ids : map parse-id
     ∷ errs (UnimplementedTypeKind 0x1608)
     ∷ errs UnexpectedEof
     ∷ []
-unfolding parse-id try-from-ctx by-leaf match function-id member-function-id pushed build-info string-list string-id source-line parse-optional-id-index parse-string parse-cstring position parse le
+unfolding parse-id try-from-ctx by-leaf match function-id member-function-id pushed build-info string-list string-id source-line parse-optional-id-index parse-string parse-cstring position parse littleAt
 ids = refl
 
 -- the raw kind of an item; below two bytes the crate panics

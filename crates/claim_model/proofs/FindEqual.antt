@@ -11,7 +11,7 @@ use lib.Seq.{length-take-le, getD-take}
 use lib.Pow.{pow-pos}
 use borrow.Author.Tests.{le-leb, le-ltb, lt-ltb, eq-eqb, ne-eqb}
 use Rattle.answer.specs.Answer.{answered, refused}
-use Rattle.field.specs.Fields.{le}
+use Rattle.field.specs.Fields.{littleAt}
 use Rattle.stream_item.specs.Items.{numberIn}
 use Rattle.stream_item.specs.Links.{linkOf, chain, Walk, reached, broke}
 use Rattle.stream_item.specs.declared.ItemIndex.{ItemIndex}
@@ -178,22 +178,22 @@ module _ (k : ℕ) (s : List ℕ) (σ : State) (ok : Ready s σ) (few : σ .find
               (goes ∙ simp (start, skipped-chain s long r p, e))
               (simp (found, linkOf-broke s p r j e))
 
-          ended : (x : ℕ) → chain s p r ≡ reached x → length s < x + 2 + le 2 s x → Finds (find f n)
+          ended : (x : ℕ) → chain s p r ≡ reached x → length s < x + 2 + littleAt 2 s x → Finds (find f n)
           unfolding hit
           ended x e v =
               same-errs (find f n) UnexpectedEof _
               (goes ∙ simp (start, skipped-chain s long r p, e) (read-broken s long x _ v))
               (simp (found, linkOf-missed s p r x e (link-broken s x v)))
 
-          lands : (x : ℕ) → chain s p r ≡ reached x → x + 2 + le 2 s x ≤ length s → Finds (find f n)
+          lands : (x : ℕ) → chain s p r ≡ reached x → x + 2 + littleAt 2 s x ≤ length s → Finds (find f n)
           unfolding hit
           lands x e v =
-              same-gives (find f n) (itemShown s (record { index = i; place = x + 2; length = le 2 s x })) _
+              same-gives (find f n) (itemShown s (record { index = i; place = x + 2; length = littleAt 2 s x })) _
               (goes ∙ simp (start, skipped-chain s long r p, e) (read-whole s long x _ v))
-              (simp (found, linkOf-landed s p r x (x + 2) (le 2 s x) e (link-whole s x v)))
+              (simp (found, linkOf-landed s p r x (x + 2) (littleAt 2 s x) e (link-whole s x v)))
 
           along : (w : Walk) → chain s p r ≡ w → Finds (find f n)
-          along (reached x) e = by-order (x + 2 + le 2 s x) (length s) (lands x e) (ended x e)
+          along (reached x) e = by-order (x + 2 + littleAt 2 s x) (length s) (lands x e) (ended x e)
           along (broke j) e = lost j e
 
         held : Finds (find f n)

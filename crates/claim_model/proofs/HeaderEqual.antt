@@ -12,7 +12,7 @@ use mir.Syntax.{w32}
 use mir.Val.{toZ}
 use borrow.Author.Tests.{le-leb, le-ltb, lt-ltb, leb-true, eq-eqb, ne-eqb}
 use Rattle.answer.specs.Answer.{pick}
-use Rattle.field.specs.Fields.{le, twos}
+use Rattle.field.specs.Fields.{littleAt, twos}
 use Rattle.stream_header.specs.Header.{longest, fieldsOf, headerOf}
 use Rattle.stream_header.specs.Header.{empty as none}
 use Rattle.claim_model.specs.Rust.{Rust, gives, errs, _>>=_, if, UnexpectedEof, InvalidTypeInformationHeader, impossibly-small, unreasonably-large, minimum-low, maximum-low}
@@ -31,16 +31,16 @@ i32 x = go (ltb x 2147483648) refl
     go false e = rw e
 
 -- a read that runs past the end, or leads to one that does
-ends : {B : Type 0} (s : List ℕ) (p k : ℕ) (f : ℕ × ParseBuffer → Rust B) → f (le k s p, at s (p + k)) ≡ errs UnexpectedEof → _>>=_ (parse k (at s p)) f ≡ errs UnexpectedEof
+ends : {B : Type 0} (s : List ℕ) (p k : ℕ) (f : ℕ × ParseBuffer → Rust B) → f (littleAt k s p, at s (p + k)) ≡ errs UnexpectedEof → _>>=_ (parse k (at s p)) f ≡ errs UnexpectedEof
 unfolding parse
 ends s p k f e = go (leb (p + k) (length s))
   where
-    go : (b : Bool) → _>>=_ (if b (gives (le k s p, at s (p + k))) (errs UnexpectedEof)) f ≡ errs UnexpectedEof
+    go : (b : Bool) → _>>=_ (if b (gives (littleAt k s p, at s (p + k))) (errs UnexpectedEof)) f ≡ errs UnexpectedEof
     go true = e
     go false = refl
 
 module _ (s : List ℕ) where
-  read : 56 ≤ length s → (p k : ℕ) → leb (p + k) 56 ≡ true → parse k (at s p) ≡ gives (le k s p, at s (p + k))
+  read : 56 ≤ length s → (p k : ℕ) → leb (p + k) 56 ≡ true → parse k (at s p) ≡ gives (littleAt k s p, at s (p + k))
   read h p k e =
       let a : p + k ≤ 56 = leb-true _ _ e in
       parse-in s p k (omega arith)
@@ -80,47 +80,47 @@ module _ (s : List ℕ) where
       nz : length s ≡ 0 → ⊥
       nz e = omega arith
 
-      small : le 4 s 4 < 56 → Goal
+      small : littleAt 4 s 4 < 56 → Goal
       unfolding parse-information parse-header headerOf
       small a =
           same-errs (parse-information s) (InvalidTypeInformationHeader impossibly-small) _
           (simp (some-left s 0 z, fields-in h, lt-ltb _ _ a))
           (simp (le-ltb _ _ l, ne-eqb (length s) 0 nz, le-ltb _ _ h, lt-ltb _ _ a))
 
-      large : 56 ≤ le 4 s 4 → 1024 < le 4 s 4 → Goal
+      large : 56 ≤ littleAt 4 s 4 → 1024 < littleAt 4 s 4 → Goal
       unfolding parse-information parse-header headerOf
       large a b =
           same-errs (parse-information s) (InvalidTypeInformationHeader unreasonably-large) _
           (simp (some-left s 0 z, fields-in h, le-ltb _ _ a, lt-ltb _ _ b))
           (simp (le-ltb _ _ l, ne-eqb (length s) 0 nz, le-ltb _ _ h, le-ltb _ _ a, lt-ltb _ _ b))
 
-      module _ (a : 56 ≤ le 4 s 4) (b : le 4 s 4 ≤ 1024) where
-        rest-cut : length s < le 4 s 4 → Goal
+      module _ (a : 56 ≤ littleAt 4 s 4) (b : littleAt 4 s 4 ≤ 1024) where
+        rest-cut : length s < littleAt 4 s 4 → Goal
         unfolding parse-information parse-header headerOf
         rest-cut c =
             same-errs (parse-information s) UnexpectedEof _
-            (simp (some-left s 0 z, fields-in h, le-ltb _ _ a, le-ltb _ _ b, le-leb _ _ a, take-out s 56 (le 4 s 4 - 56) h (omega arith)))
+            (simp (some-left s 0 z, fields-in h, le-ltb _ _ a, le-ltb _ _ b, le-leb _ _ a, take-out s 56 (littleAt 4 s 4 - 56) h (omega arith)))
             (simp (le-ltb _ _ l, ne-eqb (length s) 0 nz, le-ltb _ _ h, le-ltb _ _ a, le-ltb _ _ b, lt-ltb _ _ c))
 
-        module _ (c : le 4 s 4 ≤ length s) where
-          taken : take (at s 56) (le 4 s 4 - 56) ≡ gives (front (le 4 s 4 - 56) (drop 56 s), at s (56 + (le 4 s 4 - 56)))
-          taken = take-in s 56 (le 4 s 4 - 56) (omega arith) (omega arith)
+        module _ (c : littleAt 4 s 4 ≤ length s) where
+          taken : take (at s 56) (littleAt 4 s 4 - 56) ≡ gives (front (littleAt 4 s 4 - 56) (drop 56 s), at s (56 + (littleAt 4 s 4 - 56)))
+          taken = take-in s 56 (littleAt 4 s 4 - 56) (omega arith) (omega arith)
 
-          low : le 4 s 8 < 4096 → Goal
+          low : littleAt 4 s 8 < 4096 → Goal
           unfolding parse-information parse-header headerOf
           low d =
               same-errs (parse-information s) (InvalidTypeInformationHeader minimum-low) _
               (simp (some-left s 0 z, fields-in h, le-ltb _ _ a, le-ltb _ _ b, le-leb _ _ a, taken, lt-ltb _ _ d))
               (simp (le-ltb _ _ l, ne-eqb (length s) 0 nz, le-ltb _ _ h, le-ltb _ _ a, le-ltb _ _ b, le-ltb _ _ c, lt-ltb _ _ d))
 
-          below : 4096 ≤ le 4 s 8 → le 4 s 12 < le 4 s 8 → Goal
+          below : 4096 ≤ littleAt 4 s 8 → littleAt 4 s 12 < littleAt 4 s 8 → Goal
           unfolding parse-information parse-header headerOf
           below d e =
               same-errs (parse-information s) (InvalidTypeInformationHeader maximum-low) _
               (simp (some-left s 0 z, fields-in h, le-ltb _ _ a, le-ltb _ _ b, le-leb _ _ a, taken, le-ltb _ _ d, lt-ltb _ _ e))
               (simp (le-ltb _ _ l, ne-eqb (length s) 0 nz, le-ltb _ _ h, le-ltb _ _ a, le-ltb _ _ b, le-ltb _ _ c, le-ltb _ _ d, lt-ltb _ _ e))
 
-          good : 4096 ≤ le 4 s 8 → le 4 s 8 ≤ le 4 s 12 → Goal
+          good : 4096 ≤ littleAt 4 s 8 → littleAt 4 s 8 ≤ littleAt 4 s 12 → Goal
           unfolding parse-information parse-header headerOf
           good d e =
               same-gives (parse-information s) (information s (fieldsOf s)) _
@@ -130,6 +130,6 @@ module _ (s : List ℕ) where
     pub header : Goal
     header =
         by-order (length s) 0 (λ e. none-there (omega arith)) λ z.
-        by-order 56 (length s) (λ h. by-order 56 (le 4 s 4) (λ a. by-order (le 4 s 4) 1024 (λ b. by-order (le 4 s 4) (length s) (λ c.
-        by-order 4096 (le 4 s 8) (λ d. by-order (le 4 s 8) (le 4 s 12) (good h a b c d) (below h a b c d)) (low h a b c))
+        by-order 56 (length s) (λ h. by-order 56 (littleAt 4 s 4) (λ a. by-order (littleAt 4 s 4) 1024 (λ b. by-order (littleAt 4 s 4) (length s) (λ c.
+        by-order 4096 (littleAt 4 s 8) (λ d. by-order (littleAt 4 s 8) (littleAt 4 s 12) (good h a b c d) (below h a b c d)) (low h a b c))
         (rest-cut h a b)) (large h a)) (small h)) (cut z)

@@ -12,9 +12,10 @@ use lib.Bits.{bitAnd, and-mask}
 use borrow.Author.Tests.{le-leb, lt-leb, le-ltb, lt-ltb, eq-eqb, ne-eqb}
 use Rattle.answer.specs.Answer.{got, ended, pick}
 use Rattle.answer.specs.Tables.{among}
-use Rattle.field.specs.Fields.{le}
+use Rattle.field.specs.Fields.{littleAt}
 use Rattle.field.specs.Indices.{noType, noId, optionalOf, optionalAt}
-use Rattle.field_text.specs.Texts.{toZero, stringAt, bytesAfter, countedStringAt, stringOf, more, pad, paddingAfter}
+use Rattle.field.specs.Runs.{bytesAfter}
+use Rattle.field_text.specs.Texts.{toZero, stringAt, countedStringAt, stringOf, more, pad, paddingAfter}
 use Rattle.field_text.proofs.PadLaws.{pad-end, pad-stop, pad-more, pad-cut}
 use Rattle.claim_model.specs.Rust.{Rust, gives, errs, if, or, UnexpectedEof, usize}
 use Rattle.claim_model.specs.ParseBuffer.{ParseBuffer, at, Bytes, beyond, parse, position, parse-cstring, parse-u8-pascal-string}
@@ -27,18 +28,18 @@ use Rattle.claim_model.proofs.WordsEqual.{flag}
 module _ (s : List ℕ) where
   -- ---- optional indices
   module _ (p : ℕ) where
-    pub type-in : p + 4 ≤ length s → parse-optional-type-index (at s p) ≡ gives (optionalOf noType (le 4 s p), at s (p + 4))
+    pub type-in : p + 4 ≤ length s → parse-optional-type-index (at s p) ≡ gives (optionalOf noType (littleAt 4 s p), at s (p + 4))
     unfolding parse-optional-type-index optionalOf among
-    type-in h = rw (parse-in s p 4 h) (go (le 4 s p) (eqb (le 4 s p) 0) (eqb (le 4 s p) 0xffff))
+    type-in h = rw (parse-in s p 4 h) (go (littleAt 4 s p) (eqb (littleAt 4 s p) 0) (eqb (littleAt 4 s p) 0xffff))
       where
         go : (n : ℕ) (a b : Bool) → if {A = Rust (Option ℕ × ParseBuffer)} (or a b) (gives (none, at s (p + 4))) (gives (some n, at s (p + 4))) ≡ gives (pick (pick a true (pick b true false)) none (some n), at s (p + 4))
         go n true b = refl
         go n false true = refl
         go n false false = refl
 
-    pub id-in : p + 4 ≤ length s → parse-optional-id-index (at s p) ≡ gives (optionalOf noId (le 4 s p), at s (p + 4))
+    pub id-in : p + 4 ≤ length s → parse-optional-id-index (at s p) ≡ gives (optionalOf noId (littleAt 4 s p), at s (p + 4))
     unfolding parse-optional-id-index optionalOf among
-    id-in h = rw (parse-in s p 4 h) (go (le 4 s p) (eqb (le 4 s p) 0))
+    id-in h = rw (parse-in s p 4 h) (go (littleAt 4 s p) (eqb (littleAt 4 s p) 0))
       where
         go : (n : ℕ) (a : Bool) → if {A = Rust (Option ℕ × ParseBuffer)} a (gives (none, at s (p + 4))) (gives (some n, at s (p + 4))) ≡ gives (pick (pick a true false) none (some n), at s (p + 4))
         go n true = refl
@@ -48,7 +49,7 @@ module _ (s : List ℕ) where
     unfolding parse-optional-id-index
     id-out h = rw (parse-out s p 4 h)
 
-    pub optional-in : (nones : List ℕ) → p + 4 ≤ length s → optionalAt nones s p ≡ got (optionalOf nones (le 4 s p)) (p + 4)
+    pub optional-in : (nones : List ℕ) → p + 4 ≤ length s → optionalAt nones s p ≡ got (optionalOf nones (littleAt 4 s p)) (p + 4)
     unfolding optionalAt
     optional-in nones h = rw (fixed-in s p 4 h)
 
@@ -140,9 +141,9 @@ module _ (s : List ℕ) (l : length s < usize) (p : ℕ) (inside : p ≤ length 
   unfolding parse-u8-pascal-string countedStringAt bytesAfter
   pascal-string =
       by-order (p + 1) (length s)
-      (λ h. by-order (p + 1 + le 1 s p) (length s)
-      (λ g. rw (parse-in s p 1 h, fixed-in s p 1 h, take-in s (p + 1) (le 1 s p) l g, le-ltb _ _ g) (same _))
-      (λ g. rw (parse-in s p 1 h, fixed-in s p 1 h, take-out s (p + 1) (le 1 s p) h g, lt-ltb _ _ g) same-end))
+      (λ h. by-order (p + 1 + littleAt 1 s p) (length s)
+      (λ g. rw (parse-in s p 1 h, fixed-in s p 1 h, take-in s (p + 1) (littleAt 1 s p) l g, le-ltb _ _ g) (same _))
+      (λ g. rw (parse-in s p 1 h, fixed-in s p 1 h, take-out s (p + 1) (littleAt 1 s p) h g, lt-ltb _ _ g) same-end))
       (λ h. rw (parse-out s p 1 h, fixed-out s p 1 h) same-end)
 
   pub string : (leaf : ℕ) → Same (parse-string leaf (at s p)) (shownBy (textShown s) (stringOf leaf s p))
@@ -157,8 +158,8 @@ module _ (s : List ℕ) (ok : Bytes s) where
   abbrev Padded : ℕ → ℕ → Type 0
   Padded n p = Same (padding-loop n (at s p)) (shownBy (at s) (pad 0 p (drop p s)))
 
-  byte : (p : ℕ) → le 1 s p ≡ getD s p 0
-  unfolding le
+  byte : (p : ℕ) → littleAt 1 s p ≡ getD s p 0
+  unfolding littleAt
   byte p = omega arith
 
   -- a pad byte at p, its value b: what it takes is there, or not

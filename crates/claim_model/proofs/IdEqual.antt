@@ -10,9 +10,9 @@ use lib.Dec.{eqb}
 use borrow.Author.Tests.{le-ltb, lt-ltb, eqb-true}
 use Rattle.answer.specs.Answer.{answered}
 use Rattle.answer.specs.Tables.{find}
-use Rattle.field.specs.Fields.{le}
-use Rattle.field.specs.Indices.{noId, optionalOf, idSaid}
-use Rattle.field_text.specs.Texts.{bytesAfter}
+use Rattle.field.specs.Fields.{littleAt}
+use Rattle.field.specs.Indices.{noId, optionalOf, idOption}
+use Rattle.field.specs.Runs.{bytesAfter}
 use Rattle.record_layout.specs.Fields.{readField, readFields}
 use Rattle.record_layout.specs.Layouts.{idLeaves, readLeaf, leafOf, recordOf}
 use Rattle.record_layout.proofs.OneOutcome.{option-back}
@@ -39,14 +39,14 @@ module _ (s : List ℕ) where
   pushed-in zero vec p h = let e : p + 4 * 0 ≡ p = omega arith in rw (append-nil vec, e)
   pushed-in (suc n) vec p h =
       let e : p + 4 + 4 * n ≡ p + 4 * suc n = omega arith in
-      rw (parse-in s p 4 (omega arith), pushed-in n (vec ++ (le 4 s p ∷ [])) (p + 4) (omega arith), e, append-assoc vec (le 4 s p ∷ []) (elements n s (p + 4)))
+      rw (parse-in s p 4 (omega arith), pushed-in n (vec ++ (littleAt 4 s p ∷ [])) (p + 4) (omega arith), e, append-assoc vec (littleAt 4 s p ∷ []) (elements n s (p + 4)))
 
   pub pushed-out : (n : ℕ) (vec : List ℕ) (p : ℕ) → p ≤ length s → length s < p + 4 * n → pushed n vec (at s p) ≡ errs UnexpectedEof
   unfolding pushed
   pushed-out zero vec p a h = absurd (omega arith)
   pushed-out (suc n) vec p a h =
       by-order (p + 4) (length s)
-      (λ g. rw (parse-in s p 4 g) (pushed-out n (vec ++ (le 4 s p ∷ [])) (p + 4) g (omega arith)))
+      (λ g. rw (parse-in s p 4 g) (pushed-out n (vec ++ (littleAt 4 s p ∷ [])) (p + 4) g (omega arith)))
       (λ g. rw (parse-out s p 4 g))
 
   module _ (l : length s < usize) where
@@ -62,7 +62,7 @@ module _ (s : List ℕ) where
         (by-order 10 (length s)
         (λ b. rw (parse-in s 6 4 b, fixed-in s 6 4 b)
         (by-text s l 10 b
-        (λ n e f. rw (e, f, option-back (optionalOf noId (le 4 s 2))) (same _))
+        (λ n e f. rw (e, f, option-back (optionalOf noId (littleAt 4 s 2))) (same _))
         (λ e f. rw (e, f) same-end)))
         (λ b. rw (parse-out s 6 4 b, fixed-out s 6 4 b) same-end)))
         (λ a. rw (id-out s 2 a, optional-out s 2 noId a) same-end)
@@ -85,9 +85,9 @@ module _ (s : List ℕ) where
     build =
         by-order 4 (length s)
         (λ a. rw (parse-in s 2 2 a, fixed-in s 2 2 a)
-        (by-order (4 + 4 * le 2 s 2) (length s)
-        (λ b. rw (pushed-in (le 2 s 2) [] 4 b, le-ltb _ _ b) (same _))
-        (λ b. rw (pushed-out (le 2 s 2) [] 4 a b, lt-ltb _ _ b) same-end)))
+        (by-order (4 + 4 * littleAt 2 s 2) (length s)
+        (λ b. rw (pushed-in (littleAt 2 s 2) [] 4 b, le-ltb _ _ b) (same _))
+        (λ b. rw (pushed-out (littleAt 2 s 2) [] 4 a b, lt-ltb _ _ b) same-end)))
         (λ a. rw (parse-out s 2 2 a, fixed-out s 2 2 a) same-end)
 
     strings : Alike 0x1604
@@ -95,9 +95,9 @@ module _ (s : List ℕ) where
     strings =
         by-order 6 (length s)
         (λ a. rw (parse-in s 2 4 a, fixed-in s 2 4 a)
-        (by-order (6 + 4 * le 4 s 2) (length s)
-        (λ b. rw (pushed-in (le 4 s 2) [] 6 b, le-ltb _ _ b) (same _))
-        (λ b. rw (pushed-out (le 4 s 2) [] 6 a b, lt-ltb _ _ b) same-end)))
+        (by-order (6 + 4 * littleAt 4 s 2) (length s)
+        (λ b. rw (pushed-in (littleAt 4 s 2) [] 6 b, le-ltb _ _ b) (same _))
+        (λ b. rw (pushed-out (littleAt 4 s 2) [] 6 a b, lt-ltb _ _ b) same-end)))
         (λ a. rw (parse-out s 2 4 a, fixed-out s 2 4 a) same-end)
 
     string : Alike 0x1605
@@ -106,7 +106,7 @@ module _ (s : List ℕ) where
         by-order 6 (length s)
         (λ a. rw (id-in s 2 a, optional-in s 2 noId a)
         (by-text s l 6 a
-        (λ n e f. rw (e, f, option-back (optionalOf noId (le 4 s 2))) (same _))
+        (λ n e f. rw (e, f, option-back (optionalOf noId (littleAt 4 s 2))) (same _))
         (λ e f. rw (e, f) same-end)))
         (λ a. rw (id-out s 2 a, optional-out s 2 noId a) same-end)
 
@@ -161,7 +161,7 @@ module _ (s : List ℕ) where
     unfolding parse-id try-from-ctx recordOf
     id-same =
         by-order 2 (length s)
-        (λ h. rw (parse-in s 0 2 h, fixed-in s 0 2 h) (each (le 2 s 0)))
+        (λ h. rw (parse-in s 0 2 h, fixed-in s 0 2 h) (each (littleAt 2 s 0)))
         (λ h. rw (parse-out s 0 2 h, fixed-out s 0 2 h) same-end)
 
 -- ---- what the port's `id_data` answers, by its contract
@@ -172,11 +172,11 @@ module _ (s : List ℕ) where
   source-is udt (file.Remote m f) line = refl
 
   data-is : (d : IdData) → idShown s (idValues d) ≡ idDataShown s d
-  data-is (id.Function r) = rw (option-back (idSaid (r .scope)))
+  data-is (id.Function r) = rw (option-back (idOption (r .scope)))
   data-is (id.MemberFunction r) = refl
   data-is (id.BuildInfo r) = refl
   data-is (id.StringList r) = refl
-  data-is (id.String r) = rw (option-back (idSaid (r .substrings)))
+  data-is (id.String r) = rw (option-back (idOption (r .substrings)))
   data-is (id.UserDefinedTypeSource r) = source-is (r .udt .0) (r .«source_file») (r .line)
 
   answer-is : (r : IdAnswer) → shownBy (idShown s) (saidIdData r) ≡ idAnswerShown s r

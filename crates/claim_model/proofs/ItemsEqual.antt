@@ -10,7 +10,7 @@ use lib.Bits.{bitOr, or-shifted-r}
 use lib.Dec.{eqb}
 use borrow.Author.Tests.{le-leb, lt-leb, le-ltb}
 use Rattle.answer.specs.Answer.{Answer, answered, refused, then}
-use Rattle.field.specs.Fields.{le}
+use Rattle.field.specs.Fields.{littleAt}
 use Rattle.stream_header.specs.Header.{headerOf}
 use Rattle.stream_header.specs.declared.Header.{Header}
 use Rattle.stream_item.specs.Items.{numberIn, indexOf, lengthOf}
@@ -71,7 +71,7 @@ joined a b ha hb =
 
 module _ (s : List ℕ) (ok : Lent s) (p n x : ℕ) (h : p + n ≤ length s) where
   kind-equal : Equal (raw-kind (record { index = x; bytes = front n (drop p s) })) (kindAt s p n)
-  unfolding raw-kind kindAt le
+  unfolding raw-kind kindAt littleAt
   kind-equal =
       by-order 2 n
       (λ g.

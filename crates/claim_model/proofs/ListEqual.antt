@@ -11,8 +11,9 @@ use lib.Dec.{eqb}
 use borrow.Author.Tests.{le-ltb, lt-ltb, ne-eqb}
 use Rattle.answer.specs.Answer.{Answer, answered, refused}
 use Rattle.answer.specs.Tables.{find}
-use Rattle.field.specs.Fields.{le}
-use Rattle.field_text.specs.Texts.{Part, bytesAfter}
+use Rattle.field.specs.Fields.{littleAt}
+use Rattle.field.specs.Runs.{bytesAfter}
+use Rattle.field_text.specs.Texts.{Part}
 use Rattle.record_layout.specs.Layouts.{idLeaves}
 use Rattle.record_layout.specs.Fields.{Value, number, readField, readFields}
 use Rattle.record_list.specs.Lists.{ElementValues, typeElement, idElement, inCounted, countedBy, counted, startOf, startIds, countedStep, stepOf, elementBy, elementOf}
@@ -63,28 +64,28 @@ module _ (s : List ℕ) where
   abbrev Listed : ℕ → Type 0
   Listed k = Same (_>>=_ (parse-id s) λ d. gives (getElem? (listed d) k)) (asElement (elementOf stream.Ids s k))
 
-  pub build-elements : le 2 s 0 ≡ 0x1603 → (k : ℕ) → Listed k
+  pub build-elements : littleAt 2 s 0 ≡ 0x1603 → (k : ℕ) → Listed k
   unfolding parse-id try-from-ctx by-leaf match build-info elementOf startOf startIds counted countedBy find idLeaves readFields readField bytesAfter
   build-elements leaf k =
       by-order 2 (length s)
       (λ h. rw (parse-in s 0 2 h, fixed-in s 0 2 h, leaf)
       (by-order 4 (length s)
       (λ a. rw (parse-in s 2 2 a, fixed-in s 2 2 a)
-      (by-order (4 + 4 * le 2 s 2) (length s)
-      (λ b. rw (pushed-in s (le 2 s 2) [] 4 b, le-ltb _ _ b, ids-at k (le 2 s 2) 4 b) (id-chosen (getElem? (elements (le 2 s 2) s 4) k)))
-      (λ b. rw (pushed-out s (le 2 s 2) [] 4 a b, lt-ltb _ _ b) same-end)))
+      (by-order (4 + 4 * littleAt 2 s 2) (length s)
+      (λ b. rw (pushed-in s (littleAt 2 s 2) [] 4 b, le-ltb _ _ b, ids-at k (littleAt 2 s 2) 4 b) (id-chosen (getElem? (elements (littleAt 2 s 2) s 4) k)))
+      (λ b. rw (pushed-out s (littleAt 2 s 2) [] 4 a b, lt-ltb _ _ b) same-end)))
       (λ a. rw (parse-out s 2 2 a, fixed-out s 2 2 a) same-end)))
       (λ h. rw (parse-out s 0 2 h, fixed-out s 0 2 h) same-end)
 
-  pub string-elements : le 2 s 0 ≡ 0x1604 → (k : ℕ) → Listed k
+  pub string-elements : littleAt 2 s 0 ≡ 0x1604 → (k : ℕ) → Listed k
   unfolding parse-id try-from-ctx by-leaf match string-list elementOf startOf startIds counted countedBy find idLeaves readFields readField bytesAfter
   string-elements leaf k =
       by-order 2 (length s)
       (λ h. rw (parse-in s 0 2 h, fixed-in s 0 2 h, leaf)
       (by-order 6 (length s)
       (λ a. rw (parse-in s 2 4 a, fixed-in s 2 4 a)
-      (by-order (6 + 4 * le 4 s 2) (length s)
-      (λ b. rw (pushed-in s (le 4 s 2) [] 6 b, le-ltb _ _ b, types-at k (le 4 s 2) 6 b) (type-chosen (getElem? (elements (le 4 s 2) s 6) k)))
-      (λ b. rw (pushed-out s (le 4 s 2) [] 6 a b, lt-ltb _ _ b) same-end)))
+      (by-order (6 + 4 * littleAt 4 s 2) (length s)
+      (λ b. rw (pushed-in s (littleAt 4 s 2) [] 6 b, le-ltb _ _ b, types-at k (littleAt 4 s 2) 6 b) (type-chosen (getElem? (elements (littleAt 4 s 2) s 6) k)))
+      (λ b. rw (pushed-out s (littleAt 4 s 2) [] 6 a b, lt-ltb _ _ b) same-end)))
       (λ a. rw (parse-out s 2 4 a, fixed-out s 2 4 a) same-end)))
       (λ h. rw (parse-out s 0 2 h, fixed-out s 0 2 h) same-end)

@@ -6,7 +6,7 @@ use mathlib.Core.Option.{none}
 use native.Mathlib.Omega.{arith}
 use lib.ListN.{length}
 use borrow.Author.Tests.{le-ltb, lt-ltb}
-use Rattle.field.specs.Fields.{le}
+use Rattle.field.specs.Fields.{littleAt}
 use Rattle.stream_item.specs.Items.{indexIn, numberIn}
 use Rattle.stream_item.specs.Iterator.{Next, yielded, itemAt, nextOf}
 use Rattle.stream_item.specs.declared.Stream.{Stream}
@@ -30,7 +30,7 @@ module _ (s : List ℕ) (c : ItemIter) (ok : CanStand s c) where
   Goal = Stepwise (nextShown s c) (next (iterShown s c)) (nextOf s c)
 
   abbrev whole : Next
-  whole = yielded (itemAt (c .stream) (c .index) (c .at + 2) (le 2 s (c .at))) (record { stream = c .stream; at = c .at + 2 + le 2 s (c .at); index = c .index + 1 })
+  whole = yielded (itemAt (c .stream) (c .index) (c .at + 2) (littleAt 2 s (c .at))) (record { stream = c .stream; at = c .at + 2 + littleAt 2 s (c .at); index = c .index + 1 })
 
   abbrev Fine : Type 0
   Fine = Same (next (iterShown s c)) (shownBy (nextShown s c) (nextOf s c))
@@ -56,45 +56,45 @@ module _ (s : List ℕ) (c : ItemIter) (ok : CanStand s c) where
     z : c .at < length s
     z = omega arith
 
-    two : parse 2 (at s (c .at)) ≡ gives (le 2 s (c .at), at s (c .at + 2))
+    two : parse 2 (at s (c .at)) ≡ gives (littleAt 2 s (c .at), at s (c .at + 2))
     two = parse-in s (c .at) 2 h
 
-    short : le 2 s (c .at) < 2 → Fine
+    short : littleAt 2 s (c .at) < 2 → Fine
     unfolding next
     short a =
         same-errs (next (iterShown s c)) TypeTooShort _
         (simp (some-left s (c .at) z, two, lt-ltb _ _ a))
         (simp (next-short s c (ok .short) h a))
 
-    module _ (a : 2 ≤ le 2 s (c .at)) where
-      no-payload : length s < c .at + 2 + le 2 s (c .at) → Fine
+    module _ (a : 2 ≤ littleAt 2 s (c .at)) where
+      no-payload : length s < c .at + 2 + littleAt 2 s (c .at) → Fine
       unfolding next
       no-payload b =
           same-errs (next (iterShown s c)) UnexpectedEof _
-          (simp (some-left s (c .at) z, two, le-ltb _ _ a, take-out s (c .at + 2) (le 2 s (c .at)) h b))
+          (simp (some-left s (c .at) z, two, le-ltb _ _ a, take-out s (c .at + 2) (littleAt 2 s (c .at)) h b))
           (simp (next-payload s c (ok .short) h a b))
 
-      module _ (b : c .at + 2 + le 2 s (c .at) ≤ length s) where
+      module _ (b : c .at + 2 + littleAt 2 s (c .at) ≤ length s) where
         wrap : 4294967295 ≤ c .index → Goal
         unfolding next
         wrap u =
-            used-up (simp (some-left s (c .at) z, two, le-ltb _ _ a, take-in s (c .at + 2) (le 2 s (c .at)) long b, le-ltb (c .index + 1) 4294967296 (omega arith)))
+            used-up (simp (some-left s (c .at) z, two, le-ltb _ _ a, take-in s (c .at + 2) (littleAt 2 s (c .at)) long b, le-ltb (c .index + 1) 4294967296 (omega arith)))
             (next-used s c (ok .short) a b u)
 
         yields : c .index < 4294967295 → Fine
         unfolding next
         yields u =
             same-gives (next (iterShown s c)) (nextShown s c whole) _
-            (simp (some-left s (c .at) z, two, le-ltb _ _ a, take-in s (c .at + 2) (le 2 s (c .at)) long b, lt-ltb (c .index + 1) 4294967296 (omega arith), number-in))
+            (simp (some-left s (c .at) z, two, le-ltb _ _ a, take-in s (c .at + 2) (littleAt 2 s (c .at)) long b, lt-ltb (c .index + 1) 4294967296 (omega arith), number-in))
             (simp (next-yields s c (ok .short) a b u))
 
   -- all but the last case
-  cases : {X : Type 0} → (Fine → X) → (c .at + 2 ≤ length s → 2 ≤ le 2 s (c .at) → c .at + 2 + le 2 s (c .at) ≤ length s → X) → X
+  cases : {X : Type 0} → (Fine → X) → (c .at + 2 ≤ length s → 2 ≤ littleAt 2 s (c .at) → c .at + 2 + littleAt 2 s (c .at) ≤ length s → X) → X
   cases f g =
       by-order (length s) (c .at) (λ h. f (over (omega (arith, ok .inside)))) λ z.
       by-order (c .at + 2) (length s) (λ h.
-      by-order 2 (le 2 s (c .at)) (λ a.
-      by-order (c .at + 2 + le 2 s (c .at)) (length s) (g h a)
+      by-order 2 (littleAt 2 s (c .at)) (λ a.
+      by-order (c .at + 2 + littleAt 2 s (c .at)) (length s) (g h a)
       (λ b. f (no-payload h a b))) (λ a. f (short h a))) (λ h. f (no-length z h))
 
   pub next-alike : Goal

@@ -7,7 +7,7 @@ use lib.ListN.{length, take as front, drop}
 use borrow.Author.Tests.{le-ltb, lt-ltb}
 use Rattle.answer.specs.Answer.{Answer, answered, refused, then}
 use Rattle.field_text.specs.Texts.{Part}
-use Rattle.field.specs.Fields.{le, fixedAt}
+use Rattle.field.specs.Fields.{littleAt, fixedAt}
 use Rattle.field.specs.declared.index.TypeIndex.{TypeIndex}
 use Rattle.field.specs.declared.index.IdIndex.{IdIndex}
 use Rattle.answer.specs.Tables.{find}
@@ -41,7 +41,7 @@ as-primitive (refused n d) = refl
 
 -- the marker's two bytes are a leaf that no reader takes
 marker-same : Same (parse-id PRIMITIVE-TYPE) (refused 10 (0xffff ∷ []))
-unfolding recordOf fixedAt leafOf readLeaf find idLeaves le
+unfolding recordOf fixedAt leafOf readLeaf find idLeaves littleAt
 marker-same = id-same PRIMITIVE-TYPE (omega arith)
 
 -- t and p are the TPI and the IPI stream

@@ -8,7 +8,7 @@ use lib.ListN.{length, getD, set, length-set}
 use lib.Dec.{ltb, eqb}
 use borrow.Author.Tests.{ltb-false, eqb-true}
 use Rattle.answer.specs.Answer.{Answer, answered, refused, pick, stop, both, then}
-use Rattle.field.specs.Fields.{le}
+use Rattle.field.specs.Fields.{littleAt}
 use Rattle.stream_header.specs.Header.{longest, fieldsOf, empty, headerOf}
 use Rattle.stream_header.specs.declared.Header.{Header}
 use Rattle.stream_item.specs.Items.{indexIn}
@@ -42,8 +42,8 @@ pub record Accepted (s : List ℕ) (h : Header) : Type 0 where
   pub round : h .«maximum_index» - h .«minimum_index» + 7 < 4294967296
   pub low : 0 < length s → 4096 ≤ h .«minimum_index»
 
-le-bound : (s : List ℕ) (p : ℕ) → ((i : ℕ) → getD s i 0 < 256) → le 4 s p ≤ 4294967295
-unfolding le
+le-bound : (s : List ℕ) (p : ℕ) → ((i : ℕ) → getD s i 0 < 256) → littleAt 4 s p ≤ 4294967295
+unfolding littleAt
 le-bound s p b = omega (arith, b p, b (p + 1), b (p + 1 + 1), b (p + 1 + 1 + 1))
 
 unempty : {A : Type 0} (b : Bool) (x y : Answer A) (P : Type 0) {z : Answer A} → (b ≡ true → x ≡ y → P) → pick b x z ≡ y → (z ≡ y → P) → P
@@ -62,17 +62,17 @@ accepted s h ok e =
         let w : empty ≡ h = cc in
         subst (λ (x : Header). Accepted s x) w (record { inside = omega arith; index = omega arith; counted = omega arith; round = omega arith; low = λ g. omega arith })
 
-    full : stop (ltb (length s) 56) 1 (stop (ltb (le 4 s 4) 56) 2 (stop (ltb 1024 (le 4 s 4)) 3 (stop (ltb (length s) (le 4 s 4)) 1
-        (stop (ltb (le 4 s 8) 4096) 4 (stop (ltb (le 4 s 12) (le 4 s 8)) 5 (answered (fieldsOf s))))))) ≡ answered h → Accepted s h
+    full : stop (ltb (length s) 56) 1 (stop (ltb (littleAt 4 s 4) 56) 2 (stop (ltb 1024 (littleAt 4 s 4)) 3 (stop (ltb (length s) (littleAt 4 s 4)) 1
+        (stop (ltb (littleAt 4 s 8) 4096) 4 (stop (ltb (littleAt 4 s 12) (littleAt 4 s 8)) 5 (answered (fieldsOf s))))))) ≡ answered h → Accepted s h
     full q =
         let t2 = passed (ltb (length s) 56) 1 _ _ q in
-        let t3 = passed (ltb (le 4 s 4) 56) 2 _ _ (t2 .1) in
-        let t4 = passed (ltb 1024 (le 4 s 4)) 3 _ _ (t3 .1) in
-        let t5 = passed (ltb (length s) (le 4 s 4)) 1 _ _ (t4 .1) in
-        let t6 = passed (ltb (le 4 s 8) 4096) 4 _ _ (t5 .1) in
-        let t7 = passed (ltb (le 4 s 12) (le 4 s 8)) 5 _ _ (t6 .1) in
+        let t3 = passed (ltb (littleAt 4 s 4) 56) 2 _ _ (t2 .1) in
+        let t4 = passed (ltb 1024 (littleAt 4 s 4)) 3 _ _ (t3 .1) in
+        let t5 = passed (ltb (length s) (littleAt 4 s 4)) 1 _ _ (t4 .1) in
+        let t6 = passed (ltb (littleAt 4 s 8) 4096) 4 _ _ (t5 .1) in
+        let t7 = passed (ltb (littleAt 4 s 12) (littleAt 4 s 8)) 5 _ _ (t6 .1) in
         let w : fieldsOf s ≡ h = cc (t7 .1) in
-        let m : 4096 ≤ le 4 s 8 = ltb-false _ _ (t6 .0) in
+        let m : 4096 ≤ littleAt 4 s 8 = ltb-false _ _ (t6 .0) in
         subst (λ (x : Header). Accepted s x) w
         (record {
           inside = ltb-false _ _ (t5 .0);

@@ -12,7 +12,7 @@ use lib.Dec.{leb, eqb}
 use Rattle.answer.specs.Answer.{answered}
 use Rattle.field.specs.declared.index.TypeIndex.{TypeIndex}
 use Rattle.field.specs.declared.index.IdIndex.{IdIndex}
-use Rattle.field.specs.Fields.{le}
+use Rattle.field.specs.Fields.{littleAt}
 use Rattle.field.specs.Indices.{noType, noId, optionalAt}
 use Rattle.field_text.specs.Texts.{stringOf, paddingAfter}
 use Rattle.word_primitive.specs.Primitive.{primitiveOf}
@@ -121,5 +121,5 @@ pub record Demand2 : Type 0 where
   pub id-items : (t p : List ℕ) → Lent t → Lent p → (e : Entry) (j : IdIndex) → indexOf e ≡ index.Ids j → Within p e
       → Same (parse-id (entryShown p e .bytes)) (asId (entryShown p e .bytes) (parseOf t p e))
   -- "`Vec` lists become a place and a count, or the reader": element k of the two counted id lists is the crate's, 15 where its `Vec` has none
-  pub build-arguments : (s : List ℕ) → le 2 s 0 ≡ 0x1603 → (k : ℕ) → Same (_>>=_ (parse-id s) λ d. gives (getElem? (listed d) k)) (asElement (elementOf stream.Ids s k))
-  pub substrings : (s : List ℕ) → le 2 s 0 ≡ 0x1604 → (k : ℕ) → Same (_>>=_ (parse-id s) λ d. gives (getElem? (listed d) k)) (asElement (elementOf stream.Ids s k))
+  pub build-arguments : (s : List ℕ) → littleAt 2 s 0 ≡ 0x1603 → (k : ℕ) → Same (_>>=_ (parse-id s) λ d. gives (getElem? (listed d) k)) (asElement (elementOf stream.Ids s k))
+  pub substrings : (s : List ℕ) → littleAt 2 s 0 ≡ 0x1604 → (k : ℕ) → Same (_>>=_ (parse-id s) λ d. gives (getElem? (listed d) k)) (asElement (elementOf stream.Ids s k))

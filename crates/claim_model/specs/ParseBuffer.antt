@@ -5,7 +5,7 @@ use mathlib.Core.Bool.{Bool}
 use mathlib.Core.Option.{Option, none, some}
 use lib.ListN.{length, getD, take as front, drop}
 use lib.Dec.{leb, eqb}
-use Rattle.field.specs.Fields.{le}
+use Rattle.field.specs.Fields.{littleAt}
 use Rattle.claim_model.specs.Rust.{Rust, gives, errs, _>>=_, _>>_, if, assert, fits, lessens, UnexpectedEof, usize}
 
 -- 685: struct ParseBuffer<'b>(&'b [u8], usize)
@@ -38,7 +38,7 @@ is-empty buf = do
 -- 764: self.0.gread_with(&mut self.1, LE), a number of k bytes: where fewer are left, scroll errs with BadOffset or TooBig, of which common.rs
 -- 204 makes UnexpectedEof
 unfoldable pub parse : ℕ → ParseBuffer → Rust (ℕ × ParseBuffer)
-parse k buf = if (leb (buf .pos + k) (length (buf .bytes))) (gives (le k (buf .bytes) (buf .pos), at (buf .bytes) (buf .pos + k))) (errs UnexpectedEof)
+parse k buf = if (leb (buf .pos + k) (length (buf .bytes))) (gives (littleAt k (buf .bytes) (buf .pos), at (buf .bytes) (buf .pos + k))) (errs UnexpectedEof)
 
 -- 703: self.0.pread_with(self.1, LE), the same without moving
 unfoldable pub peek : ℕ → ParseBuffer → Rust ℕ

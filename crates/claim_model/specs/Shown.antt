@@ -6,7 +6,7 @@ use mathlib.Core.Option.{Option, none, some}
 use lib.ListN.{length, take as front, drop}
 use lib.Dec.{eqb}
 use Rattle.answer.specs.Answer.{Answer, answered, refused, Got, pick}
-use Rattle.field.specs.Fields.{le}
+use Rattle.field.specs.Fields.{littleAt}
 use Rattle.field_text.specs.Texts.{Part}
 use Rattle.stream_item.specs.Items.{numberIn as indexShown}
 use Rattle.stream_item.specs.Iterator.{Next, done, yielded}
@@ -16,7 +16,7 @@ use Rattle.stream_item.specs.declared.Entry.{Entry}
 use Rattle.stream_item.specs.declared.Entry.the-variants.{Record, Marker}
 use Rattle.stream_item.specs.declared.iter.ItemIter.{ItemIter as PortIter}
 use Rattle.stream_finder.specs.Finder.{State, Found}
-use Rattle.field.specs.Indices.{idSaid}
+use Rattle.field.specs.Indices.{idOption}
 use Rattle.field_text.specs.declared.RawString.{RawString}
 use Rattle.answer.specs.Refusals.{no}
 use Rattle.record_layout.specs.Fields.{Value}
@@ -139,7 +139,7 @@ primitiveShown p = record { kind = p .kind; indirection = pointed (p .indirectio
 -- the n numbers of four bytes each at a place
 unfoldable pub elements : ℕ → List ℕ → ℕ → List ℕ
 elements zero s p = []
-elements (suc n) s p = le 4 s p ∷ elements n s (p + 4)
+elements (suc n) s p = littleAt 4 s p ∷ elements n s (p + 4)
 
 abbrev pub textIn : List ℕ → Value Part → List ℕ
 textIn s v = front (stringIn v .length) (drop (stringIn v .place) s)
@@ -171,11 +171,11 @@ fileShown (file.Local f) = Local (f .0)
 fileShown (file.Remote m f) = Remote m (f .0)
 
 abbrev pub idDataShown : List ℕ → PortId → IdData
-idDataShown s (id.Function r) = Function (record { scope = idSaid (r .scope); function-type = r .«function_type» .0; name = nameShown s (r .name) })
+idDataShown s (id.Function r) = Function (record { scope = idOption (r .scope); function-type = r .«function_type» .0; name = nameShown s (r .name) })
 idDataShown s (id.MemberFunction r) = MemberFunction (record { parent = r .parent .0; function-type = r .«function_type» .0; name = nameShown s (r .name) })
 idDataShown s (id.BuildInfo r) = BuildInfo (elements (r .count) s (r .place))
 idDataShown s (id.StringList r) = StringList (elements (r .count) s (r .place))
-idDataShown s (id.String r) = String (record { substrings = idSaid (r .substrings); name = nameShown s (r .name) })
+idDataShown s (id.String r) = String (record { substrings = idOption (r .substrings); name = nameShown s (r .name) })
 idDataShown s (id.UserDefinedTypeSource r) = UserDefinedTypeSource (record { udt = r .udt .0; source-file = fileShown (r .«source_file»); line = r .line })
 
 abbrev pub idAnswerShown : List ℕ → IdAnswer → Answer IdData

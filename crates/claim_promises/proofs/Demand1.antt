@@ -48,10 +48,10 @@ demand1 = record {
   elements-on = element-by-refuses;
   elements = element-refuses;
   id-elements = element-ids-refuses;
-  create-leaves = λ s t. leaves-alone t (createOf s t);
-  update-leaves = λ f t c. leaves-alone t (updateOf (state f t) c);
-  turn-leaves = λ s f t c. leads-nowhere t (turnOf s (state f t) c);
-  walk-leaves = λ tag s t e t′ h. h .1;
-  lent-update-leaves = λ σ c. changes-nothing σ (updateOf σ c);
-  step-leaves = λ s c. steps-nowhere c (stepOf s c);
+  create-keeps = λ s t. leaves-alone t (createOf s t);
+  update-keeps = λ f t c. leaves-alone t (updateOf (state f t) c);
+  turn-keeps = λ s f t c. leads-nowhere t (turnOf s (state f t) c);
+  index-all-keeps = λ tag s t e t′ h. h .1;
+  lent-update-keeps = λ σ c. changes-nothing σ (updateOf σ c);
+  step-keeps = λ s c. steps-nowhere c (stepOf s c);
 }

@@ -2,7 +2,7 @@
 use mathlib.Core.Path.{_≡_, refl}
 use mathlib.Core.List.{map}
 use Rattle.answer.specs.Tables.{find}
-use Rattle.field.specs.Fields.{le}
+use Rattle.field.specs.Fields.{littleAt}
 use Rattle.field_text.specs.Texts.{pad, paddingAfter}
 use Rattle.word_primitive.specs.Kinds.{kinds, indirections}
 use Rattle.word_primitive.specs.Primitive.{primitiveOf}
@@ -15,5 +15,5 @@ use Rattle.claim_promises.specs.Examples.{examples, asked, given}
 
 -- every line holds
 pub examples-hold : map asked examples ≡ map given examples
-unfolding examples iterOf headerOf nextOf le createBy begunBy lookBy linkOf chain linkAt maxIndexBy kindOf modeOf sizeOf find pointerKinds pointerModes paddingAfter pad primitiveOf kinds indirections
+unfolding examples iterOf headerOf nextOf littleAt createBy begunBy lookBy linkOf chain linkAt maxIndexBy kindOf modeOf sizeOf find pointerKinds pointerModes paddingAfter pad primitiveOf kinds indirections
 examples-hold = refl

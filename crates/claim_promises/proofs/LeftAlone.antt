@@ -6,7 +6,7 @@ use native.Mathlib.Omega.{arith}
 use Rattle.answer.specs.Answer.{Answer, answered, refused}
 use Rattle.stream_item.specs.declared.Stream.{Stream}
 use Rattle.stream_item.specs.declared.iter.ItemIter.{ItemIter}
-use Rattle.stream_finder.specs.Finder.{State, saidFinder, finderOf, tableAfter, Leaves, after}
+use Rattle.stream_finder.specs.Finder.{State, saidFinder, finderOf, tableAfter, Fills, after}
 use Rattle.stream_finder.specs.Lent.{saidUpdate, outcome, Changes}
 use Rattle.stream_finder.specs.declared.FinderAnswer.{FinderAnswer}
 use Rattle.stream_finder.specs.declared.lent.UpdateAnswer.{UpdateAnswer}
@@ -23,7 +23,7 @@ table-of : (t : List ℕ) (a : Answer State) (n : ℕ) (d : List ℕ) → finder
 table-of t (answered τ) n d e = let z : _≡_ {A = ℕ} 0 1 = cc in absurd (omega arith)
 table-of t (refused m x) n d e = refl
 
-pub leaves-alone : (t : List ℕ) (a : Answer State) (r : FinderAnswer) (t′ : List ℕ) (n : ℕ) (d : List ℕ) → Leaves t a r t′ → saidFinder r ≡ refused n d → t′ ≡ t
+pub leaves-alone : (t : List ℕ) (a : Answer State) (r : FinderAnswer) (t′ : List ℕ) (n : ℕ) (d : List ℕ) → Fills t a r t′ → saidFinder r ≡ refused n d → t′ ≡ t
 leaves-alone t a r t′ n d l e = l .table ∙ table-of t a n d (sym (l .answer) ∙ e)
 
 -- finder and table, after an update in place

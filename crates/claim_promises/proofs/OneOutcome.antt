@@ -6,7 +6,8 @@ use Rattle.answer.specs.Refusals.{detailsOf}
 use Rattle.answer.proofs.OneOutcome.{one-details}
 use Rattle.field.specs.Fields.{fixedAt, signedAt}
 use Rattle.field.specs.Indices.{noType, noId, optionalOf, optionalAt}
-use Rattle.field_text.specs.Texts.{stringAt, countedStringAt, stringOf, bytesAfter, paddingAfter}
+use Rattle.field.specs.Runs.{bytesAfter}
+use Rattle.field_text.specs.Texts.{stringAt, countedStringAt, stringOf, paddingAfter}
 use Rattle.field_number.specs.Numbers.{numericAt, sizeAt}
 use Rattle.field.proofs.OneOutcome.{one-u8, one-u16, one-u32, one-u64, one-i8, one-i16, one-i32, one-i64, one-type, one-id, one-string-ref, one-optional-type, one-optional-id, one-read-type, one-read-id}
 use Rattle.field_text.proofs.OneOutcome.{one-optional-string, one-string, one-after}
@@ -27,7 +28,7 @@ use Rattle.stream_view.proofs.OneOutcome.{one-view, one-kind}
 use Rattle.stream_item.specs.declared.iter.ItemIter.{ItemIter}
 use Rattle.stream_finder.specs.Finder.{State, state, createOf, updateOf, findOf, maxIndexOf}
 use Rattle.stream_finder.specs.Lent.{Updates}
-use Rattle.stream_finder.proofs.OneOutcome.{one-change, one-find, one-leaves}
+use Rattle.stream_finder.proofs.OneOutcome.{one-change, one-find, one-fills}
 use Rattle.stream_finder.specs.declared.ItemFinder.{ItemFinder}
 use Rattle.stream_finder.specs.declared.lent.UpdateStep.{UpdateStep}
 use Rattle.stream_index.specs.Walk.{turnOf}
@@ -36,9 +37,9 @@ use Rattle.stream_index.proofs.OneWalk.{one-walks, one-indexes}
 use Rattle.record_layout.specs.Fields.{readFields}
 use Rattle.record_layout.specs.Layouts.{typeLeaves, memberLeaves, method, idLeaves, readRecord, recordOf}
 use Rattle.record_id.proofs.OneOutcome.{one-id as one-id-data}
-use Rattle.record_data.specs.Said.{nameOf as typeNameOf}
+use Rattle.record_data.specs.Said.{typeName as typeNameOf}
 use Rattle.record_data.proofs.OneOutcome.{one-type-data, one-name as one-type-name}
-use Rattle.record_member.specs.Said.{memberValues, nameOf as memberNameOf}
+use Rattle.record_member.specs.Said.{memberValues, memberName as memberNameOf}
 use Rattle.record_member.proofs.OneOutcome.{one-member, one-entry}
 use Rattle.record_list.specs.Lists.{startOf, stepOf, elementBy, elementOf}
 use Rattle.record_list.proofs.OneOutcome.{one-start, one-step, one-element}
@@ -115,16 +116,16 @@ one-outcome = record {
   is-empty = λ s. once one-empty (isEmptyOf s);
   view-answer = λ t p e. once one-view (viewOf t p e);
   raw-kind = λ t p e. once one-kind (rawKindOf t p e);
-  create = λ s t. one-leaves t (createOf s t);
-  update = λ f t c. one-leaves t (updateOf (state f t) c);
+  create = λ s t. one-fills t (createOf s t);
+  update = λ f t c. one-fills t (updateOf (state f t) c);
   lent-update = λ σ c. one-change σ (updateOf σ c);
   update-local = one-update-step;
   find = λ s σ i. once one-find (findOf s σ i);
   max-type-index = λ f. one-type-index (maxIndexOf f);
   max-id-index = λ f. one-id-index (maxIndexOf f);
   turn = λ s f t c. one-leads t (turnOf s (state f t) c);
-  walk-on = λ s f t c. one-walks s c (state f t);
-  walk = one-indexes;
+  index-on = λ s f t c. one-walks s c (state f t);
+  index-all = one-indexes;
   id-data = λ s. once one-id-data (recordOf idLeaves s);
   type-data = λ s. once one-type-data (recordOf typeLeaves s);
   type-name = λ d. once one-type-name (typeNameOf d);

@@ -12,10 +12,11 @@ use Rattle.answer.specs.Tables.{Line, _is_, find, among}
 use Rattle.answer.specs.Refusals.{listed, detailCounts}
 use Rattle.field.specs.Fields.{fixedAt, signedAt}
 use Rattle.field.specs.Indices.{noType, noId, optionalAt}
-use Rattle.field_text.specs.Texts.{toZero, partOr, stringAt, bytesAfter, countedStringAt, stringOf, pad, more, paddingAfter}
+use Rattle.field.specs.Runs.{bytesAfter}
+use Rattle.field_text.specs.Texts.{toZero, partOr, stringAt, countedStringAt, stringOf, pad, more, paddingAfter}
 use Rattle.field_number.specs.Numbers.{Wide, signed, unsigned, prefixes, unsignedAt, wideAt, numericAt, natural, sizeAt}
 use Rattle.word_attributes.specs.Pointers.{kindOf, modeOf}
-use Rattle.record_layout.specs.Fields.{Field, fixed, type, id, stringReference, optionalType, optionalId, word, gap, numeric, size, string, run, methods, members, when, bytesOf, wordAfter, readField, readFields}
+use Rattle.record_layout.specs.Fields.{Field, fixed, type, id, stringReference, optionalType, optionalId, word, gap, numeric, size, string, run, methods, members, when, runBytes, wordAfter, readField, readFields}
 use Rattle.record_layout.specs.Layouts.{Layout, Table, class as classLayout, isAnswered, typeLeaves, memberLeaves, method, idLeaves, byLayout, readLeaf, readRecord, leafOf, recordOf}
 use Rattle.claim_promises.specs.ByTable.{fits, gives, refuses, Refuses}
 use Rattle.claim_promises.proofs.ByTable.{by-pick, by-stop, by-then, within, wider}
@@ -130,7 +131,7 @@ field-refuses ns (gap k) w s p h = by-then (wider h (fixed-refuses k s p)) (λ g
 field-refuses ns numeric w s p h = by-then (wider h (numeric-refuses s p)) (λ g. gives)
 field-refuses ns size w s p h = by-then (wider h (size-refuses s p)) (λ g. gives)
 field-refuses ns string w s p h = by-then (wider h (string-refuses s p)) (λ g. gives)
-field-refuses ns (run e) w s p h = by-then (wider h (bytes-refuses (bytesOf e w) s p)) (λ g. gives)
+field-refuses ns (run e) w s p h = by-then (wider h (bytes-refuses (runBytes e w) s p)) (λ g. gives)
 field-refuses ns methods w s p h = gives
 field-refuses ns members w s p h = gives
 field-refuses ns (when there f) w s p h = by-pick (there w) (field-refuses ns f w s p h) gives

@@ -9,8 +9,9 @@ use lib.Dec.{leb, ltb, eqb}
 use Rattle.answer.specs.Answer.{Answer, answered, refused, pick, stop, then}
 use Rattle.answer.specs.Tables.{Line, find, among}
 use Rattle.answer.specs.Refusals.{listed, detailCounts}
-use Rattle.field.specs.Fields.{le, fixedAt}
-use Rattle.field_text.specs.Texts.{bytesAfter, paddingAfter}
+use Rattle.field.specs.Fields.{littleAt, fixedAt}
+use Rattle.field.specs.Runs.{bytesAfter}
+use Rattle.field_text.specs.Texts.{paddingAfter}
 use Rattle.word_primitive.specs.Kinds.{kinds, indirections}
 use Rattle.word_primitive.specs.Primitive.{known, primitiveOf}
 use Rattle.word_attributes.specs.Bits.{bits}
@@ -20,7 +21,7 @@ use Rattle.stream_header.specs.declared.Header.{Header}
 use Rattle.stream_item.specs.Items.{numberIn}
 use Rattle.stream_item.specs.Links.{linkOf}
 use Rattle.stream_item.specs.Iterator.{iterOf, Next, done, yielded, nextOf}
-use Rattle.stream_view.specs.Views.{partOf, named, shortOf, entryOf, viewOf, kindAt, kindOf as kindIn, rawKindOf}
+use Rattle.stream_view.specs.Views.{partOf, named, shortOf, entryOf, viewOf, kindAt, entryKind as kindIn, rawKindOf}
 use Rattle.stream_item.specs.Information.{lenOf, isEmptyOf}
 use Rattle.stream_item.specs.declared.Stream.{Stream}
 use Rattle.stream_item.specs.declared.Stream.the-variants as stream
@@ -93,11 +94,11 @@ header-refuses s =
     by-stop (ltb longest (length s)) 16 refl
     (by-pick (eqb (length s) 0) gives
     (by-stop (ltb (length s) 56) 1 refl
-    (by-stop (ltb (le 4 s 4) 56) 2 refl
-    (by-stop (ltb 1024 (le 4 s 4)) 3 refl
-    (by-stop (ltb (length s) (le 4 s 4)) 1 refl
-    (by-stop (ltb (le 4 s 8) 4096) 4 refl
-    (by-stop (ltb (le 4 s 12) (le 4 s 8)) 5 refl
+    (by-stop (ltb (littleAt 4 s 4) 56) 2 refl
+    (by-stop (ltb 1024 (littleAt 4 s 4)) 3 refl
+    (by-stop (ltb (length s) (littleAt 4 s 4)) 1 refl
+    (by-stop (ltb (littleAt 4 s 8) 4096) 4 refl
+    (by-stop (ltb (littleAt 4 s 12) (littleAt 4 s 8)) 5 refl
     gives)))))))
 
 pub iter-refuses : (tag : Stream) (s : List ℕ) → Refuses ofHeaders (iterOf tag s)
@@ -121,8 +122,8 @@ next-refuses s c =
     (by-stop (ltb (length s) (c .at)) 1 refl
     (by-pick (leb (length s) (c .at)) gives
     (by-stop (ltb (length s) (c .at + 2)) 1 refl
-    (by-stop (ltb (le 2 s (c .at)) 2) 6 refl
-    (by-stop (ltb (length s) (c .at + 2 + le 2 s (c .at))) 1 refl
+    (by-stop (ltb (littleAt 2 s (c .at)) 2) 6 refl
+    (by-stop (ltb (length s) (c .at + 2 + littleAt 2 s (c .at))) 1 refl
     (by-stop (leb 4294967295 (c .index)) 7 refl
     gives))))))
 

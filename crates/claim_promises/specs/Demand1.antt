@@ -12,7 +12,8 @@ use Rattle.answer.specs.Refusals.{numberOf, detailsOf, listed}
 use Rattle.answer.specs.declared.Refusal.{Refusal}
 use Rattle.field.specs.Fields.{fixedAt, signedAt}
 use Rattle.field.specs.Indices.{optionalAt}
-use Rattle.field_text.specs.Texts.{stringAt, countedStringAt, stringOf, bytesAfter, paddingAfter}
+use Rattle.field.specs.Runs.{bytesAfter}
+use Rattle.field_text.specs.Texts.{stringAt, countedStringAt, stringOf, paddingAfter}
 use Rattle.field_number.specs.Numbers.{numericAt, sizeAt}
 use Rattle.word_primitive.specs.Primitive.{primitiveOf}
 use Rattle.word_attributes.specs.Pointers.{kindOf, modeOf, toMemberOf, referenceOf, sizeOf}
@@ -25,14 +26,14 @@ use Rattle.stream_item.specs.declared.Stream.the-variants as stream
 use Rattle.stream_item.specs.declared.ItemIndex.{ItemIndex}
 use Rattle.stream_item.specs.declared.Entry.{Entry}
 use Rattle.stream_item.specs.declared.iter.ItemIter.{ItemIter}
-use Rattle.stream_finder.specs.Finder.{State, state, saidFinder, createOf, updateOf, findOf, Leaves}
+use Rattle.stream_finder.specs.Finder.{State, state, saidFinder, createOf, updateOf, findOf, Fills}
 use Rattle.stream_finder.specs.Lent.{saidUpdate, Updates}
 use Rattle.stream_finder.specs.declared.ItemFinder.{ItemFinder}
 use Rattle.stream_finder.specs.declared.FinderAnswer.{FinderAnswer}
 use Rattle.stream_finder.specs.declared.lent.UpdateAnswer.{UpdateAnswer}
 use Rattle.stream_index.specs.Walk.{saidTurn, turnOf, Leads, Indexes}
 use Rattle.stream_index.specs.declared.TurnAnswer.{TurnAnswer}
-use Rattle.stream_index.specs.declared.WalkAnswer.the-variants as walk
+use Rattle.stream_index.specs.declared.IndexAnswer.the-variants as walk
 use Rattle.record_layout.specs.Fields.{readFields}
 use Rattle.record_layout.specs.Layouts.{typeLeaves, memberLeaves, method, idLeaves, readRecord, recordOf}
 use Rattle.record_list.specs.Lists.{startOf, stepOf, elementBy, elementOf}
@@ -94,13 +95,13 @@ pub record Demand1 : Type 0 where
   -- ---- "all lent memory stays unchanged": where the function's answer r is a refusal, what was lent is after the call what it was before
 
   -- the table, lent to creation, to `update` by value, to a turn and to a walk
-  pub create-leaves : (s t : List ℕ) (r : FinderAnswer) (t′ : List ℕ) (n : ℕ) (d : List ℕ) → Leaves t (createOf s t) r t′ → saidFinder r ≡ refused n d → t′ ≡ t
-  pub update-leaves : (f : ItemFinder) (t : List ℕ) (c : ItemIter) (r : FinderAnswer) (t′ : List ℕ) (n : ℕ) (d : List ℕ)
-      → Leaves t (updateOf (state f t) c) r t′ → saidFinder r ≡ refused n d → t′ ≡ t
-  pub turn-leaves : (s : List ℕ) (f : ItemFinder) (t : List ℕ) (c : ItemIter) (r : TurnAnswer) (t′ : List ℕ) (n : ℕ) (d : List ℕ)
+  pub create-keeps : (s t : List ℕ) (r : FinderAnswer) (t′ : List ℕ) (n : ℕ) (d : List ℕ) → Fills t (createOf s t) r t′ → saidFinder r ≡ refused n d → t′ ≡ t
+  pub update-keeps : (f : ItemFinder) (t : List ℕ) (c : ItemIter) (r : FinderAnswer) (t′ : List ℕ) (n : ℕ) (d : List ℕ)
+      → Fills t (updateOf (state f t) c) r t′ → saidFinder r ≡ refused n d → t′ ≡ t
+  pub turn-keeps : (s : List ℕ) (f : ItemFinder) (t : List ℕ) (c : ItemIter) (r : TurnAnswer) (t′ : List ℕ) (n : ℕ) (d : List ℕ)
       → Leads t (turnOf s (state f t) c) r t′ → saidTurn r t′ ≡ refused n d → t′ ≡ t
-  pub walk-leaves : (tag : Stream) (s t : List ℕ) (e : Refusal) (t′ : List ℕ) → Indexes tag s t (walk.Refused e) t′ → t′ ≡ t
+  pub index-all-keeps : (tag : Stream) (s t : List ℕ) (e : Refusal) (t′ : List ℕ) → Indexes tag s t (walk.Refused e) t′ → t′ ≡ t
   -- finder and table, lent to `update` in place
-  pub lent-update-leaves : (σ : State) (c : ItemIter) (r : UpdateAnswer) (τ : State) (n : ℕ) (d : List ℕ) → Updates σ c r τ → saidUpdate r ≡ refused n d → τ ≡ σ
+  pub lent-update-keeps : (σ : State) (c : ItemIter) (r : UpdateAnswer) (τ : State) (n : ℕ) (d : List ℕ) → Updates σ c r τ → saidUpdate r ≡ refused n d → τ ≡ σ
   -- the list reader, lent to its step: its bytes stay by the contract itself
-  pub step-leaves : (s : List ℕ) (c : ListCursor) (r : ElementAnswer) (c′ : ListCursor) (n : ℕ) (d : List ℕ) → Steps c (stepOf s c) r c′ → saidElement r ≡ refused n d → c′ ≡ c
+  pub step-keeps : (s : List ℕ) (c : ListCursor) (r : ElementAnswer) (c′ : ListCursor) (n : ℕ) (d : List ℕ) → Steps c (stepOf s c) r c′ → saidElement r ≡ refused n d → c′ ≡ c

@@ -9,36 +9,36 @@ use lib.ListN.{length, getD}
 use lib.Dec.{leb}
 use borrow.Author.Tests.{le-leb, lt-leb, leb-true}
 use Rattle.answer.specs.Answer.{Answer, answered, refused, Read, got, ended, pick}
-use Rattle.field.specs.Fields.{le, fixedAt, orZero}
+use Rattle.field.specs.Fields.{littleAt, fixedAt, orZero}
 
 -- one byte is itself
-pub le-one : (s : List ℕ) (p : ℕ) → getD s p 0 ≡ le 1 s p
-unfolding le
-le-one s p = omega arith
+pub little-one : (s : List ℕ) (p : ℕ) → getD s p 0 ≡ littleAt 1 s p
+unfolding littleAt
+little-one s p = omega arith
 
 -- a number of j + k bytes is its low j bytes and, 256 ^ j times, the k bytes after them
-pub le-add : (j k : ℕ) (s : List ℕ) (p : ℕ) → le j s p + 256 ^ j * le k s (p + j) ≡ le (j + k) s p
-unfolding le
-le-add zero k s p =
+pub little-add : (j k : ℕ) (s : List ℕ) (p : ℕ) → littleAt j s p + 256 ^ j * littleAt k s (p + j) ≡ littleAt (j + k) s p
+unfolding littleAt
+little-add zero k s p =
     let e : p + 0 ≡ p = omega arith in
     let f : 0 + k ≡ k = omega arith in
     rw (e, f) (omega arith)
-le-add (suc j) k s p =
+little-add (suc j) k s p =
     let e : p + suc j ≡ p + 1 + j = omega arith in
-    rw (e, suc-add, pow-succ', mul-assoc) (omega (arith, le-add j k s (p + 1)))
+    rw (e, suc-add, pow-succ', mul-assoc) (omega (arith, little-add j k s (p + 1)))
 
 -- two halves of k bytes each make the number of k + k bytes
-pub halves : (k : ℕ) (s : List ℕ) (p a b : ℕ) → a ≡ le k s p → b ≡ le k s (p + k) → a + 256 ^ k * b ≡ le (k + k) s p
-halves k s p a b ea eb = rw (ea, eb) (le-add k k s p)
+pub halves : (k : ℕ) (s : List ℕ) (p a b : ℕ) → a ≡ littleAt k s p → b ≡ littleAt k s (p + k) → a + 256 ^ k * b ≡ littleAt (k + k) s p
+halves k s p a b ea eb = rw (ea, eb) (little-add k k s p)
 
 -- k bytes, each below 256, make a number below 256 ^ k
-pub le-below : (k : ℕ) (s : List ℕ) (p : ℕ) → ((i : ℕ) → getD s i 0 < 256) → le k s p < 256 ^ k
-unfolding le
-le-below zero s p b = omega arith
-le-below (suc k) s p b = rw pow-succ' (omega (arith, b p, le-below k s (p + 1) b))
+pub little-below : (k : ℕ) (s : List ℕ) (p : ℕ) → ((i : ℕ) → getD s i 0 < 256) → littleAt k s p < 256 ^ k
+unfolding littleAt
+little-below zero s p b = omega arith
+little-below (suc k) s p b = rw pow-succ' (omega (arith, b p, little-below k s (p + 1) b))
 
 -- the field is there, or it has passed the end
-pub field-there : (k : ℕ) (s : List ℕ) (p v : ℕ) → p + k ≤ length s → v ≡ le k s p → got v (p + k) ≡ fixedAt k s p
+pub field-there : (k : ℕ) (s : List ℕ) (p v : ℕ) → p + k ≤ length s → v ≡ littleAt k s p → got v (p + k) ≡ fixedAt k s p
 unfolding fixedAt
 field-there k s p v h e = rw (e, le-leb _ _ h)
 
@@ -49,7 +49,7 @@ field-ended k s p h = rw (lt-leb _ _ h)
 -- a field that was read is there: its bytes make the value, and it ends behind them
 pub record There (k : ℕ) (s : List ℕ) (p v q : ℕ) : Type 0 where
   pub room : p + k ≤ length s
-  pub value : v ≡ le k s p
+  pub value : v ≡ littleAt k s p
   pub next : q ≡ p + k
 
 pub field-got : (k : ℕ) (s : List ℕ) (p v q : ℕ) → fixedAt k s p ≡ got v q → There k s p v q
@@ -68,7 +68,7 @@ field-got k s p v q e = go (leb (p + k) (length s)) refl e
     answers (answered g) = 1
     answers (refused n d) = 0
 
-    go : (t : Bool) → leb (p + k) (length s) ≡ t → pick t (got (le k s p) (p + k)) ended ≡ got v q → There k s p v q
+    go : (t : Bool) → leb (p + k) (length s) ≡ t → pick t (got (littleAt k s p) (p + k)) ended ≡ got v q → There k s p v q
     go true h f = record { room = leb-true (p + k) (length s) h; value = sym (ap value-of f); next = sym (ap next-of f) }
     go false h f = absurd (omega (arith, ap answers f))
 
@@ -84,7 +84,7 @@ pub zero-or : (k : ℕ) (s : List ℕ) (p : ℕ) → or-zero (fixedAt k s p) ≡
 unfolding fixedAt orZero
 zero-or k s p = go (leb (p + k) (length s))
   where
-    go : (t : Bool) → or-zero (pick t (got (le k s p) (p + k)) ended) ≡ pick t (le k s p) 0
+    go : (t : Bool) → or-zero (pick t (got (littleAt k s p) (p + k)) ended) ≡ pick t (littleAt k s p) 0
     go true = refl
     go false = refl
 
@@ -95,6 +95,6 @@ pub or-zero-ended : (k : ℕ) (s : List ℕ) (p : ℕ) → fixedAt k s p ≡ end
 or-zero-ended k s p e = sym (ap or-zero e) ∙ zero-or k s p
 
 -- where the number is there, it is the number
-pub or-zero-there : (k : ℕ) (s : List ℕ) (p : ℕ) → p + k ≤ length s → orZero k s p ≡ le k s p
+pub or-zero-there : (k : ℕ) (s : List ℕ) (p : ℕ) → p + k ≤ length s → orZero k s p ≡ littleAt k s p
 unfolding orZero
 or-zero-there k s p h = rw (le-leb _ _ h)

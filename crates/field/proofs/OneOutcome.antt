@@ -7,7 +7,7 @@ use lib.IntN.{ℤ}
 use Rattle.answer.specs.Answer.{answered, refused, Read}
 use Rattle.answer.proofs.OneOutcome.{one-of}
 use Rattle.field.specs.Fields.{said8, said16, said32, said64, saidI8, saidI16, saidI32, saidI64}
-use Rattle.field.specs.Indices.{saidType, saidId, saidStringRef, typeSaid, idSaid, saidOptType, saidOptId}
+use Rattle.field.specs.Indices.{saidType, saidId, saidStringRef, typeOption, idOption, saidOptType, saidOptId}
 use Rattle.field.specs.declared.fixed.Read8.{Read8}
 use Rattle.field.specs.declared.fixed.Read8.the-variants as r8
 use Rattle.field.specs.declared.fixed.Read16.{Read16}
@@ -168,12 +168,12 @@ abbrev pub hear-optional-type : Option ℕ → OptTypeIndex
 hear-optional-type none = type.None
 hear-optional-type (some n) = type.Some (record { 0 = n })
 
-pub back-optional-type : (r : OptTypeIndex) → hear-optional-type (typeSaid r) ≡ r
+pub back-optional-type : (r : OptTypeIndex) → hear-optional-type (typeOption r) ≡ r
 back-optional-type type.None = refl
 back-optional-type (type.Some x) = refl
 
-pub one-optional-type : (r q : OptTypeIndex) → typeSaid r ≡ typeSaid q → r ≡ q
-one-optional-type = one-of typeSaid hear-optional-type back-optional-type
+pub one-optional-type : (r q : OptTypeIndex) → typeOption r ≡ typeOption q → r ≡ q
+one-optional-type = one-of typeOption hear-optional-type back-optional-type
 
 abbrev hear-read-type : Read (Option ℕ) → ReadOptType
 hear-read-type (answered g) = rtype.Got (hear-optional-type (g .value)) (g .next)
@@ -190,12 +190,12 @@ abbrev pub hear-optional-id : Option ℕ → OptIdIndex
 hear-optional-id none = id.None
 hear-optional-id (some n) = id.Some (record { 0 = n })
 
-pub back-optional-id : (r : OptIdIndex) → hear-optional-id (idSaid r) ≡ r
+pub back-optional-id : (r : OptIdIndex) → hear-optional-id (idOption r) ≡ r
 back-optional-id id.None = refl
 back-optional-id (id.Some x) = refl
 
-pub one-optional-id : (r q : OptIdIndex) → idSaid r ≡ idSaid q → r ≡ q
-one-optional-id = one-of idSaid hear-optional-id back-optional-id
+pub one-optional-id : (r q : OptIdIndex) → idOption r ≡ idOption q → r ≡ q
+one-optional-id = one-of idOption hear-optional-id back-optional-id
 
 abbrev hear-read-id : Read (Option ℕ) → ReadOptId
 hear-read-id (answered g) = rid.Got (hear-optional-id (g .value)) (g .next)

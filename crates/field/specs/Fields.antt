@@ -23,13 +23,13 @@ use Rattle.field.specs.declared.fixed.ReadI64.{ReadI64}
 use Rattle.field.specs.declared.fixed.ReadI64.the-variants as i64
 
 -- the number that k bytes at place p make, lowest byte first
-unfoldable pub le : ℕ → List ℕ → ℕ → ℕ
-le zero s p = 0
-le (suc k) s p = getD s p 0 + 256 * le k s (p + 1)
+unfoldable pub littleAt : ℕ → List ℕ → ℕ → ℕ
+littleAt zero s p = 0
+littleAt (suc k) s p = getD s p 0 + 256 * littleAt k s (p + 1)
 
 -- the field of k bytes at place p, and the place after it; 1 if it passes the end
 unfoldable pub fixedAt : ℕ → List ℕ → ℕ → Read ℕ
-fixedAt k s p = pick (leb (p + k) (length s)) (got (le k s p) (p + k)) ended
+fixedAt k s p = pick (leb (p + k) (length s)) (got (littleAt k s p) (p + k)) ended
 
 -- the number x of k bytes as two's complement
 abbrev pub twos : ℕ → ℕ → ℤ
@@ -41,7 +41,7 @@ signedAt k s p = and-then (fixedAt k s p) (λ x q. got (twos k x) q)
 
 -- the number of k bytes at place p, 0 where it passes the end
 unfoldable pub orZero : ℕ → List ℕ → ℕ → ℕ
-orZero k s p = pick (leb (p + k) (length s)) (le k s p) 0
+orZero k s p = pick (leb (p + k) (length s)) (littleAt k s p) 0
 
 -- what the answers say
 abbrev pub said8 : Read8 → Read ℕ

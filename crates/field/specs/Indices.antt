@@ -49,18 +49,18 @@ abbrev pub saidStringRef : ReadStringRef → Read ℕ
 saidStringRef (at-string.Got r p) = got (r .0) p
 saidStringRef at-string.Ended = ended
 
-abbrev pub typeSaid : OptTypeIndex → Option ℕ
-typeSaid type.None = none
-typeSaid (type.Some t) = some (t .0)
+abbrev pub typeOption : OptTypeIndex → Option ℕ
+typeOption type.None = none
+typeOption (type.Some t) = some (t .0)
 
-abbrev pub idSaid : OptIdIndex → Option ℕ
-idSaid id.None = none
-idSaid (id.Some i) = some (i .0)
+abbrev pub idOption : OptIdIndex → Option ℕ
+idOption id.None = none
+idOption (id.Some i) = some (i .0)
 
 abbrev pub saidOptType : ReadOptType → Read (Option ℕ)
-saidOptType (rtype.Got t p) = got (typeSaid t) p
+saidOptType (rtype.Got t p) = got (typeOption t) p
 saidOptType rtype.Ended = ended
 
 abbrev pub saidOptId : ReadOptId → Read (Option ℕ)
-saidOptId (rid.Got i p) = got (idSaid i) p
+saidOptId (rid.Got i p) = got (idOption i) p
 saidOptId rid.Ended = ended

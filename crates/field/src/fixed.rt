@@ -4,7 +4,7 @@ ghost use Prim.Native.Nat.{_+_, _≤_};
 ghost use lib.ListN.{length};
 ghost use mir.Syntax.{w8, w16, w32, w64};
 ghost use mir.Val.{toZ};
-ghost use Rattle.field.specs.Fields.{le, fixedAt, twos, signedAt, orZero, said8, said16, said32, said64, saidI8, saidI16, saidI32, saidI64};
+ghost use Rattle.field.specs.Fields.{littleAt, fixedAt, twos, signedAt, orZero, said8, said16, said32, said64, saidI8, saidI16, saidI32, saidI64};
 
 pub enum Read8 {
     Got(u8, usize),
@@ -50,28 +50,28 @@ pub enum ReadI64 {
 
 fn le8(s: &[u8], p: usize) -> u8
     requires { ⌜ p + 1 ≤ length (now s) ⌝ }
-    ensures { λ r. ⌜ r ≡ le 1 (now (s .entry)) p ⌝ }
+    ensures { λ r. ⌜ r ≡ littleAt 1 (now (s .entry)) p ⌝ }
 {
     s[p]
 }
 
 fn le16(s: &[u8], p: usize) -> u16
     requires { ⌜ p + 2 ≤ length (now s) ⌝ }
-    ensures { λ r. ⌜ r ≡ le 2 (now (s .entry)) p ⌝ }
+    ensures { λ r. ⌜ r ≡ littleAt 2 (now (s .entry)) p ⌝ }
 {
     (le8(s, p) as u16) + 256 * (le8(s, p + 1) as u16)
 }
 
 fn le32(s: &[u8], p: usize) -> u32
     requires { ⌜ p + 4 ≤ length (now s) ⌝ }
-    ensures { λ r. ⌜ r ≡ le 4 (now (s .entry)) p ⌝ }
+    ensures { λ r. ⌜ r ≡ littleAt 4 (now (s .entry)) p ⌝ }
 {
     (le16(s, p) as u32) + 65536 * (le16(s, p + 2) as u32)
 }
 
 fn le64(s: &[u8], p: usize) -> u64
     requires { ⌜ p + 8 ≤ length (now s) ⌝ }
-    ensures { λ r. ⌜ r ≡ le 8 (now (s .entry)) p ⌝ }
+    ensures { λ r. ⌜ r ≡ littleAt 8 (now (s .entry)) p ⌝ }
 {
     (le32(s, p) as u64) + 4294967296 * (le32(s, p + 4) as u64)
 }

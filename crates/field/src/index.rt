@@ -2,7 +2,7 @@
 // given for another. An optional index is none at the numbers that document 01 names.
 ghost use mathlib.Core.Path.{_≡_};
 ghost use lib.Dec.{leb};
-ghost use Rattle.field.specs.Indices.{saidType, saidId, saidStringRef, optionalOf, noType, noId, optionalAt, typeSaid, idSaid, saidOptType, saidOptId};
+ghost use Rattle.field.specs.Indices.{saidType, saidId, saidStringRef, optionalOf, noType, noId, optionalAt, typeOption, idOption, saidOptType, saidOptId};
 ghost use Rattle.field.specs.Fields.{fixedAt};
 use crate::fixed;
 use crate::fixed::Read32;
@@ -61,7 +61,7 @@ impl TypeIndex {
 
     // None at 0 and 0xffff.
     pub fn optional(self) -> OptTypeIndex
-        ensures { λ r. ⌜ typeSaid r ≡ optionalOf noType (self .0) ⌝ }
+        ensures { λ r. ⌜ typeOption r ≡ optionalOf noType (self .0) ⌝ }
     {
         let n = self.0;
         if n == 0 {
@@ -84,7 +84,7 @@ impl IdIndex {
 
     // None at 0 only.
     pub fn optional(self) -> OptIdIndex
-        ensures { λ r. ⌜ idSaid r ≡ optionalOf noId (self .0) ⌝ }
+        ensures { λ r. ⌜ idOption r ≡ optionalOf noId (self .0) ⌝ }
     {
         let n = self.0;
         if n == 0 {

@@ -2,3 +2,4 @@
 // reader answers 1, "ended", where what it reads passes the end or the place is past the end.
 pub mod fixed;
 pub mod index;
+pub mod run;

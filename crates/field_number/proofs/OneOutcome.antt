@@ -5,7 +5,7 @@ use mathlib.Core.Path.{_≡_, refl, ap}
 use lib.IntN.{ℤ, pos, negsuc}
 use Rattle.answer.specs.Answer.{answered, refused, Read}
 use Rattle.answer.proofs.OneOutcome.{one-of, refusal-back, refusalIn}
-use Rattle.field_number.specs.Numbers.{numberSaid, saidVariant, saidSize}
+use Rattle.field_number.specs.Numbers.{numberValue, saidVariant, saidSize}
 use Rattle.field_number.specs.declared.Number.{Number}
 use Rattle.field_number.specs.declared.Number.the-variants as number
 use Rattle.field_number.specs.declared.ReadVariant.{ReadVariant}
@@ -17,12 +17,12 @@ abbrev pub hear-number : ℤ → Number
 hear-number (pos n) = number.Natural n
 hear-number (negsuc n) = number.Negative n
 
-pub back-number : (r : Number) → hear-number (numberSaid r) ≡ r
+pub back-number : (r : Number) → hear-number (numberValue r) ≡ r
 back-number (number.Natural n) = refl
 back-number (number.Negative n) = refl
 
-pub one-number : (r q : Number) → numberSaid r ≡ numberSaid q → r ≡ q
-one-number = one-of numberSaid hear-number back-number
+pub one-number : (r q : Number) → numberValue r ≡ numberValue q → r ≡ q
+one-number = one-of numberValue hear-number back-number
 
 abbrev hear-variant : Read ℤ → ReadVariant
 hear-variant (answered g) = rvariant.Got (record { value = hear-number (g .value) }) (g .next)

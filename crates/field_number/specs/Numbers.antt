@@ -56,12 +56,12 @@ unfoldable pub sizeAt : List ℕ → ℕ → Read ℕ
 sizeAt s p = and-then (numericAt s p) natural
 
 -- what the answers say
-abbrev pub numberSaid : Number → ℤ
-numberSaid (number.Natural n) = pos n
-numberSaid (number.Negative n) = negsuc n
+abbrev pub numberValue : Number → ℤ
+numberValue (number.Natural n) = pos n
+numberValue (number.Negative n) = negsuc n
 
 abbrev pub saidVariant : ReadVariant → Read ℤ
-saidVariant (rvariant.Got v p) = got (numberSaid (v .value)) p
+saidVariant (rvariant.Got v p) = got (numberValue (v .value)) p
 saidVariant (rvariant.Refused e) = no e
 
 abbrev pub saidSize : ReadSize → Read ℕ

@@ -6,7 +6,7 @@ ghost use lib.Dec.{ltb};
 ghost use lib.IntN.{pos, negsuc};
 ghost use Rattle.answer.specs.Answer.{pick};
 ghost use Rattle.field.specs.Fields.{signedAt};
-ghost use Rattle.field_number.specs.Numbers.{unsignedAt, numberSaid, saidVariant, saidSize, numericAt, wideAt, sizeAt, prefixes};
+ghost use Rattle.field_number.specs.Numbers.{unsignedAt, numberValue, saidVariant, saidSize, numericAt, wideAt, sizeAt, prefixes};
 ghost use Rattle.answer.specs.Tables.{find};
 use answer::Refusal;
 use field::fixed;
@@ -44,7 +44,7 @@ pub enum ReadSize {
 // The bits v as two's complement, where half is the sign bit.
 fn signed(v: u64, half: u64) -> Number
     requires { ⌜ (half ≤ 9223372036854775808) × (v < 2 * half) ⌝ }
-    ensures { λ r. ⌜ numberSaid r ≡ pick (ltb v half) (pos v) (negsuc (2 * half - suc v)) ⌝ }
+    ensures { λ r. ⌜ numberValue r ≡ pick (ltb v half) (pos v) (negsuc (2 * half - suc v)) ⌝ }
 {
     if v < half {
         return Number::Natural(v);

@@ -2,8 +2,9 @@
 use mathlib.Core.Path.{_≡_, refl}
 use mathlib.Core.List.{[], _∷_}
 use Rattle.answer.specs.Answer.{answered, refused, got}
-use Rattle.field.specs.Fields.{le, fixedAt}
-use Rattle.field_text.specs.Texts.{pad, paddingAfter, toZero, stringAt, bytesAfter, countedStringAt, stringOf}
+use Rattle.field.specs.Fields.{littleAt, fixedAt}
+use Rattle.field.specs.Runs.{bytesAfter}
+use Rattle.field_text.specs.Texts.{pad, paddingAfter, toZero, stringAt, countedStringAt, stringOf}
 
 -- padding f3 f2 f1 consumes 3; f0 41 consumes 1; f2 alone gives 1
 pub padding-three : paddingAfter (0xf3 ∷ 0xf2 ∷ 0xf1 ∷ []) 0 ≡ answered 3
@@ -24,5 +25,5 @@ unfolding stringOf stringAt toZero
 up-to-zero = refl
 
 pub by-length : stringOf 0x1500 (2 ∷ 0x61 ∷ 0x62 ∷ []) 0 ≡ got (record { place = 1; length = 2 }) 3
-unfolding stringOf countedStringAt bytesAfter fixedAt le
+unfolding stringOf countedStringAt bytesAfter fixedAt littleAt
 by-length = refl

@@ -5,24 +5,25 @@ use mathlib.Core.Path.{_≡_, refl}
 use mathlib.Core.Option.{Option, none, some}
 use Rattle.answer.specs.Answer.{Answer, answered, refused, Read}
 use Rattle.answer.proofs.OneOutcome.{one-of}
-use Rattle.field_text.specs.Texts.{Part, stringSaid, saidString, saidAfter}
+use Rattle.field.specs.Runs.{saidAfter}
+use Rattle.field_text.specs.Texts.{Part, stringOption, saidString}
 use Rattle.field_text.specs.declared.OptString.{OptString}
 use Rattle.field_text.specs.declared.OptString.the-variants as optional
 use Rattle.field_text.specs.declared.ReadString.{ReadString}
 use Rattle.field_text.specs.declared.ReadString.the-variants as rstring
-use Rattle.field_text.specs.declared.After.{After}
-use Rattle.field_text.specs.declared.After.the-variants as after
+use Rattle.field.specs.declared.run.After.{After}
+use Rattle.field.specs.declared.run.After.the-variants as after
 
 abbrev hear-optional-string : Option Part → OptString
 hear-optional-string none = optional.None
 hear-optional-string (some x) = optional.Some (record { place = x .place; length = x .length })
 
-back-optional-string : (r : OptString) → hear-optional-string (stringSaid r) ≡ r
+back-optional-string : (r : OptString) → hear-optional-string (stringOption r) ≡ r
 back-optional-string optional.None = refl
 back-optional-string (optional.Some t) = refl
 
-pub one-optional-string : (r q : OptString) → stringSaid r ≡ stringSaid q → r ≡ q
-one-optional-string = one-of stringSaid hear-optional-string back-optional-string
+pub one-optional-string : (r q : OptString) → stringOption r ≡ stringOption q → r ≡ q
+one-optional-string = one-of stringOption hear-optional-string back-optional-string
 
 abbrev hear-string : Read Part → ReadString
 hear-string (answered g) = rstring.Got (record { place = g .value .place; length = g .value .length }) (g .next)

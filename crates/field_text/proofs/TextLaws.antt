@@ -1,15 +1,14 @@
--- The laws of a string: a step of its search; and of the bytes of a part. Assumes nothing.
+-- The laws of a string: a step of its search. Assumes nothing.
 use Prim.Native.Nat.{ℕ, zero, suc, _+_, _-_, _≤_, _<_}
 use native.Mathlib.Omega.{arith}
 use native.Mathlib.Numerals.{add-one}
 use mathlib.Core.Path.{_≡_, refl, ap, sym, _∙_}
 use mathlib.Core.List.{List, [], _∷_}
 use mathlib.Core.Option.{Option, none, some}
-use lib.ListN.{length, getD, take, drop, drop-of-length-le}
+use lib.ListN.{length, getD, drop, drop-of-length-le}
 use lib.Seq.{drop-cons}
-use borrow.Author.Tests.{le-ltb, lt-ltb}
 use Rattle.answer.specs.Answer.{Read, got, ended}
-use Rattle.field_text.specs.Texts.{Part, toZero, stringAt, partOr, bytesAt}
+use Rattle.field_text.specs.Texts.{Part, toZero, stringAt, partOr}
 
 pub at-zero : (x : ℕ) (bs : List ℕ) (n : ℕ) → x ≡ 0 → toZero (x ∷ bs) n ≡ some n
 unfolding toZero
@@ -40,13 +39,3 @@ found s p i h e = let f : p + (i - p) ≡ i = omega arith in rw (e, f)
 pub lost : (s : List ℕ) (p : ℕ) → toZero (drop p s) 0 ≡ none → ended ≡ stringAt s p
 unfolding stringAt
 lost s p e = rw e
-
--- the bytes of a part: none past the end, else all of them
-module _ (n : ℕ) (s : List ℕ) (p : ℕ) where
-  pub bytes-past : length s < p + n → bytesAt n s p ≡ []
-  unfolding bytesAt
-  bytes-past h = simp (lt-ltb _ _ h)
-
-  pub bytes-there : p + n ≤ length s → bytesAt n s p ≡ take n (drop p s)
-  unfolding bytesAt
-  bytes-there h = simp (le-ltb _ _ h)

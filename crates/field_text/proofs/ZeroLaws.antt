@@ -8,8 +8,8 @@ use lib.ListN.{length, getD, drop}
 use lib.Bits.{bitAnd, and-block, and-lt, and-zero-r, shifted-half, shifted-even}
 use lib.Count.{trailingZeros, under}
 use lib.Pow.{pow-pos}
-use Rattle.field.specs.Fields.{le}
-use Rattle.field.proofs.FieldLaws.{le-below}
+use Rattle.field.specs.Fields.{littleAt}
+use Rattle.field.proofs.FieldLaws.{little-below}
 use mathlib.Core.Option.{some}
 use Rattle.answer.specs.Answer.{got, ended}
 use Rattle.field_text.specs.Texts.{toZero, stringAt}
@@ -129,15 +129,15 @@ more-marked s p k m a e h ne w =
     }
 
 -- the marks of the number of k bytes: y is the number less 1 in each byte
-pub marks-of : (k : ℕ) (s : List ℕ) (p y : ℕ) → ((i : ℕ) → getD s i 0 < 256) → p + k ≤ length s → y < 256 ^ k → (y + ones k) % 256 ^ k ≡ le k s p
-    → Marks s p k (bitAnd (bitAnd y (256 ^ k - 1 - le k s p)) (128 * ones k))
-unfolding ones le
+pub marks-of : (k : ℕ) (s : List ℕ) (p y : ℕ) → ((i : ℕ) → getD s i 0 < 256) → p + k ≤ length s → y < 256 ^ k → (y + ones k) % 256 ^ k ≡ littleAt k s p
+    → Marks s p k (bitAnd (bitAnd y (256 ^ k - 1 - littleAt k s p)) (128 * ones k))
+unfolding ones littleAt
 marks-of zero s p y bs r h e =
-    record { none = λ z. passed-none s p (p + 0) (omega arith); first = λ f. absurd (f (and-zero-r (bitAnd y (256 ^ 0 - 1 - le 0 s p)))) }
+    record { none = λ z. passed-none s p (p + 0) (omega arith); first = λ f. absurd (f (and-zero-r (bitAnd y (256 ^ 0 - 1 - littleAt 0 s p)))) }
 marks-of (suc k) s p y bs r h e = go (getD s p 0) refl (λ x h' e'. marks-of k s (p + 1) x bs (omega arith) h' e')
   where
-    below : le k s (p + 1) < 256 ^ k
-    below = le-below k s (p + 1) bs
+    below : littleAt k s (p + 1) < 256 ^ k
+    below = little-below k s (p + 1) bs
 
     low : y % 256 < 256
     low = mod-lt y (zero-lt-suc 255)
@@ -154,44 +154,44 @@ marks-of (suc k) s p y bs r h e = go (getD s p 0) refl (λ x h' e'. marks-of k s
     scaled : q * 256 ^ suc k ≡ 256 * (q * 256 ^ k)
     scaled = ap (λ (x : ℕ). q * x) (pow-succ' 256 k) ∙ sym (mul-assoc q 256 (256 ^ k)) ∙ ap (λ (x : ℕ). x * 256 ^ k) (mul-comm q 256) ∙ mul-assoc 256 q (256 ^ k)
 
-    sum : 256 * (q * 256 ^ k) + (getD s p 0 + 256 * le k s (p + 1)) ≡ y / 256 * 256 + y % 256 + (1 + 256 * ones k)
+    sum : 256 * (q * 256 ^ k) + (getD s p 0 + 256 * littleAt k s (p + 1)) ≡ y / 256 * 256 + y % 256 + (1 + 256 * ones k)
     sum =
         ap₂ (λ (a b : ℕ). a + b) (sym scaled) (sym e) ∙ div-add-mod' (y + (1 + 256 * ones k)) (256 ^ suc k)
         ∙ ap (λ (x : ℕ). x + (1 + 256 * ones k)) (sym both)
 
-    split : bitAnd (bitAnd y (256 ^ suc k - 1 - (getD s p 0 + 256 * le k s (p + 1)))) (128 * (1 + 256 * ones k))
-        ≡ bitAnd (bitAnd (y / 256) (256 ^ k - 1 - le k s (p + 1))) (128 * ones k) * 256 + bitAnd (bitAnd (y % 256) (255 - getD s p 0)) 128
+    split : bitAnd (bitAnd y (256 ^ suc k - 1 - (getD s p 0 + 256 * littleAt k s (p + 1)))) (128 * (1 + 256 * ones k))
+        ≡ bitAnd (bitAnd (y / 256) (256 ^ k - 1 - littleAt k s (p + 1))) (128 * ones k) * 256 + bitAnd (bitAnd (y % 256) (255 - getD s p 0)) 128
     split =
-        let n : 256 ^ suc k - 1 - (getD s p 0 + 256 * le k s (p + 1)) ≡ (256 ^ k - 1 - le k s (p + 1)) * 256 + (255 - getD s p 0) =
+        let n : 256 ^ suc k - 1 - (getD s p 0 + 256 * littleAt k s (p + 1)) ≡ (256 ^ k - 1 - littleAt k s (p + 1)) * 256 + (255 - getD s p 0) =
         omega (arith, pow-succ' 256 k, bs p, below) in
         let o : 128 * (1 + 256 * ones k) ≡ 128 * ones k * 256 + 128 = omega arith in
         ap₂ bitAnd (ap₂ bitAnd (sym both) n) o ∙ apart (y / 256) _ (128 * ones k) (y % 256) (255 - getD s p 0) low (omega arith)
 
     rest : ℕ
-    rest = bitAnd (bitAnd (y / 256) (256 ^ k - 1 - le k s (p + 1))) (128 * ones k)
+    rest = bitAnd (bitAnd (y / 256) (256 ^ k - 1 - littleAt k s (p + 1))) (128 * ones k)
 
     go : (b : ℕ) → getD s p 0 ≡ b
-        → ((x : ℕ) → x < 256 ^ k → (x + ones k) % 256 ^ k ≡ le k s (p + 1) → Marks s (p + 1) k (bitAnd (bitAnd x (256 ^ k - 1 - le k s (p + 1))) (128 * ones k)))
-        → Marks s p (suc k) (bitAnd (bitAnd y (256 ^ suc k - 1 - (getD s p 0 + 256 * le k s (p + 1)))) (128 * (1 + 256 * ones k)))
+        → ((x : ℕ) → x < 256 ^ k → (x + ones k) % 256 ^ k ≡ littleAt k s (p + 1) → Marks s (p + 1) k (bitAnd (bitAnd x (256 ^ k - 1 - littleAt k s (p + 1))) (128 * ones k)))
+        → Marks s p (suc k) (bitAnd (bitAnd y (256 ^ suc k - 1 - (getD s p 0 + 256 * littleAt k s (p + 1)))) (128 * (1 + 256 * ones k)))
     go zero eb ih =
         let ec : y % 256 ≡ 255 = omega (arith, sum, low) in
         first-marked s p k _ rest (split ∙ ap₂ (λ (a b : ℕ). rest * 256 + bitAnd (bitAnd a (255 - b)) 128) ec eb) eb
     go (suc b) eb ih =
         let ec : y % 256 ≡ b = omega (arith, sum, low, bs p) in
-        let es : y / 256 + ones k ≡ q * 256 ^ k + le k s (p + 1) = omega (arith, sum, low, bs p) in
-        let em : (y / 256 + ones k) % 256 ^ k ≡ le k s (p + 1) =
-        ap (λ (x : ℕ). x % 256 ^ k) es ∙ mul-add-mod-self-right q (256 ^ k) (le k s (p + 1)) ∙ mod-eq-of-lt below in
+        let es : y / 256 + ones k ≡ q * 256 ^ k + littleAt k s (p + 1) = omega (arith, sum, low, bs p) in
+        let em : (y / 256 + ones k) % 256 ^ k ≡ littleAt k s (p + 1) =
+        ap (λ (x : ℕ). x % 256 ^ k) es ∙ mul-add-mod-self-right q (256 ^ k) (littleAt k s (p + 1)) ∙ mod-eq-of-lt below in
         let en : 255 - getD s p 0 ≡ 254 - b = omega arith in
         let el : bitAnd (bitAnd (y % 256) (255 - getD s p 0)) 128 ≡ 0 =
         ap₂ (λ (x z : ℕ). bitAnd (bitAnd x z) 128) ec en ∙ byte-unmarked b (omega (arith, bs p)) in
         more-marked s p k _ rest (split ∙ ap (λ (x : ℕ). rest * 256 + x) el ∙ add-zero (rest * 256)) (omega arith) (λ z. omega arith) (ih (y / 256) high em)
 
 -- the same of eight bytes, with the numbers written out
-pub word-marks : (s : List ℕ) (p x m : ℕ) → ((i : ℕ) → getD s i 0 < 256) → p + 8 ≤ length s → x ≡ le 8 s p → m ≡ marksOf x → Marks s p 8 m
+pub word-marks : (s : List ℕ) (p x m : ℕ) → ((i : ℕ) → getD s i 0 < 256) → p + 8 ≤ length s → x ≡ littleAt 8 s p → m ≡ marksOf x → Marks s p 8 m
 unfolding ones marksOf
 word-marks s p x m bs r e h =
-    let b : le 8 s p < 2 ^ 64 = le-below 8 s p bs in
-    let w : ((le 8 s p + (2 ^ 64 - 0x0101010101010101)) % 2 ^ 64 + 0x0101010101010101) % 2 ^ 64 ≡ le 8 s p = omega (arith, b) in
+    let b : littleAt 8 s p < 2 ^ 64 = little-below 8 s p bs in
+    let w : ((littleAt 8 s p + (2 ^ 64 - 0x0101010101010101)) % 2 ^ 64 + 0x0101010101010101) % 2 ^ 64 ≡ littleAt 8 s p = omega (arith, b) in
     subst (Marks s p 8) (sym (h ∙ ap marksOf e)) (marks-of 8 s p _ bs r (mod-lt _ (zero-lt-suc _)) w)
 
 -- ---- what the search came to is what the string says

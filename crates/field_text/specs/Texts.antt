@@ -2,17 +2,16 @@
 use Prim.Native.Nat.{ℕ, zero, suc, _+_, _-_, _%_}
 use mathlib.Core.List.{List, [], _∷_}
 use mathlib.Core.Option.{Option, none, some}
-use lib.ListN.{length, take, drop}
+use lib.ListN.{length, drop}
 use lib.Dec.{leb, ltb}
 use Rattle.answer.specs.Answer.{Answer, answered, Read, got, ended, pick, stop, then, and-then}
 use Rattle.field.specs.Fields.{fixedAt}
+use Rattle.field.specs.Runs.{bytesAfter}
 use Rattle.field_text.specs.declared.RawString.{RawString}
 use Rattle.field_text.specs.declared.OptString.{OptString}
 use Rattle.field_text.specs.declared.OptString.the-variants as optional
 use Rattle.field_text.specs.declared.ReadString.{ReadString}
 use Rattle.field_text.specs.declared.ReadString.the-variants as rstring
-use Rattle.field_text.specs.declared.After.{After}
-use Rattle.field_text.specs.declared.After.the-variants as after
 
 -- a part of the bytes: its place and its length
 pub record Part : Type 0 where
@@ -32,14 +31,6 @@ partOr (some n) p = got (record { place = p; length = n }) (p + n + 1)
 -- a string is the part up to a zero byte, which is consumed and not shown; none found is 1
 unfoldable pub stringAt : List ℕ → ℕ → Read Part
 stringAt s p = partOr (toZero (drop p s) 0) p
-
--- the place after n bytes at p; 1 where they pass the end
-unfoldable pub bytesAfter : ℕ → List ℕ → ℕ → Answer ℕ
-bytesAfter n s p = stop (ltb (length s) (p + n)) 1 (answered (p + n))
-
--- the n bytes at p; none where they pass the end
-unfoldable pub bytesAt : ℕ → List ℕ → ℕ → List ℕ
-bytesAt n s p = pick (ltb (length s) (p + n)) [] (take n (drop p s))
 
 -- a length byte and that many bytes
 unfoldable pub countedStringAt : List ℕ → ℕ → Read Part
@@ -71,14 +62,10 @@ paddingAfter s p = stop (ltb (length s) p) 1 (pad 0 p (drop p s))
 abbrev pub part : RawString → Part
 part t = record { place = t .place; length = t .length }
 
-abbrev pub stringSaid : OptString → Option Part
-stringSaid optional.None = none
-stringSaid (optional.Some t) = some (part t)
+abbrev pub stringOption : OptString → Option Part
+stringOption optional.None = none
+stringOption (optional.Some t) = some (part t)
 
 abbrev pub saidString : ReadString → Read Part
 saidString (rstring.Got t p) = got (part t) p
 saidString rstring.Ended = ended
-
-abbrev pub saidAfter : After → Answer ℕ
-saidAfter (after.At p) = answered p
-saidAfter after.Ended = ended

@@ -2,11 +2,14 @@
 ghost use mathlib.Core.Path.{_≡_};
 ghost use Prim.Native.Nat.{_+_, _≤_};
 ghost use lib.ListN.{length};
-ghost use Rattle.field_text.specs.Texts.{stringAt, bytesAfter, bytesAt, countedStringAt, stringOf, saidString, more, paddingAfter, saidAfter};
+ghost use Rattle.field.specs.Runs.{bytesAt, saidAfter};
+ghost use Rattle.field_text.specs.Texts.{stringAt, countedStringAt, stringOf, saidString, more, paddingAfter};
 ghost use Rattle.field_text.specs.Zeros.{marksOf, ZeroAt};
 use field::fixed;
 use field::fixed::Read8;
 use field::fixed::Read64;
+use field::run;
+use field::run::After;
 
 // A string: a part of the bytes that it was read from, where it starts and how many bytes it has.
 pub struct RawString {
@@ -22,12 +25,6 @@ pub enum OptString {
 
 pub enum ReadString {
     Got(RawString, usize),
-    Ended,
-}
-
-// The place after some bytes.
-pub enum After {
-    At(usize),
     Ended,
 }
 
@@ -87,39 +84,12 @@ pub fn string_at(s: &[u8], p: usize) -> ReadString
     ReadString::Ended
 }
 
-// The place after the n bytes at place p.
-pub fn after_bytes(s: &[u8], p: usize, n: usize) -> After
-    ensures { λ r. ⌜ saidAfter r ≡ bytesAfter n (now (s .entry)) p ⌝ }
-{
-    if s.len() < p {
-        return After::Ended;
-    }
-    if s.len() - p < n {
-        return After::Ended;
-    }
-    After::At(p + n)
-}
-
-// The n bytes at place p; none where they pass the end.
-pub fn bytes_at<'a>(s: &'a [u8], p: usize, n: usize) -> &'a [u8]
-    ensures { λ r. ⌜ now r ≡ bytesAt n (now (s .entry)) p ⌝ }
-{
-    if p > s.len() {
-        return &s[0..0];
-    }
-    if n > s.len() - p {
-        return &s[0..0];
-    }
-    let end = p + n;
-    &s[p..end]
-}
-
 impl RawString {
     // The string's bytes, s being what it was read from.
     pub fn bytes<'a>(self, s: &'a [u8]) -> &'a [u8]
         ensures { λ r. ⌜ now r ≡ bytesAt (self .length) (now (s .entry)) (self .place) ⌝ }
     {
-        bytes_at(s, self.place, self.length)
+        run::bytes_at(s, self.place, self.length)
     }
 }
 
@@ -131,7 +101,7 @@ pub fn counted_string_at(s: &[u8], p: usize) -> ReadString
         return ReadString::Ended;
     };
     let k = n as usize;
-    let After::At(e) = after_bytes(s, q, k) else {
+    let After::At(e) = run::after_bytes(s, q, k) else {
         return ReadString::Ended;
     };
     ReadString::Got(

@@ -10,7 +10,7 @@ use stream_item::Stream;
 use stream_item::iter::ItemIter;
 use stream_item::iter::IterAnswer;
 use stream_item::iter::NextAnswer;
-use stream_view::KindAnswer;
+use stream_view::RawKindAnswer;
 
 fn put(text: &[u8]) {
     io::write_all(STDOUT_FILENO, text);
@@ -26,12 +26,12 @@ fn put_refused(e: Refusal) {
     put(b"\n");
 }
 
-fn put_leaf(k: KindAnswer) {
+fn put_leaf(k: RawKindAnswer) {
     match k {
-        KindAnswer::Answered(leaf) => {
+        RawKindAnswer::Answered(leaf) => {
             io::print_hex(STDOUT_FILENO, leaf as u64, 4);
         }
-        KindAnswer::Refused(_) => put(b"----"),
+        RawKindAnswer::Refused(_) => put(b"----"),
     }
 }
 

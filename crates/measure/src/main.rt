@@ -17,14 +17,14 @@ use stream_finder::FindAnswer;
 use stream_finder::ItemFinder;
 use stream_header::Header;
 use stream_header::HeaderAnswer;
-use stream_index::WalkAnswer;
+use stream_index::IndexAnswer;
 use stream_item::Entry;
 use stream_item::Item;
 use stream_item::Stream;
 use stream_item::iter::ItemIter;
 use stream_item::iter::IterAnswer;
 use stream_item::iter::NextAnswer;
-use stream_view::KindAnswer;
+use stream_view::RawKindAnswer;
 use sums::add;
 
 // The operations, by the letters that their names start with; parseids has one of its own. Any other is `elements`.
@@ -124,13 +124,13 @@ fn read(op: u8, s: &[u8], i: Item) -> u64 {
     record_read(s, i)
 }
 
-fn is_list(k: KindAnswer) -> bool {
+fn is_list(k: RawKindAnswer) -> bool {
     match k {
-        KindAnswer::Answered(leaf) => match leaf {
+        RawKindAnswer::Answered(leaf) => match leaf {
             0x1201 | 0x1203 | 0x1206 => true,
             _ => false,
         },
-        KindAnswer::Refused(_) => false,
+        RawKindAnswer::Refused(_) => false,
     }
 }
 
@@ -208,9 +208,9 @@ fn list_from(s: &[u8], from: ListCursor) -> u64 {
 
 // The finder of the whole stream.
 fn indexed(s: &[u8], t: &mut [u32; PLACES]) -> ItemFinder {
-    match stream_index::walk(Stream::Types, s, t) {
-        WalkAnswer::Answered(tour) => tour.finder,
-        WalkAnswer::Refused(_) => ItemFinder {
+    match stream_index::index_all(Stream::Types, s, t) {
+        IndexAnswer::Answered(tour) => tour.finder,
+        IndexAnswer::Refused(_) => ItemFinder {
             minimum_index: 0,
             maximum_index: 0,
             held: 0,
@@ -244,7 +244,7 @@ fn find_once(s: &[u8], t: &[u32; PLACES], f: ItemFinder) -> u64 {
     let last = f.maximum_index;
     let mut sum: u64 = 0;
     while n < last {
-        sum = add(sum, found(stream_finder::find_type(s, t, f, TypeIndex(n))));
+        sum = add(sum, found(stream_finder::find_type(s, f, t, TypeIndex(n))));
         n += 1;
     }
     sum

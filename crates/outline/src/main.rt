@@ -19,7 +19,7 @@ use record_parse::ParseAnswer;
 use stream_finder::FindAnswer;
 use stream_finder::ItemFinder;
 use stream_index::End;
-use stream_index::WalkAnswer;
+use stream_index::IndexAnswer;
 use stream_item::Entry;
 use stream_item::Stream;
 use stream_item::iter::ItemIter;
@@ -295,13 +295,13 @@ fn put_end(end: End) {
 
 // The whole stream is indexed once; after that any type is found in at most eight steps.
 fn run(tpi: &[u8], places: &mut [u32; 2048]) {
-    match stream_index::walk(Stream::Types, tpi, places) {
-        WalkAnswer::Answered(tour) => {
+    match stream_index::index_all(Stream::Types, tpi, places) {
+        IndexAnswer::Answered(tour) => {
             let end = tour.end;
             outline(tpi, places, tour.finder, tour.cursor);
             put_end(end);
         }
-        WalkAnswer::Refused(e) => put_refused(e),
+        IndexAnswer::Refused(e) => put_refused(e),
     }
 }
 

@@ -11,7 +11,7 @@ use Rattle.field.specs.declared.index.OptTypeIndex.{OptTypeIndex}
 use Rattle.record_layout.specs.Fields.{Value, number, integer, absent, many}
 use Rattle.record_layout.specs.Values.{nth, numberIn, stringIn, optionIn}
 use Rattle.record_layout.proofs.OneOutcome.{type-back}
-use Rattle.record_data.specs.Said.{optString, classFrom, fieldsFrom, kindValues, typeValues, saidTypeData}
+use Rattle.record_data.specs.Said.{stringValue, classFrom, fieldsFrom, kindValues, typeValues, saidTypeData}
 use Rattle.record_data.specs.declared.ClassKind.{ClassKind}
 use Rattle.record_data.specs.declared.ClassKind.the-variants as kind
 use Rattle.field_text.specs.declared.OptString.{OptString}
@@ -28,12 +28,12 @@ optIn (number n) = opt.None
 optIn (integer z) = opt.None
 optIn absent = opt.None
 
-opt-back : (t : OptString) → optIn (optString t) ≡ t
+opt-back : (t : OptString) → optIn (stringValue t) ≡ t
 opt-back opt.None = refl
 opt-back (opt.Some t) = refl
 
-pub one-name : (r q : OptString) → optString r ≡ optString q → r ≡ q
-one-name = one-of optString optIn opt-back
+pub one-name : (r q : OptString) → stringValue r ≡ stringValue q → r ≡ q
+one-name = one-of stringValue optIn opt-back
 
 abbrev typeIn : Value Part → OptTypeIndex
 typeIn v = hear-optional-type (optionIn v)

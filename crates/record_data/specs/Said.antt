@@ -6,7 +6,7 @@ use mathlib.Core.Option.{Option, none, some}
 use Rattle.answer.specs.Answer.{Answer, answered, Read, got, ended}
 use Rattle.answer.specs.Refusals.{no}
 use Rattle.field_text.specs.Texts.{Part, part}
-use Rattle.field.specs.Indices.{typeSaid}
+use Rattle.field.specs.Indices.{typeOption}
 use Rattle.field.specs.declared.index.ReadOptType.{ReadOptType}
 use Rattle.field.specs.declared.index.ReadOptType.the-variants as rtype
 use Rattle.record_layout.specs.Fields.{Value, number, absent, many, orAbsent}
@@ -26,24 +26,24 @@ use Rattle.record_data.specs.declared.TypeAnswer.{TypeAnswer}
 use Rattle.record_data.specs.declared.TypeAnswer.the-variants as answer
 
 -- a string that may be absent
-abbrev pub optString : OptString → Value Part
-optString opt.None = absent
-optString (opt.Some t) = many (part t)
+abbrev pub stringValue : OptString → Value Part
+stringValue opt.None = absent
+stringValue (opt.Some t) = many (part t)
 
 abbrev pub saidOptString : ReadOptString → Read (Value Part)
-saidOptString (ropt.Got t p) = got (optString t) p
+saidOptString (ropt.Got t p) = got (stringValue t) p
 saidOptString ropt.Ended = ended
 
 -- a pointer's class that may be absent
 abbrev pub saidContaining : ReadOptType → Read (Value Part)
-saidContaining (rtype.Got t p) = got (orAbsent (typeSaid t)) p
+saidContaining (rtype.Got t p) = got (orAbsent (typeOption t)) p
 saidContaining rtype.Ended = ended
 
 -- count, properties, O, O, O, N, S, and a second S
 abbrev pub classValues : ClassFields → List (Value Part)
 classValues r =
-    number (r .count) ∷ number (r .properties) ∷ orAbsent (typeSaid (r .fields)) ∷ orAbsent (typeSaid (r .«derived_from»)) ∷ orAbsent (typeSaid (r .«vtable_shape»))
-    ∷ number (r .size .value) ∷ many (part (r .name)) ∷ optString (r .«unique_name») ∷ []
+    number (r .count) ∷ number (r .properties) ∷ orAbsent (typeOption (r .fields)) ∷ orAbsent (typeOption (r .«derived_from»)) ∷ orAbsent (typeOption (r .«vtable_shape»))
+    ∷ number (r .size .value) ∷ many (part (r .name)) ∷ stringValue (r .«unique_name») ∷ []
 
 abbrev pub saidClassFields : ReadClassFields → Read (List (Value Part))
 saidClassFields (rclass.Got f p) = got (classValues f) p
@@ -80,23 +80,23 @@ kindValues kind.Class r = number 0x1504 ∷ classValues (fieldsFrom r)
 kindValues kind.Struct r = number 0x1505 ∷ classValues (fieldsFrom r)
 kindValues kind.Interface r = number 0x1519 ∷ classValues (fieldsFrom r)
 kindValues kind.Struct19 r =
-    number 0x1609 ∷ number (r .properties .0) ∷ absent ∷ orAbsent (typeSaid (r .fields)) ∷ orAbsent (typeSaid (r .«derived_from»)) ∷ orAbsent (typeSaid (r .«vtable_shape»))
-    ∷ number (r .count) ∷ number (r .size .value) ∷ many (part (r .name)) ∷ optString (r .«unique_name») ∷ []
+    number 0x1609 ∷ number (r .properties .0) ∷ absent ∷ orAbsent (typeOption (r .fields)) ∷ orAbsent (typeOption (r .«derived_from»)) ∷ orAbsent (typeOption (r .«vtable_shape»))
+    ∷ number (r .count) ∷ number (r .size .value) ∷ many (part (r .name)) ∷ stringValue (r .«unique_name») ∷ []
 
 abbrev pub typeValues : TypeData → List (Value Part)
 typeValues (type.Class r) = kindValues (r .kind) r
 typeValues (type.MemberFunction r) =
-    number 0x1009 ∷ number (r .«return_type» .0) ∷ number (r .«class_type» .0) ∷ orAbsent (typeSaid (r .«this_pointer_type»)) ∷ number (r .attributes .0)
+    number 0x1009 ∷ number (r .«return_type» .0) ∷ number (r .«class_type» .0) ∷ orAbsent (typeOption (r .«this_pointer_type»)) ∷ number (r .attributes .0)
     ∷ number (r .«parameter_count») ∷ number (r .«argument_list» .0) ∷ number (r .«this_adjustment») ∷ []
 typeValues (type.Procedure r) =
-    number 0x1008 ∷ orAbsent (typeSaid (r .«return_type»)) ∷ number (r .attributes .0) ∷ number (r .«parameter_count») ∷ number (r .«argument_list» .0) ∷ []
-typeValues (type.Pointer r) = number 0x1002 ∷ number (r .«underlying_type» .0) ∷ number (r .attributes .0) ∷ orAbsent (typeSaid (r .«containing_class»)) ∷ []
+    number 0x1008 ∷ orAbsent (typeOption (r .«return_type»)) ∷ number (r .attributes .0) ∷ number (r .«parameter_count») ∷ number (r .«argument_list» .0) ∷ []
+typeValues (type.Pointer r) = number 0x1002 ∷ number (r .«underlying_type» .0) ∷ number (r .attributes .0) ∷ orAbsent (typeOption (r .«containing_class»)) ∷ []
 typeValues (type.Modifier r) = number 0x1001 ∷ number (r .«underlying_type» .0) ∷ number (r .flags .0) ∷ []
 typeValues (type.Enumeration r) =
-    number 0x1507 ∷ number (r .count) ∷ number (r .properties .0) ∷ number (r .«underlying_type» .0) ∷ number (r .fields .0) ∷ many (part (r .name)) ∷ optString (r .«unique_name») ∷ []
+    number 0x1507 ∷ number (r .count) ∷ number (r .properties .0) ∷ number (r .«underlying_type» .0) ∷ number (r .fields .0) ∷ many (part (r .name)) ∷ stringValue (r .«unique_name») ∷ []
 typeValues (type.Array r) = number 0x1503 ∷ number (r .«element_type» .0) ∷ number (r .«indexing_type» .0) ∷ number (r .size .value) ∷ many (part (r .name)) ∷ []
 typeValues (type.Union r) =
-    number 0x1506 ∷ number (r .count) ∷ number (r .properties .0) ∷ number (r .fields .0) ∷ number (r .size .value) ∷ many (part (r .name)) ∷ optString (r .«unique_name») ∷ []
+    number 0x1506 ∷ number (r .count) ∷ number (r .properties .0) ∷ number (r .fields .0) ∷ number (r .size .value) ∷ many (part (r .name)) ∷ stringValue (r .«unique_name») ∷ []
 typeValues (type.Bitfield r) = number 0x1205 ∷ number (r .«underlying_type» .0) ∷ number (r .length) ∷ number (r .position) ∷ []
 typeValues (type.VirtualTableShape r) = number 0x000a ∷ number (r .count) ∷ many (record { place = r .place; length = (r .count + 1) / 2 }) ∷ []
 typeValues type.FieldList = number 0x1203 ∷ absent ∷ []
@@ -108,17 +108,17 @@ saidTypeData (answer.Answered d) = answered (typeValues d)
 saidTypeData (answer.Refused e) = no e
 
 -- the name of a type's data, as the crate gives it
-abbrev pub nameOf : TypeData → Value Part
-nameOf (type.Class r) = many (part (r .name))
-nameOf (type.MemberFunction r) = absent
-nameOf (type.Procedure r) = absent
-nameOf (type.Pointer r) = absent
-nameOf (type.Modifier r) = absent
-nameOf (type.Enumeration r) = many (part (r .name))
-nameOf (type.Array r) = absent
-nameOf (type.Union r) = many (part (r .name))
-nameOf (type.Bitfield r) = absent
-nameOf (type.VirtualTableShape r) = absent
-nameOf type.FieldList = absent
-nameOf (type.ArgumentList r) = absent
-nameOf type.MethodList = absent
+abbrev pub typeName : TypeData → Value Part
+typeName (type.Class r) = many (part (r .name))
+typeName (type.MemberFunction r) = absent
+typeName (type.Procedure r) = absent
+typeName (type.Pointer r) = absent
+typeName (type.Modifier r) = absent
+typeName (type.Enumeration r) = many (part (r .name))
+typeName (type.Array r) = absent
+typeName (type.Union r) = many (part (r .name))
+typeName (type.Bitfield r) = absent
+typeName (type.VirtualTableShape r) = absent
+typeName type.FieldList = absent
+typeName (type.ArgumentList r) = absent
+typeName type.MethodList = absent

@@ -4,7 +4,7 @@ ghost use mathlib.Core.Path.{_≡_};
 ghost use Rattle.field_text.specs.Texts.{Part};
 ghost use Rattle.record_layout.specs.Fields.{readField, readFields};
 ghost use Rattle.record_layout.specs.Layouts.{class, S2, memberO, leafOf, recordOf, typeLeaves};
-ghost use Rattle.record_data.specs.Said.{classFrom, nameOf, optString, saidOptString, saidContaining, saidClassFields, saidTypeData};
+ghost use Rattle.record_data.specs.Said.{classFrom, typeName, stringValue, saidOptString, saidContaining, saidClassFields, saidTypeData};
 use answer::Refusal;
 use field::fixed;
 use field::fixed::Read8;
@@ -15,9 +15,9 @@ use field::index::OptTypeIndex;
 use field::index::ReadOptType;
 use field::index::ReadType;
 use field::index::TypeIndex;
+use field::run::After;
 use field_number::ReadSize;
 use field_number::Size;
-use field_text::After;
 use field_text::OptString;
 use field_text::RawString;
 use field_text::ReadString;
@@ -177,7 +177,7 @@ pub enum TypeAnswer {
 impl TypeData {
     // The name of a class, enumeration or union, as the crate gives it: that of an array is its record's own.
     pub fn name(self) -> OptString
-        ensures { λ r. ⌜ optString r ≡ nameOf self ⌝ }
+        ensures { λ r. ⌜ stringValue r ≡ typeName self ⌝ }
     {
         match self {
             TypeData::Class(r) => {
@@ -618,7 +618,7 @@ fn shape_at(s: &[u8], p: usize) -> TypeAnswer
     let Read16::Got(count, p1) = fixed::u16_at(s, p) else {
         return TypeAnswer::Refused(Refusal::Ended);
     };
-    let After::At(_) = field_text::after_bytes(s, p1, ((count as usize) + 1) / 2) else {
+    let After::At(_) = field::run::after_bytes(s, p1, ((count as usize) + 1) / 2) else {
         return TypeAnswer::Refused(Refusal::Ended);
     };
     TypeAnswer::Answered(TypeData::VirtualTableShape(VirtualTableShapeType {
@@ -633,7 +633,7 @@ fn arguments_at(s: &[u8], p: usize) -> TypeAnswer
     let Read32::Got(count, p1) = fixed::u32_at(s, p) else {
         return TypeAnswer::Refused(Refusal::Ended);
     };
-    let After::At(_) = field_text::after_bytes(s, p1, 4 * (count as usize)) else {
+    let After::At(_) = field::run::after_bytes(s, p1, 4 * (count as usize)) else {
         return TypeAnswer::Refused(Refusal::Ended);
     };
     TypeAnswer::Answered(TypeData::ArgumentList(ArgumentList {

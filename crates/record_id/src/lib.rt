@@ -16,7 +16,7 @@ use field::index::ReadStringRef;
 use field::index::ReadType;
 use field::index::StringRef;
 use field::index::TypeIndex;
-use field_text::After;
+use field::run::After;
 use field_text::RawString;
 use field_text::ReadString;
 use record_layout::LF_BUILDINFO;
@@ -134,7 +134,7 @@ fn build_info_at(s: &[u8], p: usize) -> IdAnswer
     let Read16::Got(count, p1) = fixed::u16_at(s, p) else {
         return IdAnswer::Refused(Refusal::Ended);
     };
-    let After::At(_) = field_text::after_bytes(s, p1, 4 * (count as usize)) else {
+    let After::At(_) = field::run::after_bytes(s, p1, 4 * (count as usize)) else {
         return IdAnswer::Refused(Refusal::Ended);
     };
     IdAnswer::Answered(IdData::BuildInfo(BuildInfoId {
@@ -149,7 +149,7 @@ fn string_list_at(s: &[u8], p: usize) -> IdAnswer
     let Read32::Got(count, p1) = fixed::u32_at(s, p) else {
         return IdAnswer::Refused(Refusal::Ended);
     };
-    let After::At(_) = field_text::after_bytes(s, p1, 4 * (count as usize)) else {
+    let After::At(_) = field::run::after_bytes(s, p1, 4 * (count as usize)) else {
         return IdAnswer::Refused(Refusal::Ended);
     };
     IdAnswer::Answered(IdData::StringList(StringListId {

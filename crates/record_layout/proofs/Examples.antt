@@ -4,9 +4,10 @@ use mathlib.Core.Path.{_≡_, refl}
 use mathlib.Core.List.{List, [], _∷_, map}
 use Rattle.answer.specs.Answer.{Answer, answered, refused}
 use Rattle.answer.specs.Tables.{find, among}
-use Rattle.field.specs.Fields.{le, fixedAt}
+use Rattle.field.specs.Fields.{littleAt, fixedAt}
 use Rattle.field.specs.Indices.{optionalOf, optionalAt}
-use Rattle.field_text.specs.Texts.{Part, toZero, stringAt, bytesAfter}
+use Rattle.field.specs.Runs.{bytesAfter}
+use Rattle.field_text.specs.Texts.{Part, toZero, stringAt}
 use Rattle.field_number.specs.Numbers.{prefixes, numericAt, sizeAt, unsignedAt}
 use Rattle.word_attributes.specs.Pointers.{pointerKinds, pointerModes, kindOf, modeOf, toMemberOf}
 use Rattle.record_layout.specs.Fields.{Value, number, absent, many, readField, readFields}
@@ -22,7 +23,7 @@ kind-1609 =
 pub reads-1609 : recordOf typeLeaves kind-1609
     ≡ answered (number 0x1609 ∷ number 512 ∷ absent ∷ number 0x1016 ∷ absent ∷ absent ∷ number 2 ∷ number 6
     ∷ many (record { place = 22; length = 6 }) ∷ many (record { place = 29; length = 12 }) ∷ [])
-unfolding recordOf leafOf readLeaf le fixedAt toZero stringAt find prefixes numericAt sizeAt among optionalOf optionalAt readField readFields typeLeaves
+unfolding recordOf leafOf readLeaf littleAt fixedAt toZero stringAt find prefixes numericAt sizeAt among optionalOf optionalAt readField readFields typeLeaves
 reads-1609 = refl
 
 -- the twelve array records of data.rs's comment, indexed by 0x23: their sizes, one of them behind 0x8002, no name, padding unread
@@ -60,32 +61,32 @@ pub reads-arrays : map (recordOf typeLeaves) arrays
     ∷ array 0x16b7 40 12
     ∷ array 0x1014 85 12
     ∷ []
-unfolding recordOf leafOf readLeaf le fixedAt toZero stringAt find prefixes numericAt sizeAt unsignedAt readField readFields typeLeaves
+unfolding recordOf leafOf readLeaf littleAt fixedAt toZero stringAt find prefixes numericAt sizeAt unsignedAt readField readFields typeLeaves
 reads-arrays = refl
 
 -- the pointer record of stream E; and one of kind 13
 pub reads-pointer : recordOf typeLeaves (0x02 ∷ 0x10 ∷ 0x00 ∷ 0x10 ∷ 0x00 ∷ 0x00 ∷ 0x0c ∷ 0x00 ∷ 0x01 ∷ 0x00 ∷ [])
     ≡ answered (number 0x1002 ∷ number 0x1000 ∷ number 0x0001000c ∷ absent ∷ [])
-unfolding recordOf leafOf readLeaf le fixedAt find readField readFields typeLeaves kindOf modeOf toMemberOf pointerKinds pointerModes
+unfolding recordOf leafOf readLeaf littleAt fixedAt find readField readFields typeLeaves kindOf modeOf toMemberOf pointerKinds pointerModes
 reads-pointer = refl
 
 pub refuses-kind : recordOf typeLeaves (0x02 ∷ 0x10 ∷ 0x00 ∷ 0x10 ∷ 0x00 ∷ 0x00 ∷ 0x0d ∷ 0x00 ∷ 0x01 ∷ 0x00 ∷ []) ≡ refused 12 []
-unfolding recordOf leafOf readLeaf le fixedAt find readField readFields typeLeaves kindOf modeOf toMemberOf pointerKinds pointerModes
+unfolding recordOf leafOf readLeaf littleAt fixedAt find readField readFields typeLeaves kindOf modeOf toMemberOf pointerKinds pointerModes
 refuses-kind = refl
 
 -- a pointer to member of kind 13 whose class is cut off: 12 comes right after the word
 pub refuses-first : recordOf typeLeaves (0x02 ∷ 0x10 ∷ 0x00 ∷ 0x10 ∷ 0x00 ∷ 0x00 ∷ 0x4d ∷ 0x00 ∷ 0x01 ∷ 0x00 ∷ []) ≡ refused 12 []
-unfolding recordOf leafOf readLeaf le fixedAt find readField readFields typeLeaves kindOf modeOf toMemberOf pointerKinds pointerModes
+unfolding recordOf leafOf readLeaf littleAt fixedAt find readField readFields typeLeaves kindOf modeOf toMemberOf pointerKinds pointerModes
 refuses-first = refl
 
 -- a pointer to member, of mode 2, and its class
 pub reads-member-pointer : recordOf typeLeaves (0x02 ∷ 0x10 ∷ 0x00 ∷ 0x10 ∷ 0x00 ∷ 0x00 ∷ 0x4c ∷ 0x00 ∷ 0x00 ∷ 0x00 ∷ 0x01 ∷ 0x10 ∷ 0x00 ∷ 0x00 ∷ [])
     ≡ answered (number 0x1002 ∷ number 0x1000 ∷ number 0x4c ∷ number 0x1001 ∷ [])
-unfolding recordOf leafOf readLeaf le fixedAt find among optionalOf optionalAt readField readFields typeLeaves kindOf modeOf toMemberOf pointerKinds pointerModes
+unfolding recordOf leafOf readLeaf littleAt fixedAt find among optionalOf optionalAt readField readFields typeLeaves kindOf modeOf toMemberOf pointerKinds pointerModes
 reads-member-pointer = refl
 
 -- a list of one id, counted by a u16
 pub reads-build-info : recordOf idLeaves (0x03 ∷ 0x16 ∷ 1 ∷ 0 ∷ 0x00 ∷ 0x10 ∷ 0 ∷ 0 ∷ [])
     ≡ answered (number 0x1603 ∷ number 1 ∷ many (record { place = 4; length = 4 }) ∷ [])
-unfolding recordOf leafOf readLeaf le fixedAt find bytesAfter readField readFields idLeaves
+unfolding recordOf leafOf readLeaf littleAt fixedAt find bytesAfter readField readFields idLeaves
 reads-build-info = refl

@@ -4,8 +4,8 @@ use mathlib.Core.Path.{_≡_, refl}
 use mathlib.Core.Option.{Option, none, some}
 use lib.IntN.{ℤ, pos}
 use Rattle.field_text.specs.Texts.{Part}
-use Rattle.field.specs.Indices.{typeSaid, idSaid}
-use Rattle.field_number.specs.Numbers.{numberSaid}
+use Rattle.field.specs.Indices.{typeOption, idOption}
+use Rattle.field_number.specs.Numbers.{numberValue}
 use Rattle.field.proofs.OneOutcome.{hear-optional-type, back-optional-type, hear-optional-id, back-optional-id}
 use Rattle.field_number.proofs.OneOutcome.{hear-number, back-number}
 use Rattle.field.specs.declared.index.OptTypeIndex.{OptTypeIndex}
@@ -25,11 +25,11 @@ option-back none = refl
 option-back (some n) = refl
 
 -- an optional type index, an optional id index and a numeric leaf, read back from their values
-pub type-back : (t : OptTypeIndex) → hear-optional-type (optionIn (orAbsent (typeSaid t))) ≡ t
-type-back t = rw (option-back (typeSaid t)) (back-optional-type t)
+pub type-back : (t : OptTypeIndex) → hear-optional-type (optionIn (orAbsent (typeOption t))) ≡ t
+type-back t = rw (option-back (typeOption t)) (back-optional-type t)
 
-pub id-back : (i : OptIdIndex) → hear-optional-id (optionIn (orAbsent (idSaid i))) ≡ i
-id-back i = rw (option-back (idSaid i)) (back-optional-id i)
+pub id-back : (i : OptIdIndex) → hear-optional-id (optionIn (orAbsent (idOption i))) ≡ i
+id-back i = rw (option-back (idOption i)) (back-optional-id i)
 
-pub number-back : (n : Number) → hear-number (integerIn (integer (numberSaid n))) ≡ n
+pub number-back : (n : Number) → hear-number (integerIn (integer (numberValue n))) ≡ n
 number-back n = back-number n

@@ -10,7 +10,8 @@ use lib.IntN.{ℤ}
 use Rattle.answer.specs.Answer.{Answer, refused, Read, got, pick, then, and-then}
 use Rattle.field.specs.Fields.{fixedAt}
 use Rattle.field.specs.Indices.{noType, noId, optionalAt}
-use Rattle.field_text.specs.Texts.{Part, stringAt, bytesAfter}
+use Rattle.field.specs.Runs.{bytesAfter}
+use Rattle.field_text.specs.Texts.{Part, stringAt}
 use Rattle.field_number.specs.Numbers.{numericAt, sizeAt}
 
 -- The value of a field. `integer` is a numeric leaf that may be negative. `absent` is an index that reads as none, a field that is not there,
@@ -32,10 +33,10 @@ numberOr (many x) w = w
 pub data Elements : Type 0 where
   types ids slots : Elements
 
-abbrev pub bytesOf : Elements → ℕ → ℕ
-bytesOf types n = 4 * n
-bytesOf ids n = 4 * n
-bytesOf slots n = (n + 1) / 2
+abbrev pub runBytes : Elements → ℕ → ℕ
+runBytes types n = 4 * n
+runBytes ids n = 4 * n
+runBytes slots n = (n + 1) / 2
 
 -- Some fields look at a number that was read before them: the properties, the pointer word, the field attributes, the count. No layout has
 -- two such numbers, so reading carries one, `the word`
@@ -74,7 +75,7 @@ readField (gap k) w s p = and-then (fixedAt k s p) (λ n q. got absent q)
 readField numeric w s p = and-then (numericAt s p) (λ z q. got (integer z) q)
 readField size w s p = and-then (sizeAt s p) (λ n q. got (number n) q)
 readField string w s p = and-then (stringAt s p) (λ x q. got (many x) q)
-readField (run e) w s p = then (bytesAfter (bytesOf e w) s p) (λ q. got (many (record { place = p; length = bytesOf e w })) q)
+readField (run e) w s p = then (bytesAfter (runBytes e w) s p) (λ q. got (many (record { place = p; length = runBytes e w })) q)
 readField methods w s p = got absent p
 readField members w s p = got absent p
 readField (when there f) w s p = pick (there w) (readField f w s p) (got absent p)

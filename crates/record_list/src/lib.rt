@@ -16,7 +16,7 @@ use field::index::IdIndex;
 use field::index::ReadId;
 use field::index::ReadType;
 use field::index::TypeIndex;
-use field_text::After;
+use field::run::After;
 use record_layout::LF_ARGLIST;
 use record_layout::LF_BUILDINFO;
 use record_layout::LF_FIELDLIST;
@@ -76,7 +76,7 @@ fn counted16_at(s: &[u8], leaf: u16, p: usize) -> StartAnswer
     let Read16::Got(count, q) = fixed::u16_at(s, p) else {
         return StartAnswer::Refused(Refusal::Ended);
     };
-    let After::At(_) = field_text::after_bytes(s, q, 4 * (count as usize)) else {
+    let After::At(_) = field::run::after_bytes(s, q, 4 * (count as usize)) else {
         return StartAnswer::Refused(Refusal::Ended);
     };
     StartAnswer::Answered(ListCursor {
@@ -95,7 +95,7 @@ fn counted32_at(s: &[u8], leaf: u16, p: usize) -> StartAnswer
         return StartAnswer::Refused(Refusal::Ended);
     };
     let total = 4 * (count as usize);
-    let After::At(_) = field_text::after_bytes(s, q, total) else {
+    let After::At(_) = field::run::after_bytes(s, q, total) else {
         return StartAnswer::Refused(Refusal::Ended);
     };
     StartAnswer::Answered(ListCursor {

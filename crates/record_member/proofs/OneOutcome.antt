@@ -12,7 +12,7 @@ use Rattle.field_number.proofs.OneOutcome.{hear-number}
 use Rattle.record_layout.specs.Fields.{Value, orAbsent}
 use Rattle.record_layout.specs.Values.{nth, numberIn, stringIn, optionIn}
 use Rattle.record_layout.proofs.OneOutcome.{integerIn, option-back, number-back}
-use Rattle.record_member.specs.Said.{offsetSaid, virtualLeaf, memberValues, saidMember, entryValues, saidEntry}
+use Rattle.record_member.specs.Said.{offsetOption, virtualLeaf, memberValues, saidMember, entryValues, saidEntry}
 use Rattle.record_member.specs.declared.OptOffset.{OptOffset}
 use Rattle.record_member.specs.declared.OptOffset.the-variants as offset
 use Rattle.record_member.specs.declared.VirtualBaseClassType.{VirtualBaseClassType}
@@ -28,12 +28,12 @@ abbrev hear-offset : Option ℕ → OptOffset
 hear-offset none = offset.None
 hear-offset (some n) = offset.Some n
 
-back-offset : (o : OptOffset) → hear-offset (offsetSaid o) ≡ o
+back-offset : (o : OptOffset) → hear-offset (offsetOption o) ≡ o
 back-offset offset.None = refl
 back-offset (offset.Some n) = refl
 
-offset-back : (o : OptOffset) → hear-offset (optionIn (orAbsent (offsetSaid o))) ≡ o
-offset-back o = rw (option-back (offsetSaid o)) (back-offset o)
+offset-back : (o : OptOffset) → hear-offset (optionIn (orAbsent (offsetOption o))) ≡ o
+offset-back o = rw (option-back (offsetOption o)) (back-offset o)
 
 -- a virtual base class, direct or not
 abbrev virtualIn : Bool → List (Value Part) → VirtualBaseClassType

@@ -6,10 +6,10 @@ use mathlib.Core.Option.{none}
 use Rattle.answer.specs.Tables.{among}
 use Rattle.field_text.specs.Texts.{Part}
 use Rattle.record_layout.specs.Fields.{Value, number}
-use Rattle.record_member.specs.Said.{virtualLeaf, namedLeaves, nameOf}
+use Rattle.record_member.specs.Said.{virtualLeaf, namedLeaves, memberName}
 
 -- a virtual base class has none, direct or not
-pub virtual-unnamed : (direct : Bool) (vs : List (Value Part)) → nameOf (number (virtualLeaf direct) ∷ vs) ≡ none
-unfolding among nameOf namedLeaves
+pub virtual-unnamed : (direct : Bool) (vs : List (Value Part)) → memberName (number (virtualLeaf direct) ∷ vs) ≡ none
+unfolding among memberName namedLeaves
 virtual-unnamed true vs = refl
 virtual-unnamed false vs = refl

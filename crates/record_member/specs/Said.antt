@@ -8,7 +8,7 @@ use Rattle.answer.specs.Answer.{Read, got, ended, pick}
 use Rattle.answer.specs.Refusals.{no}
 use Rattle.answer.specs.Tables.{among}
 use Rattle.field_text.specs.Texts.{Part, part}
-use Rattle.field_number.specs.Numbers.{numberSaid}
+use Rattle.field_number.specs.Numbers.{numberValue}
 use Rattle.record_layout.specs.Fields.{Value, number, integer, absent, many, numberOr, orAbsent}
 use Rattle.record_member.specs.declared.OptOffset.{OptOffset}
 use Rattle.record_member.specs.declared.OptOffset.the-variants as offset
@@ -22,12 +22,12 @@ use Rattle.record_member.specs.declared.MethodListEntry.{MethodListEntry
 use Rattle.record_member.specs.declared.ReadMethodEntry.{ReadMethodEntry}
 use Rattle.record_member.specs.declared.ReadMethodEntry.the-variants as rentry
 
-abbrev pub offsetSaid : OptOffset → Option ℕ
-offsetSaid offset.None = none
-offsetSaid (offset.Some n) = some n
+abbrev pub offsetOption : OptOffset → Option ℕ
+offsetOption offset.None = none
+offsetOption (offset.Some n) = some n
 
 abbrev pub saidOffset : ReadOffset → Read (Value Part)
-saidOffset (roffset.Got o p) = got (orAbsent (offsetSaid o)) p
+saidOffset (roffset.Got o p) = got (orAbsent (offsetOption o)) p
 saidOffset roffset.Ended = ended
 
 -- a virtual base class is direct or indirect
@@ -41,14 +41,14 @@ memberValues (a.VirtualBaseClass m) =
     ∷ number (m .«base_pointer_offset» .value) ∷ number (m .«virtual_base_offset» .value) ∷ []
 memberValues (a.Continuation t) = number 0x1404 ∷ absent ∷ number (t .0) ∷ []
 memberValues (a.VirtualFunctionTablePointer m) = number 0x1409 ∷ absent ∷ number (m .table .0) ∷ []
-memberValues (a.Enumerate m) = number 0x1502 ∷ number (m .attributes .0) ∷ integer (numberSaid (m .value .value)) ∷ many (part (m .name)) ∷ []
+memberValues (a.Enumerate m) = number 0x1502 ∷ number (m .attributes .0) ∷ integer (numberValue (m .value .value)) ∷ many (part (m .name)) ∷ []
 memberValues (a.Member m) =
     number 0x150d ∷ number (m .attributes .0) ∷ number (m .«field_type» .0) ∷ number (m .offset .value) ∷ many (part (m .name)) ∷ []
 memberValues (a.StaticMember m) = number 0x150e ∷ number (m .attributes .0) ∷ number (m .«field_type» .0) ∷ many (part (m .name)) ∷ []
 memberValues (a.OverloadedMethod m) = number 0x150f ∷ number (m .count) ∷ number (m .«method_list» .0) ∷ many (part (m .name)) ∷ []
 memberValues (a.Nested m) = number 0x1510 ∷ number (m .attributes .0) ∷ number (m .«nested_type» .0) ∷ many (part (m .name)) ∷ []
 memberValues (a.Method m) =
-    number 0x1511 ∷ number (m .attributes .0) ∷ number (m .«method_type» .0) ∷ orAbsent (offsetSaid (m .«vtable_offset»))
+    number 0x1511 ∷ number (m .attributes .0) ∷ number (m .«method_type» .0) ∷ orAbsent (offsetOption (m .«vtable_offset»))
     ∷ many (part (m .name)) ∷ []
 
 abbrev pub saidMember : ReadMember → Read (List (Value Part))
@@ -56,7 +56,7 @@ saidMember (rmember.Got m p) = got (memberValues m) p
 saidMember (rmember.Refused e) = no e
 
 abbrev pub entryValues : MethodListEntry → List (Value Part)
-entryValues m = number (m .attributes .0) ∷ absent ∷ number (m .«method_type» .0) ∷ orAbsent (offsetSaid (m .«vtable_offset»)) ∷ []
+entryValues m = number (m .attributes .0) ∷ absent ∷ number (m .«method_type» .0) ∷ orAbsent (offsetOption (m .«vtable_offset»)) ∷ []
 
 abbrev pub saidEntry : ReadMethodEntry → Read (List (Value Part))
 saidEntry (rentry.Got m p) = got (entryValues m) p
@@ -81,5 +81,5 @@ stringAmong (number n ∷ vs) = stringAmong vs
 stringAmong (integer z ∷ vs) = stringAmong vs
 stringAmong (absent ∷ vs) = stringAmong vs
 
-unfoldable pub nameOf : List (Value Part) → Option Part
-nameOf vs = pick (among (leafIn vs) namedLeaves) (stringAmong vs) none
+unfoldable pub memberName : List (Value Part) → Option Part
+memberName vs = pick (among (leafIn vs) namedLeaves) (stringAmong vs) none

@@ -2,10 +2,10 @@
 // its line of the table in layout/specs/Layouts.antt.
 ghost use mathlib.Core.Path.{_≡_};
 ghost use mathlib.Core.Option.{some};
-ghost use Rattle.field_text.specs.Texts.{stringSaid};
+ghost use Rattle.field_text.specs.Texts.{stringOption};
 ghost use Rattle.record_layout.specs.Fields.{readField, readFields};
 ghost use Rattle.record_layout.specs.Layouts.{byLayout, readLeaf, readRecord, memberLeaves, virtualBase, method, offset};
-ghost use Rattle.record_member.specs.Said.{virtualLeaf, memberValues, saidOffset, saidMember, saidEntry, nameOf};
+ghost use Rattle.record_member.specs.Said.{virtualLeaf, memberValues, saidOffset, saidMember, saidEntry, memberName};
 use answer::Refusal;
 use field::fixed;
 use field::fixed::Read16;
@@ -142,7 +142,7 @@ pub enum ReadMethodEntry {
 impl Member {
     // The name, where the crate's `name` gives one: a method's is not among them.
     pub fn name(self) -> OptString
-        ensures { λ r. ⌜ stringSaid r ≡ nameOf (memberValues self) ⌝ }
+        ensures { λ r. ⌜ stringOption r ≡ memberName (memberValues self) ⌝ }
     {
         match self {
             Member::BaseClass(_) => OptString::None,

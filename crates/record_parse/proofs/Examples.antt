@@ -4,7 +4,7 @@ use mathlib.Core.Path.{_≡_, refl}
 use mathlib.Core.List.{List, [], _∷_}
 use Rattle.answer.specs.Answer.{answered, refused}
 use Rattle.answer.specs.Tables.{find}
-use Rattle.field.specs.Fields.{le, fixedAt}
+use Rattle.field.specs.Fields.{littleAt, fixedAt}
 use Rattle.stream_header.specs.Examples.{streamE}
 use Rattle.word_primitive.specs.Primitive.{primitiveOf}
 use Rattle.word_primitive.specs.Kinds.{kinds, indirections}
@@ -20,7 +20,7 @@ use Rattle.record_parse.specs.Record.{primitive, type, typeBytes, typeIt
 -- record 4097 of E, payload 68 to 78: a 64-bit pointer to 4096
 pub parses-4097 : parseOf streamE [] (entry.Record (record { index = index.Types (record { 0 = 4097 }); place = 68; length = 10 }))
     ≡ answered (type (number 0x1002 ∷ number 0x1000 ∷ number 0x0001000c ∷ absent ∷ []))
-unfolding parseOf typeItem typeBytes recordOf leafOf readLeaf le fixedAt find readField readFields typeLeaves kindOf modeOf toMemberOf pointerKinds pointerModes
+unfolding parseOf typeItem typeBytes recordOf leafOf readLeaf littleAt fixedAt find readField readFields typeLeaves kindOf modeOf toMemberOf pointerKinds pointerModes
 parses-4097 = refl
 
 -- a type item below 0x1000 is a primitive, wherever it is said to lie

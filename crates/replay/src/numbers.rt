@@ -4,9 +4,9 @@ use crate::lines;
 use answer::Refusal;
 use field::index::IdIndex;
 use field::index::TypeIndex;
+use field::run::After;
 use field_number::ReadSize;
 use field_number::ReadVariant;
-use field_text::After;
 use field_text::ReadString;
 use word_primitive::PrimitiveAnswer;
 

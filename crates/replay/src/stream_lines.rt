@@ -12,8 +12,8 @@ use stream_finder::lent::UpdateAnswer;
 use stream_finder::lent::UpdateStep;
 use stream_header::Header;
 use stream_header::HeaderAnswer;
+use stream_index::IndexAnswer;
 use stream_index::TurnAnswer;
-use stream_index::WalkAnswer;
 use stream_item::Entry;
 use stream_item::Item;
 use stream_item::ItemIndex;
@@ -21,7 +21,7 @@ use stream_item::Stream;
 use stream_item::iter::ItemIter;
 use stream_item::iter::IterAnswer;
 use stream_item::iter::NextAnswer;
-use stream_view::KindAnswer;
+use stream_view::RawKindAnswer;
 use stream_view::ViewAnswer;
 
 // The stream that a command is about.
@@ -102,10 +102,10 @@ pub fn header(s: &[u8]) {
 
 // The iterator.
 
-pub fn kind(k: KindAnswer) {
+pub fn kind(k: RawKindAnswer) {
     match k {
-        KindAnswer::Answered(n) => lines::form2(b"%", &[n as u64, 0]),
-        KindAnswer::Refused(e) => lines::refusal(e),
+        RawKindAnswer::Answered(n) => lines::form2(b"%", &[n as u64, 0]),
+        RawKindAnswer::Refused(e) => lines::refusal(e),
     }
 }
 
@@ -267,18 +267,18 @@ pub fn lookup(s: &[u8], t: &[u32], f: ItemFinder, ids: bool, n: u32) {
     lines::number(n as u64);
     lines::put(b" ");
     if ids {
-        find_line(stream_finder::find_id(s, t, f, IdIndex(n)));
+        find_line(stream_finder::find_id(s, f, t, IdIndex(n)));
         return;
     }
-    find_line(stream_finder::find_type(s, t, f, TypeIndex(n)));
+    find_line(stream_finder::find_type(s, f, t, TypeIndex(n)));
 }
 
 // The same over the first n places.
 pub fn find_lent(s: &[u8], t: &[u32], n: usize, f: ItemFinder, i: ItemIndex) {
     if n <= t.len() {
         match i {
-            ItemIndex::Types(x) => find_line(stream_finder::find_type(s, &t[0..n], f, x)),
-            ItemIndex::Ids(x) => find_line(stream_finder::find_id(s, &t[0..n], f, x)),
+            ItemIndex::Types(x) => find_line(stream_finder::find_type(s, f, &t[0..n], x)),
+            ItemIndex::Ids(x) => find_line(stream_finder::find_id(s, f, &t[0..n], x)),
         }
     }
 }
@@ -314,7 +314,7 @@ fn find_walk(
     let mut turns = n;
     while 0 < turns {
         turns -= 1;
-        let w = stream_index::turn(s, t, f, c);
+        let w = stream_index::turn(s, f, t, c);
         let TurnAnswer::Moved(g, behind) = w else {
             return f;
         };
@@ -372,12 +372,12 @@ fn begin_by_turns(s: &[u8], ids: bool, t: &mut [u32; 8192], early: bool, n: u64)
 }
 
 fn whole(s: &[u8], stream: Stream, t: &mut [u32; 8192]) -> Begun {
-    match stream_index::walk(stream, s, t) {
-        WalkAnswer::Answered(tour) => {
+    match stream_index::index_all(stream, s, t) {
+        IndexAnswer::Answered(tour) => {
             let f = tour.finder;
             Begun::On(f)
         }
-        WalkAnswer::Refused(e) => refused(e),
+        IndexAnswer::Refused(e) => refused(e),
     }
 }
 
@@ -407,10 +407,10 @@ pub fn hex(s: &[u8]) {
     }
 }
 
-fn kind_part(k: KindAnswer) {
+fn kind_part(k: RawKindAnswer) {
     match k {
-        KindAnswer::Answered(n) => lines::form2(b" ; kind 0 %\n", &[n as u64, 0]),
-        KindAnswer::Refused(e) => {
+        RawKindAnswer::Answered(n) => lines::form2(b" ; kind 0 %\n", &[n as u64, 0]),
+        RawKindAnswer::Refused(e) => {
             lines::put(b" ; kind ");
             lines::refusal(e);
             lines::put(b"\n");
@@ -453,8 +453,8 @@ pub fn raw_kind(s: &[u8]) {
         length: s.len(),
     };
     match stream_view::raw_kind(s, &s[0..0], Entry::Record(i)) {
-        KindAnswer::Answered(n) => lines::form2(b"0 #", &[n as u64, 0]),
-        KindAnswer::Refused(e) => lines::refusal(e),
+        RawKindAnswer::Answered(n) => lines::form2(b"0 #", &[n as u64, 0]),
+        RawKindAnswer::Refused(e) => lines::refusal(e),
     }
     lines::put(b"\n");
 }

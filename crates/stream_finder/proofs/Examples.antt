@@ -3,7 +3,7 @@ use Prim.Native.Nat.{ℕ}
 use mathlib.Core.Path.{_≡_, refl}
 use mathlib.Core.List.{[], _∷_, map}
 use Rattle.answer.specs.Answer.{Answer, answered, refused}
-use Rattle.field.specs.Fields.{le}
+use Rattle.field.specs.Fields.{littleAt}
 use Rattle.stream_header.specs.Header.{headerOf}
 use Rattle.stream_header.specs.Examples.{streamE}
 use Rattle.stream_item.specs.Items.{indexIn}
@@ -24,7 +24,7 @@ found i p n k = answered (record { entry = Record (itemAt Types i p n); passed =
 
 -- a fresh finder of E stores 56 in place 0, and leaves the others
 pub created : map (createOf streamE) ([] ∷ (7 ∷ 7 ∷ []) ∷ []) ≡ refused 13 [] ∷ answered (state (finderTo 4098 1) (56 ∷ 7 ∷ [])) ∷ []
-unfolding createBy begunBy headerOf le
+unfolding createBy begunBy headerOf littleAt
 created = refl
 
 -- 4097 passes 1 link; 4098 gives 1 with 2 passed; 4099 gives 8; 4095 the marker
@@ -35,7 +35,7 @@ pub finds : map (λ (i : ℕ). findOf streamE (state (finderTo 4098 1) (56 ∷ [
     ∷ refused 8 (4099 ∷ [])
     ∷ answered (record { entry = Marker (indexIn Types 4095); passed = 0 })
     ∷ []
-unfolding lookBy linkOf chain linkAt le maxIndexBy
+unfolding lookBy linkOf chain linkAt littleAt maxIndexBy
 finds = refl
 
 -- the empty stream: 0 gives 9 with 0 and 0; 1 gives 8
@@ -47,7 +47,7 @@ unfolding createBy begunBy headerOf
 empty-created = refl
 
 pub empty-finds : map (λ (i : ℕ). findOf [] (state emptyFinder []) (indexIn Ids i)) (0 ∷ 1 ∷ []) ≡ refused 9 (0 ∷ 0 ∷ []) ∷ refused 8 (1 ∷ []) ∷ []
-unfolding lookBy linkOf chain linkAt le maxIndexBy
+unfolding lookBy linkOf chain linkAt littleAt maxIndexBy
 empty-finds = refl
 
 -- an update where no place is due; where the next block starts; where there is no room for it; by a foreign cursor; and a claim past the table

@@ -16,7 +16,7 @@ use Rattle.stream_item.specs.Links.{linkOf}
 use Rattle.stream_item.specs.declared.ItemIndex.{ItemIndex}
 use Rattle.stream_item.specs.declared.Entry.the-variants as entry
 use Rattle.stream_item.specs.declared.iter.ItemIter.{ItemIter}
-use Rattle.stream_finder.specs.Finder.{State, state, holding, begunBy, createBy, due, stored, updateBy, Found, maxIndexBy, landed, lookBy, findBy, saidFinder, finderOf, tableAfter, Leaves}
+use Rattle.stream_finder.specs.Finder.{State, state, holding, begunBy, createBy, due, stored, updateBy, Found, maxIndexBy, landed, lookBy, findBy, saidFinder, finderOf, tableAfter, Fills}
 use Rattle.stream_finder.specs.Places.{Ready}
 use Rattle.stream_finder.specs.declared.ItemFinder.{ItemFinder}
 use Rattle.stream_finder.specs.declared.FinderAnswer.{FinderAnswer}
@@ -42,11 +42,11 @@ create-is shift s t a e = rw e
 
 -- the contract from the case that holds
 pub leaves : (t : List ℕ) (x : Answer State) (r : FinderAnswer) (t′ : List ℕ) (a : Answer State)
-    → x ≡ a → saidFinder r ≡ finderOf a → t′ ≡ tableAfter t a → Leaves t x r t′
+    → x ≡ a → saidFinder r ≡ finderOf a → t′ ≡ tableAfter t a → Fills t x r t′
 leaves t x r t′ a e p q = record { answer = p ∙ ap finderOf (sym e); table = q ∙ ap (tableAfter t) (sym e) }
 
 -- the contract by another name of its answer
-pub leaves-as : (t : List ℕ) (x : Answer State) (r : FinderAnswer) (t′ : List ℕ) (a : Answer State) → x ≡ a → Leaves t a r t′ → Leaves t x r t′
+pub leaves-as : (t : List ℕ) (x : Answer State) (r : FinderAnswer) (t′ : List ℕ) (a : Answer State) → x ≡ a → Fills t a r t′ → Fills t x r t′
 leaves-as t x r t′ a e l = leaves t x r t′ a e (l .answer) (l .table)
 
 -- ---- update

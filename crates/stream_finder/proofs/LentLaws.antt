@@ -6,7 +6,7 @@ use native.Mathlib.Omega.{arith}
 use Rattle.answer.specs.Answer.{Answer, answered, refused}
 use Rattle.answer.specs.Refusals.{no}
 use Rattle.answer.specs.declared.Refusal.{Refusal}
-use Rattle.stream_finder.specs.Finder.{State, state, saidFinder, finderOf, tableAfter, Leaves}
+use Rattle.stream_finder.specs.Finder.{State, state, saidFinder, finderOf, tableAfter, Fills}
 use Rattle.stream_finder.specs.Lent.{Changes}
 use Rattle.stream_finder.specs.declared.ItemFinder.{ItemFinder}
 use Rattle.stream_finder.specs.declared.FinderAnswer.{FinderAnswer}
@@ -31,7 +31,7 @@ refused-with : (σ : State) (a : Answer State) (e : Refusal) (t′ : List ℕ) �
 refused-with σ (answered τ) e t′ p q = let z : _≡_ {A = ℕ} 0 1 = cc in absurd (omega arith)
 refused-with σ (refused n d) e t′ p q = record { answer = ap bare p; left = λ i. state (σ .finder) (q i) }
 
-module _ (σ : State) (a : Answer State) (r : FinderAnswer) (t′ : List ℕ) (l : Leaves (σ .table) a r t′) where
+module _ (σ : State) (a : Answer State) (r : FinderAnswer) (t′ : List ℕ) (l : Fills (σ .table) a r t′) where
   pub changes-answered : (g : ItemFinder) → r ≡ finder.Answered g → Changes σ a update.Answered (state g t′)
   changes-answered g e = answered-with σ a g t′ (ap saidFinder (sym e) ∙ l .answer) (l .table)
 

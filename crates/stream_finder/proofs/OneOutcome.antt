@@ -5,7 +5,7 @@ use mathlib.Core.Path.{_≡_, refl, sym, _∙_}
 use mathlib.Core.List.{List}
 use Rattle.answer.specs.Answer.{Answer}
 use Rattle.answer.proofs.OneOutcome.{one-of, heard, heard-no}
-use Rattle.stream_finder.specs.Finder.{State, Found, saidFind, saidFinder, Leaves}
+use Rattle.stream_finder.specs.Finder.{State, Found, saidFind, saidFinder, Fills}
 use Rattle.stream_finder.specs.declared.FinderAnswer.{FinderAnswer}
 use Rattle.stream_finder.specs.declared.FinderAnswer.the-variants as finder
 use Rattle.stream_finder.specs.declared.FindAnswer.{FindAnswer}
@@ -31,8 +31,8 @@ find-back (find.Refused e) = heard-no findIn find.Refused e
 pub one-find : (r q : FindAnswer) → saidFind r ≡ saidFind q → r ≡ q
 one-find = one-of saidFind (heard findIn find.Refused) find-back
 
-pub one-leaves : (t : List ℕ) (a : Answer State) (r q : FinderAnswer) (u v : List ℕ) → Leaves t a r u → Leaves t a q v → (r ≡ q) × (u ≡ v)
-one-leaves t a r q u v l k = (one-finder r q (l .answer ∙ sym (k .answer)), l .table ∙ sym (k .table))
+pub one-fills : (t : List ℕ) (a : Answer State) (r q : FinderAnswer) (u v : List ℕ) → Fills t a r u → Fills t a q v → (r ≡ q) × (u ≡ v)
+one-fills t a r q u v l k = (one-finder r q (l .answer ∙ sym (k .answer)), l .table ∙ sym (k .table))
 
 -- an update in place: one answer, and one state after it
 update-back : (r : UpdateAnswer) → heard (λ x. update.Answered) update.Refused (saidUpdate r) ≡ r

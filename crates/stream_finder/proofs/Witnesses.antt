@@ -6,7 +6,7 @@ use mathlib.Core.List.{List, [], _∷_, _++_}
 use native.Mathlib.Omega.{arith}
 use lib.ListN.{replicate}
 use Rattle.answer.specs.Answer.{Answer, answered, refused}
-use Rattle.field.specs.Fields.{le}
+use Rattle.field.specs.Fields.{littleAt}
 use Rattle.stream_header.specs.Header.{headerOf, fieldsOf}
 use Rattle.stream_header.specs.Examples.{four, streamE}
 use Rattle.stream_item.specs.Items.{indexIn}
@@ -22,7 +22,7 @@ use Rattle.stream_finder.proofs.DemandProof.{demand3}
 
 -- ---- stream E, N = 2: one place is enough
 pub walkedE : (d : ℕ) → d ≤ 2 → Premises 8 3 Types streamE (fieldsOf streamE) (0 ∷ []) 2 (state (finderTo 4098 1) (56 ∷ [])) d
-unfolding headerOf le createBy begunBy iterOf nextOf updateBy
+unfolding headerOf littleAt createBy begunBy iterOf nextOf updateBy
 walkedE d h = record {
   accepted = refl;
   counts = omega arith;
@@ -65,23 +65,23 @@ step : (k : ℕ) (σ τ : State) → Walked 8 streamL (cursorL 0) oneL k (cursor
 step k σ τ w e f = subst (λ (ρ : State). Walked 8 streamL (cursorL 0) oneL (suc k) (cursorL (suc k)) ρ) f (more w e)
 
 walked8 : Walked 8 streamL (cursorL 0) oneL 8 (cursorL 8) twoL
-unfolding nextOf updateBy le
+unfolding nextOf updateBy littleAt
 walked8 =
     step 7 oneL twoL (step 6 oneL oneL (step 5 oneL oneL (step 4 oneL oneL (step 3 oneL oneL (step 2 oneL oneL (step 1 oneL oneL (step 0 oneL oneL
     none refl refl) refl refl) refl refl) refl refl) refl refl) refl refl) refl refl) refl refl
 
 walked16 : Walked 8 streamL (cursorL 0) oneL 16 (cursorL 16) threeL
-unfolding nextOf updateBy le
+unfolding nextOf updateBy littleAt
 walked16 =
     step 15 twoL threeL (step 14 twoL twoL (step 13 twoL twoL (step 12 twoL twoL (step 11 twoL twoL (step 10 twoL twoL (step 9 twoL twoL (step 8 twoL twoL
     walked8 refl refl) refl refl) refl refl) refl refl) refl refl) refl refl) refl refl) refl refl
 
 walkedL : Walked 8 streamL (cursorL 0) oneL 18 (cursorL 18) threeL
-unfolding nextOf updateBy le
+unfolding nextOf updateBy littleAt
 walkedL = step 17 threeL threeL (step 16 threeL threeL walked16 refl refl) refl refl
 
 pub premisesL : (d : ℕ) → d ≤ 20 → Premises 8 3 Types streamL (fieldsOf streamL) (0 ∷ 0 ∷ 0 ∷ []) 18 (threeL) d
-unfolding headerOf le createBy begunBy iterOf
+unfolding headerOf littleAt createBy begunBy iterOf
 premisesL d h = record {
   accepted = refl;
   counts = omega arith;
@@ -97,7 +97,7 @@ premisesL d h = record {
 
 -- there `next` refuses by 6
 pub refusedL : nextOf streamL (cursor 128 4114) ≡ refused 6 []
-unfolding nextOf le
+unfolding nextOf littleAt
 refusedL = refl
 
 -- and demand 3 says what `find` answers: the link of one byte, the record behind it, and past that 1 with 4 passed
@@ -105,7 +105,7 @@ abbrev lookupL : ℕ → Answer Found
 lookupL d = findOf streamL (threeL) (indexIn Types (4096 + d))
 
 pub findsL : (lookupL 18 ≡ found 4114 130 1 2) × (lookupL 19 ≡ found 4115 133 2 3) × (lookupL 20 ≡ refused 1 (4 ∷ []))
-unfolding Demand3 Demand3By linkOf chain linkAt le
+unfolding Demand3 Demand3By linkOf chain linkAt littleAt
 findsL = (
   demand3 Types streamL (fieldsOf streamL) (0 ∷ 0 ∷ 0 ∷ []) 18 (threeL) 18 (premisesL 18 (omega arith)),
   demand3 Types streamL (fieldsOf streamL) (0 ∷ 0 ∷ 0 ∷ []) 18 (threeL) 19 (premisesL 19 (omega arith)),

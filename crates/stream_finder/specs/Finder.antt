@@ -152,6 +152,6 @@ tableAfter t (refused n d) = t
 
 -- the contract of a function that is lent the table t and answers with a finder: a is the definition's answer, r the function's, t′ the table
 -- after it
-pub record Leaves (t : List ℕ) (a : Answer State) (r : FinderAnswer) (t′ : List ℕ) : Type 0 where
+pub record Fills (t : List ℕ) (a : Answer State) (r : FinderAnswer) (t′ : List ℕ) : Type 0 where
   pub answer : saidFinder r ≡ finderOf a
   pub table : t′ ≡ tableAfter t a

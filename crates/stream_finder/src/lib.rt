@@ -11,7 +11,7 @@ pub mod lent;
 
 ghost use mathlib.Core.Path.{_≡_};
 ghost use Rattle.stream_item.specs.declared.ItemIndex.the-variants as index;
-ghost use Rattle.stream_finder.specs.Finder.{state, begunOf, createOf, updateOf, Leaves, maxIndexOf, findOf, saidFind};
+ghost use Rattle.stream_finder.specs.Finder.{state, begunOf, createOf, updateOf, Fills, maxIndexOf, findOf, saidFind};
 use answer::Refusal;
 use field::index::IdIndex;
 use field::index::TypeIndex;
@@ -51,7 +51,7 @@ pub enum FindAnswer {
 
 // A fresh finder of a stream: it holds the place of the first record, if there is one.
 pub fn create(s: &[u8], t: &mut [u32]) -> FinderAnswer
-    ensures { λ r. ⌜ Leaves (now (t .entry)) (createOf (now (s .entry)) (now (t .entry))) r (now (t .exit)) ⌝ }
+    ensures { λ r. ⌜ Fills (now (t .entry)) (createOf (now (s .entry)) (now (t .entry))) r (now (t .exit)) ⌝ }
 {
     match Header::parse(s) {
         HeaderAnswer::Answered(h) => begun(t, h),
@@ -61,7 +61,7 @@ pub fn create(s: &[u8], t: &mut [u32]) -> FinderAnswer
 
 // A fresh finder of the stream that has this header.
 fn begun(t: &mut [u32], h: Header) -> FinderAnswer
-    ensures { λ r. ⌜ Leaves (now (t .entry)) (begunOf (now (t .entry)) h) r (now (t .exit)) ⌝ }
+    ensures { λ r. ⌜ Fills (now (t .entry)) (begunOf (now (t .entry)) h) r (now (t .exit)) ⌝ }
 {
     let minimum = h.minimum_index;
     let maximum = h.maximum_index;
@@ -87,7 +87,7 @@ fn begun(t: &mut [u32], h: Header) -> FinderAnswer
 
 // The finder after an iterator came to a record: it holds the record's place if that starts the next block.
 pub fn update(f: ItemFinder, t: &mut [u32], c: ItemIter) -> FinderAnswer
-    ensures { λ r. ⌜ Leaves (now (t .entry)) (updateOf (state f (now (t .entry))) c) r (now (t .exit)) ⌝ }
+    ensures { λ r. ⌜ Fills (now (t .entry)) (updateOf (state f (now (t .entry))) c) r (now (t .exit)) ⌝ }
 {
     let at = c.at;
     let index = c.index;

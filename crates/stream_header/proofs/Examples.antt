@@ -4,7 +4,7 @@ use mathlib.Core.List.{[]}
 use lib.ListN.{take}
 use lib.IntN.{pos}
 use Rattle.answer.specs.Answer.{answered, refused}
-use Rattle.field.specs.Fields.{le}
+use Rattle.field.specs.Fields.{littleAt}
 use Rattle.stream_header.specs.Header.{headerOf, empty}
 use Rattle.stream_header.specs.Examples.{four, headerE, streamE}
 
@@ -22,7 +22,7 @@ pub header-of-E : headerOf streamE ≡ answered (record {
   «ti_off» = record { offset = pos 0; size = 0 };
   «hash_adj» = record { offset = pos 0; size = 0 };
 })
-unfolding headerOf le
+unfolding headerOf littleAt
 header-of-E = refl
 
 -- the empty stream is accepted; 55 bytes give 1; header_size 55 gives 2, 1025 gives 3
@@ -31,13 +31,13 @@ unfolding headerOf
 empty-stream = refl
 
 pub fifty-five-bytes : headerOf (take 55 streamE) ≡ refused 1 []
-unfolding headerOf le
+unfolding headerOf littleAt
 fifty-five-bytes = refl
 
 pub size-55 : headerOf (headerE (four 55 0)) ≡ refused 2 []
-unfolding headerOf le
+unfolding headerOf littleAt
 size-55 = refl
 
 pub size-1025 : headerOf (headerE (four 0x01 0x04)) ≡ refused 3 []
-unfolding headerOf le
+unfolding headerOf littleAt
 size-1025 = refl

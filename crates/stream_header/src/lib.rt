@@ -2,7 +2,7 @@
 ghost use mathlib.Core.Path.{_≡_};
 ghost use Prim.Native.Nat.{_+_, _-_, _≤_};
 ghost use lib.ListN.{length};
-ghost use Rattle.field.specs.Fields.{le, twos};
+ghost use Rattle.field.specs.Fields.{littleAt, twos};
 ghost use Rattle.stream_header.specs.Header.{sliceOf, fieldsOf, empty, headerOf, saidHeader};
 use answer::Refusal;
 use field::fixed;
@@ -89,21 +89,21 @@ impl Header {
 
 fn half_at(s: &[u8], p: usize) -> u16
     requires { ⌜ p + 2 ≤ length (now s) ⌝ }
-    ensures { λ r. ⌜ r ≡ le 2 (now (s .entry)) p ⌝ }
+    ensures { λ r. ⌜ r ≡ littleAt 2 (now (s .entry)) p ⌝ }
 {
     fixed::u16_or_zero(s, p)
 }
 
 fn word_at(s: &[u8], p: usize) -> u32
     requires { ⌜ p + 4 ≤ length (now s) ⌝ }
-    ensures { λ r. ⌜ r ≡ le 4 (now (s .entry)) p ⌝ }
+    ensures { λ r. ⌜ r ≡ littleAt 4 (now (s .entry)) p ⌝ }
 {
     fixed::u32_or_zero(s, p)
 }
 
 fn signed_at(s: &[u8], p: usize) -> i32
     requires { ⌜ p + 4 ≤ length (now s) ⌝ }
-    ensures { λ r. ⌜ r ≡ twos 4 (le 4 (now (s .entry)) p) ⌝ }
+    ensures { λ r. ⌜ r ≡ twos 4 (littleAt 4 (now (s .entry)) p) ⌝ }
 {
     fixed::i32_or_zero(s, p)
 }

@@ -22,8 +22,8 @@ use Rattle.stream_index.proofs.OneOutcome.{one-end}
 use Rattle.stream_index.specs.declared.End.{End}
 use Rattle.stream_index.specs.declared.End.the-variants as end
 use Rattle.stream_index.specs.declared.Tour.{Tour}
-use Rattle.stream_index.specs.declared.WalkAnswer.{WalkAnswer}
-use Rattle.stream_index.specs.declared.WalkAnswer.the-variants as walk
+use Rattle.stream_index.specs.declared.IndexAnswer.{IndexAnswer}
+use Rattle.stream_index.specs.declared.IndexAnswer.the-variants as walk
 
 -- the turn from there moves
 record Still (b : ℕ) (s : List ℕ) (τ : State) (d : ItemIter) : Type 0 where
@@ -90,7 +90,7 @@ one-walks s c σ r q t u w v = go (ltb (w .turns) (v .turns)) refl
 refusals : (a b : Refusal) → _≡_ {A = Answer State} (no a) (no b) → a ≡ b
 refusals a b e = one-refusal a b (cc) (cc)
 
-pub one-indexes : (tag : Stream) (s t : List ℕ) (r q : WalkAnswer) (u v : List ℕ) → Indexes tag s t r u → Indexes tag s t q v → (r ≡ q) × (u ≡ v)
+pub one-indexes : (tag : Stream) (s t : List ℕ) (r q : IndexAnswer) (u v : List ℕ) → Indexes tag s t r u → Indexes tag s t q v → (r ≡ q) × (u ≡ v)
 one-indexes tag s t (walk.Answered r) (walk.Answered q) u v w x =
     let f : w .fresh ≡ x .fresh = cc in
     let c : w .first ≡ x .first = cc in

@@ -16,7 +16,7 @@ use Rattle.stream_item.proofs.NextLaws.{Yields, yields}
 use Rattle.stream_item.specs.declared.Stream.{Stream}
 use Rattle.stream_item.specs.declared.Item.{Item}
 use Rattle.stream_item.specs.declared.iter.ItemIter.{ItemIter}
-use Rattle.stream_finder.specs.Finder.{State, state, createBy, updateBy, saidFinder, finderOf, tableAfter, Leaves}
+use Rattle.stream_finder.specs.Finder.{State, state, createBy, updateBy, saidFinder, finderOf, tableAfter, Fills}
 use Rattle.stream_finder.proofs.FinderLaws.{create-is}
 use Rattle.stream_finder.specs.declared.ItemFinder.{ItemFinder}
 use Rattle.stream_finder.specs.declared.FinderAnswer.{FinderAnswer}
@@ -27,14 +27,14 @@ use Rattle.stream_index.specs.declared.TurnAnswer.the-variants as turn
 use Rattle.stream_index.specs.declared.End.{End}
 
 -- ---- what a function that is lent the table has told of its definition
-pub leaves-answered : (t : List ℕ) (a : Answer State) (r : FinderAnswer) (t′ : List ℕ) (g : ItemFinder) → Leaves t a r t′ → r ≡ finder.Answered g → a ≡ answered (state g t′)
+pub leaves-answered : (t : List ℕ) (a : Answer State) (r : FinderAnswer) (t′ : List ℕ) (g : ItemFinder) → Fills t a r t′ → r ≡ finder.Answered g → a ≡ answered (state g t′)
 leaves-answered t a r t′ g l e = go a (sym (ap saidFinder e) ∙ l .answer) (l .table)
   where
     go : (a : Answer State) → answered g ≡ finderOf a → t′ ≡ tableAfter t a → a ≡ answered (state g t′)
     go (answered τ) p q = let f : g ≡ τ .finder = cc in ap (λ (x : ItemFinder). answered (state x (τ .table))) (sym f) ∙ ap (λ (u : List ℕ). answered (state g u)) (sym q)
     go (refused n d) p q = let z : _≡_ {A = ℕ} 0 1 = cc in absurd (omega arith)
 
-pub leaves-refused : (t : List ℕ) (a : Answer State) (r : FinderAnswer) (t′ : List ℕ) (e : Refusal) → Leaves t a r t′ → r ≡ finder.Refused e → (a ≡ no e) × (t′ ≡ t)
+pub leaves-refused : (t : List ℕ) (a : Answer State) (r : FinderAnswer) (t′ : List ℕ) (e : Refusal) → Fills t a r t′ → r ≡ finder.Refused e → (a ≡ no e) × (t′ ≡ t)
 leaves-refused t a r t′ e l h = go a (sym (ap saidFinder h) ∙ l .answer) (l .table)
   where
     go : (a : Answer State) → no e ≡ finderOf a → t′ ≡ tableAfter t a → (a ≡ no e) × (t′ ≡ t)

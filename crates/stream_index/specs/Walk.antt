@@ -13,8 +13,8 @@ use Rattle.stream_index.specs.declared.TurnAnswer.the-variants as turn
 use Rattle.stream_index.specs.declared.End.{End}
 use Rattle.stream_index.specs.declared.End.the-variants as end
 use Rattle.stream_index.specs.declared.Tour.{Tour}
-use Rattle.stream_index.specs.declared.WalkAnswer.{WalkAnswer}
-use Rattle.stream_index.specs.declared.WalkAnswer.the-variants as walk
+use Rattle.stream_index.specs.declared.IndexAnswer.{IndexAnswer}
+use Rattle.stream_index.specs.declared.IndexAnswer.the-variants as walk
 
 -- what a turn gives where it is not refused: there is no record left; or the finder updated, and the cursor behind the record
 pub data Turn : Type 0 where
@@ -75,6 +75,6 @@ pub record Whole (tag : Stream) (s t : List ℕ) (r : Tour) (t′ : List ℕ) : 
   pub walks : Walks s first fresh r t′
 
 -- refused as the creation is: 16, the header's own, then 13; else a whole walk
-abbrev pub Indexes : Stream → List ℕ → List ℕ → WalkAnswer → List ℕ → Type 0
+abbrev pub Indexes : Stream → List ℕ → List ℕ → IndexAnswer → List ℕ → Type 0
 Indexes tag s t (walk.Answered r) t′ = Whole tag s t r t′
 Indexes tag s t (walk.Refused e) t′ = (createOf s t ≡ no e) × (t′ ≡ t)

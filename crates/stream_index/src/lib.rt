@@ -31,7 +31,7 @@ pub struct Tour {
     pub end: End,
 }
 
-pub enum WalkAnswer {
+pub enum IndexAnswer {
     Answered(Tour),
     Refused(Refusal),
 }
@@ -81,14 +81,14 @@ pub fn index_on(s: &[u8], f: ItemFinder, t: &mut [u32], c: ItemIter) -> Tour
 }
 
 // A whole stream, from a fresh finder and a fresh iterator.
-pub fn index_all(stream: Stream, s: &[u8], t: &mut [u32]) -> WalkAnswer
+pub fn index_all(stream: Stream, s: &[u8], t: &mut [u32]) -> IndexAnswer
     ensures { λ r. ⌜ Indexes stream (now (s .entry)) (now (t .entry)) r (now (t .exit)) ⌝ }
 {
     match iter::iter(stream, s) {
         IterAnswer::Answered(c) => match stream_finder::create(s, t) {
-            FinderAnswer::Answered(f) => WalkAnswer::Answered(index_on(s, f, t, c)),
-            FinderAnswer::Refused(e) => WalkAnswer::Refused(e),
+            FinderAnswer::Answered(f) => IndexAnswer::Answered(index_on(s, f, t, c)),
+            FinderAnswer::Refused(e) => IndexAnswer::Refused(e),
         },
-        IterAnswer::Refused(e) => WalkAnswer::Refused(e),
+        IterAnswer::Refused(e) => IndexAnswer::Refused(e),
     }
 }

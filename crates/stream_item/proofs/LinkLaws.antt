@@ -10,32 +10,32 @@ use lib.ListN.{length}
 use lib.Dec.{leb}
 use borrow.Author.Tests.{le-leb, lt-leb, leb-true}
 use Rattle.answer.specs.Answer.{pick}
-use Rattle.field.specs.Fields.{le}
-use Rattle.stream_item.specs.Links.{linkAt, Walk, reached, broke, passing, onward, chain, landing, land, linkOf}
+use Rattle.field.specs.Fields.{littleAt}
+use Rattle.stream_item.specs.Links.{linkAt, Walk, reached, broke, passing, linked, chain, landing, land, linkOf}
 use Rattle.stream_item.specs.declared.link.Link.{Link}
 use Rattle.stream_item.specs.declared.link.Link.the-variants.{Whole, Broken}
 use Rattle.stream_item.specs.declared.link.Hit.{Hit}
 use Rattle.stream_item.specs.declared.link.Hit.the-variants.{Landed, Missed}
 
 -- ---- a link, from the lengths and back
-pub link-whole : (s : List ℕ) (p : ℕ) → p + 2 + le 2 s p ≤ length s → linkAt s p ≡ Whole (p + 2) (le 2 s p)
+pub link-whole : (s : List ℕ) (p : ℕ) → p + 2 + littleAt 2 s p ≤ length s → linkAt s p ≡ Whole (p + 2) (littleAt 2 s p)
 unfolding linkAt
 link-whole s p h = simp (le-leb _ _ h)
 
-pub link-broken : (s : List ℕ) (p : ℕ) → length s < p + 2 + le 2 s p → linkAt s p ≡ Broken
+pub link-broken : (s : List ℕ) (p : ℕ) → length s < p + 2 + littleAt 2 s p → linkAt s p ≡ Broken
 unfolding linkAt
 link-broken s p h = simp (lt-leb _ _ h)
 
 pub record WholeAt (s : List ℕ) (p a l : ℕ) : Type 0 where
   pub start : a ≡ p + 2
-  pub len : l ≡ le 2 s p
-  pub inside : p + 2 + le 2 s p ≤ length s
+  pub len : l ≡ littleAt 2 s p
+  pub inside : p + 2 + littleAt 2 s p ≤ length s
 
 pub whole-is : (s : List ℕ) (p a l : ℕ) → linkAt s p ≡ Whole a l → WholeAt s p a l
 unfolding linkAt
-whole-is s p a l e = go (leb (p + 2 + le 2 s p) (length s)) refl e
+whole-is s p a l e = go (leb (p + 2 + littleAt 2 s p) (length s)) refl e
   where
-    go : (b : Bool) → leb (p + 2 + le 2 s p) (length s) ≡ b → pick b (Whole (p + 2) (le 2 s p)) Broken ≡ Whole a l → WholeAt s p a l
+    go : (b : Bool) → leb (p + 2 + littleAt 2 s p) (length s) ≡ b → pick b (Whole (p + 2) (littleAt 2 s p)) Broken ≡ Whole a l → WholeAt s p a l
     go true t q = record { start = cc; len = cc; inside = leb-true _ _ t }
     go false t q = let z : _≡_ {A = ℕ} 0 1 = cc in absurd (omega arith)
 
@@ -71,11 +71,11 @@ more-passing : (a b : ℕ) (k : Link) → passing (a + b) k ≡ more a (passing 
 more-passing a b (Whole c l) = refl
 more-passing a b Broken = refl
 
-more-onward : (s : List ℕ) (a b : ℕ) (w : Walk) → onward s (a + b) (more a w) ≡ more a (onward s b w)
+more-onward : (s : List ℕ) (a b : ℕ) (w : Walk) → linked s (a + b) (more a w) ≡ more a (linked s b w)
 more-onward s a b (reached q) = more-passing a b (linkAt s q)
 more-onward s a b (broke j) = refl
 
-andThen-onward : (s : List ℕ) (a b : ℕ) (w : Walk) → onward s (a + b) (andThen s a b w) ≡ andThen s a (suc b) w
+andThen-onward : (s : List ℕ) (a b : ℕ) (w : Walk) → linked s (a + b) (andThen s a b w) ≡ andThen s a (suc b) w
 unfolding chain
 andThen-onward s a b (reached q) = more-onward s a b (chain s q b)
 andThen-onward s a b (broke j) = refl
@@ -113,7 +113,7 @@ chain-bounds s p (suc k) q e = from (chain s p k) refl e (λ r er. chain-bounds 
         record { up = omega arith; inside = λ g. omega arith }
     step r b Broken en e = let z : _≡_ {A = ℕ} 0 1 = cc in absurd (omega arith)
 
-    from : (w : Walk) → chain s p k ≡ w → onward s k w ≡ reached q → ((r : ℕ) → chain s p k ≡ reached r → Bounded s p k r) → Bounded s p (suc k) q
+    from : (w : Walk) → chain s p k ≡ w → linked s k w ≡ reached q → ((r : ℕ) → chain s p k ≡ reached r → Bounded s p k r) → Bounded s p (suc k) q
     from (reached r) ew e ih = step r (ih r ew) (linkAt s r) refl e
     from (broke j) ew e ih = let z : _≡_ {A = ℕ} 0 1 = cc in absurd (omega arith)
 
@@ -153,7 +153,7 @@ unfolding linkOf
 linkOf-split s p a j q e = ap (land s (a + j)) (chain-split s p a j q e) ∙ more-land s a j (chain s q j)
 
 -- ---- a walk that keeps the place of the payload: one link more, and the link that it came to
-module _ (s : List ℕ) (p i q n : ℕ) (e : n ≡ le 2 s (q - 2)) (low : 2 ≤ q) where
+module _ (s : List ℕ) (p i q n : ℕ) (e : n ≡ littleAt 2 s (q - 2)) (low : 2 ≤ q) where
   pub led-on : chain s p i ≡ reached (q - 2) → q + n ≤ length s → chain s p (i + 1) ≡ reached (q + 2 + n - 2)
   led-on c h =
       chain-pass s p i (q - 2) _ _ c (link-whole s (q - 2) (omega (arith, e))) ∙ ap reached (omega (arith, e))

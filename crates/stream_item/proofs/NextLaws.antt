@@ -8,7 +8,7 @@ use lib.ListN.{length}
 use lib.Dec.{leb, ltb}
 use borrow.Author.Tests.{le-leb, lt-leb, le-ltb, lt-ltb, leb-false, ltb-false}
 use Rattle.answer.specs.Answer.{Answer, answered, refused, pick, stop}
-use Rattle.field.specs.Fields.{le}
+use Rattle.field.specs.Fields.{littleAt}
 use Rattle.stream_header.specs.Header.{longest, headerOf}
 use Rattle.stream_header.specs.declared.Header.{Header}
 use Rattle.stream_item.specs.Items.{indexIn}
@@ -39,21 +39,21 @@ module _ (s : List ℕ) (c : ItemIter) where
       let b′ : c .at ≤ length s = omega arith in
       simp (le-ltb _ _ a, le-ltb _ _ b′, lt-leb _ _ b, lt-ltb _ _ h)
 
-  pub next-short : length s ≤ longest → c .at + 2 ≤ length s → le 2 s (c .at) < 2 → nextOf s c ≡ refused 6 []
+  pub next-short : length s ≤ longest → c .at + 2 ≤ length s → littleAt 2 s (c .at) < 2 → nextOf s c ≡ refused 6 []
   unfolding nextOf
   next-short a b h =
       let b′ : c .at ≤ length s = omega arith in
       let b″ : c .at < length s = omega arith in
       simp (le-ltb _ _ a, le-ltb _ _ b′, lt-leb _ _ b″, le-ltb _ _ b, lt-ltb _ _ h)
 
-  pub next-payload : length s ≤ longest → c .at + 2 ≤ length s → 2 ≤ le 2 s (c .at) → length s < c .at + 2 + le 2 s (c .at) → nextOf s c ≡ refused 1 []
+  pub next-payload : length s ≤ longest → c .at + 2 ≤ length s → 2 ≤ littleAt 2 s (c .at) → length s < c .at + 2 + littleAt 2 s (c .at) → nextOf s c ≡ refused 1 []
   unfolding nextOf
   next-payload a b l h =
       let b′ : c .at ≤ length s = omega arith in
       let b″ : c .at < length s = omega arith in
       simp (le-ltb _ _ a, le-ltb _ _ b′, lt-leb _ _ b″, le-ltb _ _ b, le-ltb _ _ l, lt-ltb _ _ h)
 
-  pub next-used : length s ≤ longest → 2 ≤ le 2 s (c .at) → c .at + 2 + le 2 s (c .at) ≤ length s → 4294967295 ≤ c .index → nextOf s c ≡ refused 7 []
+  pub next-used : length s ≤ longest → 2 ≤ littleAt 2 s (c .at) → c .at + 2 + littleAt 2 s (c .at) ≤ length s → 4294967295 ≤ c .index → nextOf s c ≡ refused 7 []
   unfolding nextOf
   next-used a l h u =
       let b : c .at + 2 ≤ length s = omega arith in
@@ -61,8 +61,8 @@ module _ (s : List ℕ) (c : ItemIter) where
       let b″ : c .at < length s = omega arith in
       simp (le-ltb _ _ a, le-ltb _ _ b′, lt-leb _ _ b″, le-ltb _ _ b, le-ltb _ _ l, le-ltb _ _ h, le-leb _ _ u)
 
-  pub next-yields : length s ≤ longest → 2 ≤ le 2 s (c .at) → c .at + 2 + le 2 s (c .at) ≤ length s → c .index < 4294967295
-      → nextOf s c ≡ answered (overRecord c (le 2 s (c .at)))
+  pub next-yields : length s ≤ longest → 2 ≤ littleAt 2 s (c .at) → c .at + 2 + littleAt 2 s (c .at) ≤ length s → c .index < 4294967295
+      → nextOf s c ≡ answered (overRecord c (littleAt 2 s (c .at)))
   unfolding nextOf
   next-yields a l h u =
       let b : c .at + 2 ≤ length s = omega arith in
@@ -99,7 +99,7 @@ pub record Yields (s : List ℕ) (c : ItemIter) (i : Item) (d : ItemIter) : Type
 pub yields : (s : List ℕ) (c : ItemIter) (i : Item) (d : ItemIter) → nextOf s c ≡ answered (yielded i d) → Yields s c i d
 unfolding nextOf
 yields s c i d e =
-    let n = le 2 s (c .at) in
+    let n = littleAt 2 s (c .at) in
     let t1 = passed (ltb longest (length s)) 16 _ _ e in
     let t2 = passed (ltb (length s) (c .at)) 1 _ _ (t1 .1) in
     let t3 = undone (leb (length s) (c .at)) _ _ _ (t2 .1) in
@@ -107,11 +107,11 @@ yields s c i d e =
     let t5 = passed (ltb n 2) 6 _ _ (t4 .1) in
     let t6 = passed (ltb (length s) (c .at + 2 + n)) 1 _ _ (t5 .1) in
     let t7 = passed (leb 4294967295 (c .index)) 7 _ _ (t6 .1) in
-    let two : 2 ≤ le 2 s (c .at) = ltb-false _ _ (t5 .0) in
-    let w : c .at + 2 + le 2 s (c .at) ≤ length s = ltb-false _ _ (t6 .0) in
+    let two : 2 ≤ littleAt 2 s (c .at) = ltb-false _ _ (t5 .0) in
+    let w : c .at + 2 + littleAt 2 s (c .at) ≤ length s = ltb-false _ _ (t6 .0) in
     let a : c .at + 2 ≡ i .place = cc in
-    let l : le 2 s (c .at) ≡ i .length = cc in
-    let n : c .at + 2 + le 2 s (c .at) ≡ d .at = cc in
+    let l : littleAt 2 s (c .at) ≡ i .length = cc in
+    let n : c .at + 2 + littleAt 2 s (c .at) ≡ d .at = cc in
     record {
       short = ltb-false _ _ (t1 .0);
       whole = cc (link-whole s (c .at) w);

@@ -5,7 +5,7 @@ use lib.ListN.{length}
 use lib.Dec.{leb, ltb}
 use Rattle.answer.specs.Answer.{Answer, answered, pick, stop, then}
 use Rattle.answer.specs.Refusals.{no}
-use Rattle.field.specs.Fields.{le}
+use Rattle.field.specs.Fields.{littleAt}
 use Rattle.stream_header.specs.Header.{longest, headerOf}
 use Rattle.stream_item.specs.Items.{indexIn}
 use Rattle.stream_item.specs.declared.Stream.{Stream}
@@ -41,10 +41,10 @@ nextOf s c =
     (stop (ltb (length s) (c .at)) 1
     (pick (leb (length s) (c .at)) (answered done)
     (stop (ltb (length s) (c .at + 2)) 1
-    (stop (ltb (le 2 s (c .at)) 2) 6
-    (stop (ltb (length s) (c .at + 2 + le 2 s (c .at))) 1
+    (stop (ltb (littleAt 2 s (c .at)) 2) 6
+    (stop (ltb (length s) (c .at + 2 + littleAt 2 s (c .at))) 1
     (stop (leb 4294967295 (c .index)) 7
-    (answered (overRecord c (le 2 s (c .at))))))))))
+    (answered (overRecord c (littleAt 2 s (c .at))))))))))
 
 -- what the answers say
 abbrev pub saidIter : IterAnswer → Answer ItemIter

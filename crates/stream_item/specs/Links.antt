@@ -5,7 +5,7 @@ use mathlib.Core.List.{List}
 use lib.ListN.{length}
 use lib.Dec.{leb}
 use Rattle.answer.specs.Answer.{pick}
-use Rattle.field.specs.Fields.{le}
+use Rattle.field.specs.Fields.{littleAt}
 use Rattle.stream_item.specs.declared.link.Link.{Link}
 use Rattle.stream_item.specs.declared.link.Link.the-variants.{Whole, Broken}
 use Rattle.stream_item.specs.declared.link.Hit.{Hit}
@@ -13,7 +13,7 @@ use Rattle.stream_item.specs.declared.link.Hit.the-variants.{Landed, Mis
 
 -- the link at place p has a u16 length at p and a payload of so many bytes after it; it is broken where either part passes the end
 unfoldable pub linkAt : List ℕ → ℕ → Link
-linkAt s p = pick (leb (p + 2 + le 2 s p) (length s)) (Whole (p + 2) (le 2 s p)) Broken
+linkAt s p = pick (leb (p + 2 + littleAt 2 s p) (length s)) (Whole (p + 2) (littleAt 2 s p)) Broken
 
 -- where a walk along the links stands: at a place, or it broke after so many links
 pub data Walk : Type 0 where
@@ -25,14 +25,14 @@ abbrev pub passing : ℕ → Link → Walk
 passing k (Whole place n) = reached (place + n)
 passing k Broken = broke k
 
-abbrev pub onward : List ℕ → ℕ → Walk → Walk
-onward s k (reached p) = passing k (linkAt s p)
-onward s k (broke j) = broke j
+abbrev pub linked : List ℕ → ℕ → Walk → Walk
+linked s k (reached p) = passing k (linkAt s p)
+linked s k (broke j) = broke j
 
 -- from place p, past k links
 unfoldable pub chain : List ℕ → ℕ → ℕ → Walk
 chain s p zero = reached p
-chain s p (suc k) = onward s k (chain s p k)
+chain s p (suc k) = linked s k (chain s p k)
 
 abbrev pub landing : ℕ → Link → Hit
 landing k (Whole place n) = Landed place n

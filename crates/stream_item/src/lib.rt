@@ -9,7 +9,7 @@ ghost use mathlib.Core.Path.{_≡_};
 ghost use Prim.Native.Nat.{_+_, _≤_, _<_};
 ghost use lib.Dec.{eqb};
 ghost use lib.ListN.{length};
-ghost use Rattle.field.specs.Fields.{le};
+ghost use Rattle.field.specs.Fields.{littleAt};
 ghost use Rattle.stream_item.specs.Items.{indexIn, streamIn, numberIn, indexOf, lengthOf};
 use field::fixed;
 use field::index::IdIndex;
@@ -127,7 +127,7 @@ impl Entry {
 // The length that a link starts with, where it is known to be there.
 fn length_at(s: &[u8], p: usize) -> usize
     requires { ⌜ p + 2 ≤ length (now s) ⌝ }
-    ensures { λ r. ⌜ (r ≡ le 2 (now (s .entry)) p) × (r < 65536) ⌝ }
+    ensures { λ r. ⌜ (r ≡ littleAt 2 (now (s .entry)) p) × (r < 65536) ⌝ }
 {
     (s[p] as usize) + 256 * (s[p + 1] as usize)
 }

@@ -2,7 +2,7 @@
 use mathlib.Core.Path.{_≡_, refl}
 use mathlib.Core.List.{[], _∷_, map}
 use Rattle.answer.specs.Answer.{answered, refused}
-use Rattle.field.specs.Fields.{le}
+use Rattle.field.specs.Fields.{littleAt}
 use Rattle.stream_header.specs.Examples.{streamE}
 use Rattle.stream_item.specs.Items.{indexIn}
 use Rattle.stream_item.specs.Iterator.{itemAt}
@@ -17,5 +17,5 @@ views = refl
 
 pub kinds : map (rawKindOf streamE []) (Record (itemAt Types 4096 58 8) ∷ Record (itemAt Types 4097 68 10) ∷ Record (itemAt Types 4096 58 1) ∷ Marker (indexIn Types 4095) ∷ [])
     ≡ answered 0x1001 ∷ answered 0x1002 ∷ refused 1 [] ∷ answered 0xffff ∷ []
-unfolding kindAt le
+unfolding kindAt littleAt
 kinds = refl

@@ -2,11 +2,11 @@
 use mathlib.Core.Path.{_≡_, refl}
 use Rattle.answer.proofs.OneOutcome.{one-of, heard, heard-no}
 use Rattle.field_text.specs.Texts.{Part}
-use Rattle.stream_view.specs.Views.{saidView, saidKind}
+use Rattle.stream_view.specs.Views.{saidView, saidRawKind}
 use Rattle.stream_view.specs.declared.ViewAnswer.{ViewAnswer}
 use Rattle.stream_view.specs.declared.ViewAnswer.the-variants as view
-use Rattle.stream_view.specs.declared.KindAnswer.{KindAnswer}
-use Rattle.stream_view.specs.declared.KindAnswer.the-variants as kind
+use Rattle.stream_view.specs.declared.RawKindAnswer.{RawKindAnswer}
+use Rattle.stream_view.specs.declared.RawKindAnswer.the-variants as kind
 
 abbrev viewIn : Part → ViewAnswer
 viewIn a = view.Answered (a .place) (a .length)
@@ -18,9 +18,9 @@ view-back (view.Refused e) = heard-no viewIn view.Refused e
 pub one-view : (r q : ViewAnswer) → saidView r ≡ saidView q → r ≡ q
 one-view = one-of saidView (heard viewIn view.Refused) view-back
 
-kind-back : (r : KindAnswer) → heard kind.Answered kind.Refused (saidKind r) ≡ r
+kind-back : (r : RawKindAnswer) → heard kind.Answered kind.Refused (saidRawKind r) ≡ r
 kind-back (kind.Answered k) = refl
 kind-back (kind.Refused e) = heard-no kind.Answered kind.Refused e
 
-pub one-kind : (r q : KindAnswer) → saidKind r ≡ saidKind q → r ≡ q
-one-kind = one-of saidKind (heard kind.Answered kind.Refused) kind-back
+pub one-kind : (r q : RawKindAnswer) → saidRawKind r ≡ saidRawKind q → r ≡ q
+one-kind = one-of saidRawKind (heard kind.Answered kind.Refused) kind-back

@@ -9,7 +9,7 @@ use lib.Dec.{ltb}
 use borrow.Author.Tests.{le-ltb, lt-ltb}
 use Rattle.answer.specs.Answer.{answered, refused, pick, stop}
 use Rattle.field.specs.Fields.{orZero}
-use Rattle.field_text.specs.Texts.{bytesAt}
+use Rattle.field.specs.Runs.{bytesAt}
 use Rattle.field.proofs.FieldLaws.{or-zero-there}
 use Rattle.stream_view.specs.Views.{partOf, within, kindAt}
 

@@ -5,7 +5,7 @@ use lib.ListN.{length, take, drop}
 use lib.Dec.{ltb}
 use Rattle.answer.specs.Answer.{Answer, answered, refused, stop}
 use Rattle.answer.specs.Refusals.{no}
-use Rattle.field.specs.Fields.{le}
+use Rattle.field.specs.Fields.{littleAt}
 use Rattle.field_text.specs.Texts.{Part}
 use Rattle.stream_header.specs.Header.{longest}
 use Rattle.stream_item.specs.Items.{numberIn, indexOf}
@@ -15,8 +15,8 @@ use Rattle.stream_item.specs.declared.Entry.{Entry}
 use Rattle.stream_item.specs.declared.Entry.the-variants as entry
 use Rattle.stream_view.specs.declared.ViewAnswer.{ViewAnswer}
 use Rattle.stream_view.specs.declared.ViewAnswer.the-variants as view
-use Rattle.stream_view.specs.declared.KindAnswer.{KindAnswer}
-use Rattle.stream_view.specs.declared.KindAnswer.the-variants as kind
+use Rattle.stream_view.specs.declared.RawKindAnswer.{RawKindAnswer}
+use Rattle.stream_view.specs.declared.RawKindAnswer.the-variants as kind
 
 -- 1 if it passes the end
 unfoldable pub partOf : List ℕ → ℕ → ℕ → Answer Part
@@ -44,26 +44,26 @@ abbrev pub within : List ℕ → Answer Part → List ℕ
 within s (answered a) = take (a .length) (drop (a .place) s)
 within s (refused n d) = []
 
-abbrev pub bytesOf : List ℕ → List ℕ → Entry → List ℕ
-bytesOf t p e = within (named t p (indexOf e)) (viewOf t p e)
+abbrev pub viewBytes : List ℕ → List ℕ → Entry → List ℕ
+viewBytes t p e = within (named t p (indexOf e)) (viewOf t p e)
 
 -- the u16 that a part starts with; 1 below two bytes
 unfoldable pub kindAt : List ℕ → ℕ → ℕ → Answer ℕ
-kindAt s p n = stop (ltb (length s) (p + n)) 1 (stop (ltb n 2) 1 (answered (le 2 s p)))
+kindAt s p n = stop (ltb (length s) (p + n)) 1 (stop (ltb n 2) 1 (answered (littleAt 2 s p)))
 
 -- 0xffff for the marker
-abbrev pub kindOf : List ℕ → List ℕ → Entry → Answer ℕ
-kindOf t p (entry.Record i) = kindAt (named t p (i .index)) (i .place) (i .length)
-kindOf t p (entry.Marker i) = answered 0xffff
+abbrev pub entryKind : List ℕ → List ℕ → Entry → Answer ℕ
+entryKind t p (entry.Record i) = kindAt (named t p (i .index)) (i .place) (i .length)
+entryKind t p (entry.Marker i) = answered 0xffff
 
 abbrev pub rawKindOf : List ℕ → List ℕ → Entry → Answer ℕ
-rawKindOf t p e = shortOf t p (kindOf t p e)
+rawKindOf t p e = shortOf t p (entryKind t p e)
 
 -- what the answers say
 abbrev pub saidView : ViewAnswer → Answer Part
 saidView (view.Answered p n) = answered (record { place = p; length = n })
 saidView (view.Refused e) = no e
 
-abbrev pub saidKind : KindAnswer → Answer ℕ
-saidKind (kind.Answered k) = answered k
-saidKind (kind.Refused e) = no e
+abbrev pub saidRawKind : RawKindAnswer → Answer ℕ
+saidRawKind (kind.Answered k) = answered k
+saidRawKind (kind.Refused e) = no e

@@ -1,6 +1,6 @@
 // An entry's bytes: a part of the TPI stream or of the IPI stream, both lent, and the leaf that they start with.
 ghost use mathlib.Core.Path.{_≡_};
-ghost use Rattle.stream_view.specs.Views.{partOf, viewOf, saidView, bytesOf, kindAt, rawKindOf, saidKind};
+ghost use Rattle.stream_view.specs.Views.{partOf, viewOf, saidView, viewBytes, kindAt, rawKindOf, saidRawKind};
 use answer::Refusal;
 use field::fixed;
 use stream_header::LONGEST;
@@ -13,7 +13,7 @@ pub enum ViewAnswer {
     Refused(Refusal),
 }
 
-pub enum KindAnswer {
+pub enum RawKindAnswer {
     Answered(u16),
     Refused(Refusal),
 }
@@ -32,19 +32,19 @@ fn inside(s: &[u8], place: usize, length: usize) -> ViewAnswer
 }
 
 // The leaf that the part starts with.
-fn kind_at(s: &[u8], place: usize, length: usize) -> KindAnswer
-    ensures { λ r. ⌜ saidKind r ≡ kindAt (now (s .entry)) place length ⌝ }
+fn kind_at(s: &[u8], place: usize, length: usize) -> RawKindAnswer
+    ensures { λ r. ⌜ saidRawKind r ≡ kindAt (now (s .entry)) place length ⌝ }
 {
     if place > s.len() {
-        return KindAnswer::Refused(Refusal::Ended);
+        return RawKindAnswer::Refused(Refusal::Ended);
     }
     if length > s.len() - place {
-        return KindAnswer::Refused(Refusal::Ended);
+        return RawKindAnswer::Refused(Refusal::Ended);
     }
     if length < 2 {
-        return KindAnswer::Refused(Refusal::Ended);
+        return RawKindAnswer::Refused(Refusal::Ended);
     }
-    KindAnswer::Answered(fixed::u16_or_zero(s, place))
+    RawKindAnswer::Answered(fixed::u16_or_zero(s, place))
 }
 
 // Where the payload of an entry lies.
@@ -73,7 +73,7 @@ pub fn view_answer(tpi: &[u8], ipi: &[u8], entry: Entry) -> ViewAnswer
 
 // The payload of an entry, and no bytes where `view_answer` refuses.
 pub fn view<'a>(tpi: &'a [u8], ipi: &'a [u8], entry: Entry) -> &'a [u8]
-    ensures { λ r. ⌜ now r ≡ bytesOf (now (tpi .entry)) (now (ipi .entry)) entry ⌝ }
+    ensures { λ r. ⌜ now r ≡ viewBytes (now (tpi .entry)) (now (ipi .entry)) entry ⌝ }
 {
     if tpi.len() > LONGEST {
         return &tpi[0..0];
@@ -87,8 +87,8 @@ pub fn view<'a>(tpi: &'a [u8], ipi: &'a [u8], entry: Entry) -> &'a [u8]
             let length = item.length;
             let index = item.index;
             match index {
-                ItemIndex::Types(_) => field_text::bytes_at(tpi, place, length),
-                ItemIndex::Ids(_) => field_text::bytes_at(ipi, place, length),
+                ItemIndex::Types(_) => field::run::bytes_at(tpi, place, length),
+                ItemIndex::Ids(_) => field::run::bytes_at(ipi, place, length),
             }
         }
         Entry::Marker(_) => &tpi[0..0],
@@ -96,14 +96,14 @@ pub fn view<'a>(tpi: &'a [u8], ipi: &'a [u8], entry: Entry) -> &'a [u8]
 }
 
 // The leaf that an entry starts with: 0xffff, a reserved value, for the marker.
-pub fn raw_kind(tpi: &[u8], ipi: &[u8], entry: Entry) -> KindAnswer
-    ensures { λ r. ⌜ saidKind r ≡ rawKindOf (now (tpi .entry)) (now (ipi .entry)) entry ⌝ }
+pub fn raw_kind(tpi: &[u8], ipi: &[u8], entry: Entry) -> RawKindAnswer
+    ensures { λ r. ⌜ saidRawKind r ≡ rawKindOf (now (tpi .entry)) (now (ipi .entry)) entry ⌝ }
 {
     if tpi.len() > LONGEST {
-        return KindAnswer::Refused(Refusal::TooLong);
+        return RawKindAnswer::Refused(Refusal::TooLong);
     }
     if ipi.len() > LONGEST {
-        return KindAnswer::Refused(Refusal::TooLong);
+        return RawKindAnswer::Refused(Refusal::TooLong);
     }
     match entry {
         Entry::Record(item) => {
@@ -115,6 +115,6 @@ pub fn raw_kind(tpi: &[u8], ipi: &[u8], entry: Entry) -> KindAnswer
                 ItemIndex::Ids(_) => kind_at(ipi, place, length),
             }
         }
-        Entry::Marker(_) => KindAnswer::Answered(0xffff),
+        Entry::Marker(_) => RawKindAnswer::Answered(0xffff),
     }
 }

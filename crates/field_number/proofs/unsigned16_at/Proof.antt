@@ -17,5 +17,4 @@ returns-2 c = rw (told said16 (c .before .before .before .u16-at .ensures) (c .b
 pub unsigned16-at-spec : {M : Type 1} → statement M
 unsigned16-at-spec =
     tie.close (tie.spec
-    (λ c κs. search needs) (λ c. search needs) (λ c. search needs) returns (λ c. search needs)
-    returns-2)
+    (λ c κs. search needs) (λ c. search needs) (λ c. search needs) returns (λ c. search needs) returns-2)

@@ -15,6 +15,4 @@ unfolding unsignedAt
 returns-2 c = rw (told said64 (c .before .before .before .u64-at .ensures) (c .before .v .given .1))
 
 pub unsigned64-at-spec : {M : Type 1} → statement M
-unsigned64-at-spec =
-    tie.close (tie.spec
-    (λ c κs. search needs) (λ c. search needs) (λ c. search needs) returns returns-2)
+unsigned64-at-spec = tie.close (tie.spec (λ c κs. search needs) (λ c. search needs) (λ c. search needs) returns returns-2)

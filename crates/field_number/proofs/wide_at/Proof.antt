@@ -82,6 +82,5 @@ returns-8 c = rw (
 pub wide-at-spec : {M : Type 1} → statement M
 wide-at-spec =
     tie.close (tie.spec
-    (λ c κs. search needs) returns (λ c κs. search needs) returns-2 (λ c κs. search needs) returns-3
-    (λ c κs. search needs) returns-4 (λ c κs. search needs) returns-5 (λ c κs. search needs) returns-6
-    (λ c κs. search needs) returns-7 returns-8)
+    (λ c κs. search needs) returns (λ c κs. search needs) returns-2 (λ c κs. search needs) returns-3 (λ c κs. search needs) returns-4
+    (λ c κs. search needs) returns-5 (λ c κs. search needs) returns-6 (λ c κs. search needs) returns-7 returns-8)

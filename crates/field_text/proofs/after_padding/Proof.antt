@@ -24,23 +24,11 @@ loop-holds : tie.Need-loop-holds Inv-loop μ-loop
 unfolding paddingAfter
 loop-holds c = rw (le-ltb _ _ (c .if1 .left))
 
-shared-slice-read-b : tie.Need-shared-slice-read-b Inv-loop μ-loop
-shared-slice-read-b c = search needs
-
 returns-2 : tie.Need-returns-2 Inv-loop μ-loop
 returns-2 c = pad-stop _ _ (omega arith) (c .if2 .taken) ∙ c .before .before .before .loop .inv
 
-pad-width-requires : tie.Need-pad-width-requires Inv-loop μ-loop
-pad-width-requires c κs = search needs
-
-sub-if3 : tie.Need-sub-if3 Inv-loop μ-loop
-sub-if3 c = search needs
-
 returns-3 : tie.Need-returns-3 Inv-loop μ-loop
 returns-3 c = pad-cut _ _ _ (omega arith) (c .before .before .if2 .left) (c .before .pad-width .ensures) (omega arith) ∙ c .before .before .before .before .before .loop .inv
-
-add-i : tie.Need-add-i Inv-loop μ-loop
-add-i c = omega arith
 
 loop-less : tie.Need-loop-less Inv-loop μ-loop
 loop-less c = omega (arith, c .before .pad-width .ensures)
@@ -53,18 +41,6 @@ returns-4 c = pad-end _ _ (omega arith) ∙ c .before .loop .inv
 
 pub after-padding-spec : {M : Type 1} → statement M
 after-padding-spec =
-    tie.close
-    (tie.spec
-    Inv-loop
-    μ-loop
-    returns
-    loop-holds
-    shared-slice-read-b
-    returns-2
-    pad-width-requires
-    sub-if3
-    returns-3
-    add-i
-    loop-less
-    loop-again
-    returns-4)
+    tie.close (tie.spec
+    Inv-loop μ-loop returns loop-holds (λ c. search needs) returns-2 (λ c κs. search needs) (λ c. search needs) returns-3 (λ c. omega arith)
+    loop-less loop-again returns-4)

@@ -1,6 +1,7 @@
 -- `field_text::counted_string_at` meets its contract: at each return the readers so far have said what its layout says. Assumes nothing.
 use borrow.Author.Needs.{needs}
-use Rattle.field_text.specs.Texts.{countedStringAt, saidAfter}
+use Rattle.field.specs.Runs.{saidAfter}
+use Rattle.field_text.specs.Texts.{countedStringAt}
 use Rattle.field.specs.Fields.{said8}
 use Rattle.answer.proofs.Told.{told}
 use Rattle.field_text.proofs.counted_string_at.Statement.{statement}
@@ -27,5 +28,5 @@ returns-3 c = rw (
 pub counted-string-at-spec : {M : Type 1} → statement M
 counted-string-at-spec =
     tie.close (tie.spec
-    (λ c κs. search needs) (λ c. search needs) (λ c. search needs) returns (λ c. search needs)
-    (λ c κs. search needs) (λ c. search needs) (λ c. search needs) returns-2 returns-3)
+    (λ c κs. search needs) (λ c. search needs) (λ c. search needs) returns (λ c. search needs) (λ c κs. search needs) (λ c. search needs)
+    (λ c. search needs) returns-2 returns-3)

@@ -14,6 +14,4 @@ unfolding stringOf
 returns-2 c = rw (lt-leb (c .before .before .before .args .leaf) 0x1500 (c .before .if1 .left)) (c .string-at .ensures)
 
 pub string-of-spec : {M : Type 1} → statement M
-string-of-spec =
-    tie.close (tie.spec
-    (λ c κs. search needs) returns (λ c κs. search needs) returns-2)
+string-of-spec = tie.close (tie.spec (λ c κs. search needs) returns (λ c κs. search needs) returns-2)

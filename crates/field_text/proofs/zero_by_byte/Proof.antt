@@ -29,5 +29,5 @@ ended c = record { passed = c .before .loop .inv; there = λ h. absurd (omega ar
 
 pub zero-by-byte-spec : {M : Type 1} → statement M
 zero-by-byte-spec =
-    tie.close
-    (tie.spec Inv-loop μ-loop holds (λ c. omega arith) found (λ c. omega arith) (λ c. omega arith) again ended)
+    tie.close (tie.spec
+    Inv-loop μ-loop holds (λ c. omega arith) found (λ c. omega arith) (λ c. omega arith) again ended)

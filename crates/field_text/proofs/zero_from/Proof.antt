@@ -65,5 +65,5 @@ returns-3 c = record { passed = c .before .loop .inv; there = λ h. absurd (omeg
 pub zero-from-spec : {M : Type 1} → statement M
 zero-from-spec =
     tie.close (tie.spec
-    Inv-loop μ-loop loop-holds (λ c κs. search needs) (λ c. search needs) (λ c. search needs) (λ c κs. search needs) returns (λ c κs. search needs)
-    cast-result add-result returns-2 add-i loop-less loop-again returns-3)
+    Inv-loop μ-loop loop-holds (λ c κs. search needs) (λ c. search needs) (λ c. search needs) (λ c κs. search needs) returns
+    (λ c κs. search needs) cast-result add-result returns-2 add-i loop-less loop-again returns-3)

@@ -11,6 +11,6 @@ abbrev μ-loop : tie.MeasureT-loop
 
 pub put-members-spec : {M : Type 1} → statement M
 put-members-spec =
-    tie.close (tie.spec Inv-loop μ-loop
-    (λ c. search needs) (λ c. search needs) (λ c κs. search needs) (λ c. search needs) (λ c. search needs) (λ c. search needs) (λ c. search needs)
-    (λ c. search needs) (λ c. search needs))
+    tie.close (tie.spec
+    Inv-loop μ-loop (λ c. search needs) (λ c. search needs) (λ c κs. search needs) (λ c. search needs) (λ c. search needs) (λ c. search needs)
+    (λ c. search needs) (λ c. search needs) (λ c. search needs))

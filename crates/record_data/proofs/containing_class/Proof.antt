@@ -29,5 +29,4 @@ returns-3 c = rw (
 pub containing-class-spec : {M : Type 1} → statement M
 containing-class-spec =
     tie.close (tie.spec
-    (λ c κs. search needs) (λ c. search needs) (λ c. search needs) returns (λ c κs. search needs)
-    returns-2 returns-3)
+    (λ c κs. search needs) (λ c. search needs) (λ c. search needs) returns (λ c κs. search needs) returns-2 returns-3)

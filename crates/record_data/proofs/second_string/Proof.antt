@@ -28,5 +28,4 @@ returns-3 c = rw (sym (c .before .has-unique-name .ensures) ∙ c .if1 .left)
 pub second-string-spec : {M : Type 1} → statement M
 second-string-spec =
     tie.close (tie.spec
-    (λ c κs. search needs) (λ c κs. search needs) (λ c. search needs) (λ c. search needs) returns
-    returns-2 returns-3)
+    (λ c κs. search needs) (λ c κs. search needs) (λ c. search needs) (λ c. search needs) returns returns-2 returns-3)

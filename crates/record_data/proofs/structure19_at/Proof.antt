@@ -117,11 +117,9 @@ returns-10 c = rw (
 pub structure19-at-spec : {M : Type 1} → statement M
 structure19-at-spec =
     tie.close (tie.spec
-    (λ c κs. search needs) (λ c. search needs) (λ c. search needs) returns (λ c κs. search needs)
-    (λ c. search needs) (λ c. search needs) returns-2 (λ c κs. search needs) (λ c. search needs)
-    (λ c. search needs) returns-3 (λ c κs. search needs) (λ c. search needs) (λ c. search needs)
-    returns-4 (λ c κs. search needs) (λ c. search needs) (λ c. search needs) returns-5
-    (λ c κs. search needs) (λ c. search needs) (λ c. search needs) returns-6 (λ c κs. search needs)
-    (λ c. search needs) (λ c. search needs) (λ c κs. search needs) (λ c. search needs)
-    (λ c. search needs) returns-7 (λ c κs. search needs) (λ c. search needs) (λ c. search needs)
-    returns-8 returns-9 returns-10)
+    (λ c κs. search needs) (λ c. search needs) (λ c. search needs) returns (λ c κs. search needs) (λ c. search needs) (λ c. search needs)
+    returns-2 (λ c κs. search needs) (λ c. search needs) (λ c. search needs) returns-3 (λ c κs. search needs) (λ c. search needs)
+    (λ c. search needs) returns-4 (λ c κs. search needs) (λ c. search needs) (λ c. search needs) returns-5 (λ c κs. search needs)
+    (λ c. search needs) (λ c. search needs) returns-6 (λ c κs. search needs) (λ c. search needs) (λ c. search needs) (λ c κs. search needs)
+    (λ c. search needs) (λ c. search needs) returns-7 (λ c κs. search needs) (λ c. search needs) (λ c. search needs) returns-8 returns-9
+    returns-10)

@@ -21,5 +21,4 @@ returns-2 c = rw (
 pub structure-at-spec : {M : Type 1} → statement M
 structure-at-spec =
     tie.close (tie.spec
-    (λ c κs. search needs) (λ c. search needs) (λ c. search needs) (λ c κs. search needs) returns
-    returns-2)
+    (λ c κs. search needs) (λ c. search needs) (λ c. search needs) (λ c κs. search needs) returns returns-2)

@@ -270,10 +270,8 @@ returns-18 c = rw (
 pub type-data-spec : {M : Type 1} → statement M
 type-data-spec =
     tie.close (tie.spec
-    (λ c κs. search needs) (λ c. search needs) (λ c. search needs) returns (λ c κs. search needs)
-    returns-2 (λ c κs. search needs) returns-3 (λ c κs. search needs) returns-4 (λ c κs. search needs)
-    returns-5 (λ c κs. search needs) returns-6 (λ c κs. search needs) returns-7 (λ c κs. search needs)
-    returns-8 (λ c κs. search needs) returns-9 (λ c κs. search needs) returns-10 (λ c κs. search needs)
-    returns-11 (λ c κs. search needs) returns-12 (λ c κs. search needs) returns-13
-    (λ c κs. search needs) returns-14 (λ c κs. search needs) returns-15 returns-16 returns-17
-    returns-18)
+    (λ c κs. search needs) (λ c. search needs) (λ c. search needs) returns (λ c κs. search needs) returns-2 (λ c κs. search needs) returns-3
+    (λ c κs. search needs) returns-4 (λ c κs. search needs) returns-5 (λ c κs. search needs) returns-6 (λ c κs. search needs) returns-7
+    (λ c κs. search needs) returns-8 (λ c κs. search needs) returns-9 (λ c κs. search needs) returns-10 (λ c κs. search needs) returns-11
+    (λ c κs. search needs) returns-12 (λ c κs. search needs) returns-13 (λ c κs. search needs) returns-14 (λ c κs. search needs) returns-15
+    returns-16 returns-17 returns-18)

@@ -4,7 +4,7 @@ use Rattle.answer.specs.Tables.{find}
 use Rattle.record_layout.specs.Layouts.{leafOf, readLeaf, idLeaves}
 use Rattle.record_layout.specs.Fields.{readFields, readField}
 use Rattle.field.specs.Fields.{said32}
-use Rattle.field_text.specs.Texts.{saidAfter}
+use Rattle.field.specs.Runs.{saidAfter}
 use Rattle.answer.proofs.Told.{told}
 use Rattle.record_id.proofs.string_list_at.Statement.{statement}
 use Rattle.record_id.proofs.string_list_at.Tie as tie
@@ -30,6 +30,5 @@ returns-3 c = rw (
 pub string-list-at-spec : {M : Type 1} → statement M
 string-list-at-spec =
     tie.close (tie.spec
-    (λ c κs. search needs) (λ c. search needs) (λ c. search needs) returns (λ c. search needs)
-    (λ c. search needs) (λ c κs. search needs) (λ c. search needs) (λ c. search needs) returns-2
-    returns-3)
+    (λ c κs. search needs) (λ c. search needs) (λ c. search needs) returns (λ c. search needs) (λ c. search needs) (λ c κs. search needs)
+    (λ c. search needs) (λ c. search needs) returns-2 returns-3)

@@ -3,7 +3,7 @@ use borrow.Author.Needs.{needs}
 use Rattle.record_list.specs.Lists.{countedBy}
 use Rattle.record_layout.specs.Fields.{readFields, readField}
 use Rattle.field.specs.Fields.{said16}
-use Rattle.field_text.specs.Texts.{saidAfter}
+use Rattle.field.specs.Runs.{saidAfter}
 use Rattle.answer.proofs.Told.{told}
 use Rattle.record_list.proofs.counted16_at.Statement.{statement}
 use Rattle.record_list.proofs.counted16_at.Tie as tie
@@ -29,6 +29,5 @@ returns-3 c = rw (
 pub counted16-at-spec : {M : Type 1} → statement M
 counted16-at-spec =
     tie.close (tie.spec
-    (λ c κs. search needs) (λ c. search needs) (λ c. search needs) returns (λ c. search needs)
-    (λ c. search needs) (λ c κs. search needs) (λ c. search needs) (λ c. search needs) returns-2
-    (λ c. search needs) returns-3)
+    (λ c κs. search needs) (λ c. search needs) (λ c. search needs) returns (λ c. search needs) (λ c. search needs) (λ c κs. search needs)
+    (λ c. search needs) (λ c. search needs) returns-2 (λ c. search needs) returns-3)

@@ -45,7 +45,6 @@ returns-3 c =
 
 pub element-from-spec : {M : Type 1} → statement M
 element-from-spec =
-    tie.close
-    (tie.spec Inv-loop μ-loop loop-holds
-    (λ c κs. search needs) (λ c. search needs) returns (λ c. search needs) (λ c. search needs) (λ c. search needs) loop-again
-    (λ c κs. search needs) (λ c. search needs) (λ c. search needs) returns-2 returns-3)
+    tie.close (tie.spec
+    Inv-loop μ-loop loop-holds (λ c κs. search needs) (λ c. search needs) returns (λ c. search needs) (λ c. search needs) (λ c. search needs)
+    loop-again (λ c κs. search needs) (λ c. search needs) (λ c. search needs) returns-2 returns-3)

@@ -29,5 +29,4 @@ returns-3 c = rw (
 pub id-step-spec : {M : Type 1} → statement M
 id-step-spec =
     tie.close (tie.spec
-    returns (λ c κs. search needs) (λ c. search needs) (λ c. search needs) returns-2 (λ c. search needs)
-    returns-3)
+    returns (λ c κs. search needs) (λ c. search needs) (λ c. search needs) returns-2 (λ c. search needs) returns-3)

@@ -27,6 +27,4 @@ returns-3 c = rw (
 )
 
 pub method-step-spec : {M : Type 1} → statement M
-method-step-spec =
-    tie.close (tie.spec
-    returns (λ c κs. search needs) (λ c. search needs) (λ c. search needs) returns-2 returns-3)
+method-step-spec = tie.close (tie.spec returns (λ c κs. search needs) (λ c. search needs) (λ c. search needs) returns-2 returns-3)

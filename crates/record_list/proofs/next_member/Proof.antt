@@ -1,7 +1,7 @@
 -- `record_list::next_member` meets its contract: at each return its definition computes by the tests passed and by what the readers so far have said. Assumes nothing.
 use borrow.Author.Needs.{needs}
 use Rattle.record_list.specs.Lists.{nextMember}
-use Rattle.field_text.specs.Texts.{saidAfter}
+use Rattle.field.specs.Runs.{saidAfter}
 use Rattle.answer.proofs.Told.{told}
 use borrow.Author.Tests.{eq-eqb, ne-eqb}
 use Rattle.record_list.proofs.next_member.Statement.{statement}
@@ -37,5 +37,5 @@ returns-4 c = rw (
 pub next-member-spec : {M : Type 1} → statement M
 next-member-spec =
     tie.close (tie.spec
-    returns (λ c κs. search needs) (λ c. search needs) (λ c. search needs) returns-2
-    (λ c κs. search needs) returns-3 (λ c κs. search needs) returns-4)
+    returns (λ c κs. search needs) (λ c. search needs) (λ c. search needs) returns-2 (λ c κs. search needs) returns-3 (λ c κs. search needs)
+    returns-4)

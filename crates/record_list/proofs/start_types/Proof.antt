@@ -49,5 +49,4 @@ returns-5 c = rw (
 pub start-types-spec : {M : Type 1} → statement M
 start-types-spec =
     tie.close (tie.spec
-    (λ c κs. search needs) (λ c. search needs) (λ c. search needs) returns (λ c κs. search needs)
-    returns-2 returns-3 returns-4 returns-5)
+    (λ c κs. search needs) (λ c. search needs) (λ c. search needs) returns (λ c κs. search needs) returns-2 returns-3 returns-4 returns-5)

@@ -29,5 +29,4 @@ returns-3 c = rw (
 pub type-step-spec : {M : Type 1} → statement M
 type-step-spec =
     tie.close (tie.spec
-    returns (λ c κs. search needs) (λ c. search needs) (λ c. search needs) returns-2 (λ c. search needs)
-    returns-3)
+    returns (λ c κs. search needs) (λ c. search needs) (λ c. search needs) returns-2 (λ c. search needs) returns-3)

@@ -164,8 +164,7 @@ returns-13 c = rw (
 pub member-at-spec : {M : Type 1} → statement M
 member-at-spec =
     tie.close (tie.spec
-    (λ c κs. search needs) (λ c. search needs) (λ c. search needs) returns (λ c κs. search needs)
-    returns-2 (λ c κs. search needs) returns-3 (λ c κs. search needs) returns-4 (λ c κs. search needs)
-    returns-5 (λ c κs. search needs) returns-6 (λ c κs. search needs) returns-7 (λ c κs. search needs)
-    returns-8 (λ c κs. search needs) returns-9 (λ c κs. search needs) returns-10 (λ c κs. search needs)
-    returns-11 (λ c κs. search needs) returns-12 returns-13)
+    (λ c κs. search needs) (λ c. search needs) (λ c. search needs) returns (λ c κs. search needs) returns-2 (λ c κs. search needs) returns-3
+    (λ c κs. search needs) returns-4 (λ c κs. search needs) returns-5 (λ c κs. search needs) returns-6 (λ c κs. search needs) returns-7
+    (λ c κs. search needs) returns-8 (λ c κs. search needs) returns-9 (λ c κs. search needs) returns-10 (λ c κs. search needs) returns-11
+    (λ c κs. search needs) returns-12 returns-13)

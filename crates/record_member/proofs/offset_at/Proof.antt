@@ -28,5 +28,4 @@ returns-3 c = rw (sym (c .before .is-intro-virtual .ensures) ∙ c .if1 .left)
 pub offset-at-spec : {M : Type 1} → statement M
 offset-at-spec =
     tie.close (tie.spec
-    (λ c κs. search needs) (λ c κs. search needs) (λ c. search needs) (λ c. search needs) returns
-    returns-2 returns-3)
+    (λ c κs. search needs) (λ c κs. search needs) (λ c. search needs) (λ c. search needs) returns returns-2 returns-3)

@@ -12,6 +12,4 @@ returns-2 : tie.Need-returns-2
 returns-2 c = rw (told saidPrimitive (c .before .before .before .primitive .ensures) (c .before .e .given .1))
 
 pub numbered-spec : {M : Type 1} → statement M
-numbered-spec =
-    tie.close (tie.spec
-    (λ c κs. search needs) (λ c. search needs) (λ c. search needs) returns returns-2)
+numbered-spec = tie.close (tie.spec (λ c κs. search needs) (λ c. search needs) (λ c. search needs) returns returns-2)

@@ -14,6 +14,4 @@ unfolding typeMarker
 returns-2 c = rw (le-ltb _ _ (c .if1 .left))
 
 pub type-marker-spec : {M : Type 1} → statement M
-type-marker-spec =
-    tie.close (tie.spec
-    (λ c κs. search needs) returns returns-2)
+type-marker-spec = tie.close (tie.spec (λ c κs. search needs) returns returns-2)

@@ -17,5 +17,4 @@ returns-2 c = rw (told saidStart (c .before .before .before .before .start .ensu
 pub nth-spec : {M : Type 1} → statement M
 nth-spec =
     tie.close (tie.spec
-    (λ c κs. search needs) (λ c. search needs) (λ c. search needs) (λ c κs. search needs) returns
-    returns-2)
+    (λ c κs. search needs) (λ c. search needs) (λ c. search needs) (λ c κs. search needs) returns returns-2)

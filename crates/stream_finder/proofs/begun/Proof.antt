@@ -16,6 +16,4 @@ returns-3 : tie.Need-returns-3
 returns-3 c = leaves _ _ _ _ _ (begun-some _ _ _ (omega arith) (omega arith)) refl refl
 
 pub begun-spec : {M : Type 1} → statement M
-begun-spec =
-    tie.close (tie.spec
-    returns returns-2 (λ c. search needs) (λ c. search needs) returns-3)
+begun-spec = tie.close (tie.spec returns returns-2 (λ c. search needs) (λ c. search needs) returns-3)

@@ -33,5 +33,5 @@ returns-6 c =
 pub update-spec : {M : Type 1} → statement M
 update-spec =
     tie.close (tie.spec
-    returns returns-2 returns-3 (λ c. search needs) (λ c. search needs) returns-4 returns-5 (λ c. search needs) (λ c. search needs) (λ c. search needs)
-    (λ c. search needs) (λ c. search needs) returns-6)
+    returns returns-2 returns-3 (λ c. search needs) (λ c. search needs) returns-4 returns-5 (λ c. search needs) (λ c. search needs)
+    (λ c. search needs) (λ c. search needs) (λ c. search needs) returns-6)

@@ -2,7 +2,7 @@
 use borrow.Author.Needs.{needs}
 use native.Mathlib.Omega.{arith}
 use Prim.Native.Nat.{_+_}
-use Rattle.field.proofs.FieldLaws.{le-one, halves}
+use Rattle.field.proofs.FieldLaws.{little-one, halves}
 use Rattle.stream_item.proofs.length_at.Statement.{statement}
 use Rattle.stream_item.proofs.length_at.Tie as tie
 
@@ -19,8 +19,9 @@ add-result-2 : tie.Need-add-result-2
 add-result-2 c = omega (arith, c .before .shared-slice-known .given (c .before .before .args .p), c .shared-slice-known2 .given (c .before .before .args .p + 1))
 
 returns : tie.Need-returns
-returns c = (halves 1 _ _ _ _ (le-one _ _) (le-one _ _), omega (arith, c .before .shared-slice-known .given (c .before .before .args .p), c .shared-slice-known2 .given (c .before .before .args .p + 1)))
+returns c = (halves 1 _ _ _ _ (little-one _ _) (little-one _ _), omega (arith, c .before .shared-slice-known .given (c .before .before .args .p), c .shared-slice-known2 .given (c .before .before .args .p + 1)))
 
 pub length-at-spec : {M : Type 1} → statement M
 length-at-spec =
-    tie.close (tie.spec (λ c. search needs) cast-result (λ c. search needs) (λ c. search needs) cast-result-2 mul-result add-result-2 returns)
+    tie.close (tie.spec
+    (λ c. search needs) cast-result (λ c. search needs) (λ c. search needs) cast-result-2 mul-result add-result-2 returns)

@@ -16,6 +16,4 @@ returns-3 : tie.Need-returns-3
 returns-3 c = sym (part-there _ _ _ (omega arith))
 
 pub inside-spec : {M : Type 1} → statement M
-inside-spec =
-    tie.close (tie.spec
-    returns (λ c. search needs) returns-2 returns-3)
+inside-spec = tie.close (tie.spec returns (λ c. search needs) returns-2 returns-3)

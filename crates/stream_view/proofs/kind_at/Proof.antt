@@ -19,6 +19,4 @@ returns-4 : tie.Need-returns-4
 returns-4 c = rw (c .u16-or-zero .ensures) (sym (kind-there _ _ _ (omega arith) (omega arith)))
 
 pub kind-at-spec : {M : Type 1} → statement M
-kind-at-spec =
-    tie.close (tie.spec
-    returns (λ c. search needs) returns-2 returns-3 (λ c κs. search needs) returns-4)
+kind-at-spec = tie.close (tie.spec returns (λ c. search needs) returns-2 returns-3 (λ c κs. search needs) returns-4)

@@ -26,5 +26,5 @@ returns-5 c = simp (le-ltb _ _ (c .before .before .before .if1 .left), le-ltb _ 
 pub raw-kind-spec : {M : Type 1} → statement M
 raw-kind-spec =
     tie.close (tie.spec
-    returns returns-2 (λ c. search needs) (λ c. search needs) (λ c κs. search needs) (λ c. search needs) (λ c κs. search needs) (λ c. search needs)
-    returns-3 returns-4 returns-5)
+    returns returns-2 (λ c. search needs) (λ c. search needs) (λ c κs. search needs) (λ c. search needs) (λ c κs. search needs)
+    (λ c. search needs) returns-3 returns-4 returns-5)

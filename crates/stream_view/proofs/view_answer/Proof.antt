@@ -28,5 +28,5 @@ returns-5 c =
 pub view-answer-spec : {M : Type 1} → statement M
 view-answer-spec =
     tie.close (tie.spec
-    returns returns-2 (λ c. search needs) (λ c. search needs) (λ c κs. search needs) (λ c. search needs) (λ c κs. search needs) (λ c. search needs)
-    (λ c κs. search needs) returns-3 returns-4 returns-5)
+    returns returns-2 (λ c. search needs) (λ c. search needs) (λ c κs. search needs) (λ c. search needs) (λ c κs. search needs)
+    (λ c. search needs) (λ c κs. search needs) returns-3 returns-4 returns-5)

@@ -22,5 +22,4 @@ returns-2 c = rw (
 pub i8-at-spec : {M : Type 1} → statement M
 i8-at-spec =
     tie.close (tie.spec
-    (λ c κs. search needs) (λ c. search needs) (λ c. search needs) returns (λ c κs. search needs)
-    returns-2)
+    (λ c κs. search needs) (λ c. search needs) (λ c. search needs) returns (λ c κs. search needs) returns-2)

@@ -7,18 +7,6 @@ use Rattle.field.proofs.SignLaws.{high-fits, high-is}
 use Rattle.field.proofs.fixed.signed8.Statement.{statement}
 use Rattle.field.proofs.fixed.signed8.Tie as tie
 
-cast-result : tie.Need-cast-result
-cast-result c = search needs
-
-returns : tie.Need-returns
-returns c = search needs
-
-sub-result : tie.Need-sub-result
-sub-result c = search needs
-
-cast-result-2 : tie.Need-cast-result-2
-cast-result-2 c = search needs
-
 sub-result-2 : tie.Need-sub-result-2
 sub-result-2 c = high-fits w8 (255 - c .before .args .x) (omega arith) (omega arith)
 
@@ -27,4 +15,5 @@ returns-2 c = high-is w8 (255 - c .before .args .x) (omega arith) (omega arith) 
 
 pub signed8-spec : {M : Type 1} → statement M
 signed8-spec =
-    tie.close (tie.spec cast-result returns sub-result cast-result-2 sub-result-2 returns-2)
+    tie.close (tie.spec
+    (λ c. search needs) (λ c. search needs) (λ c. search needs) (λ c. search needs) sub-result-2 returns-2)

@@ -8,20 +8,11 @@ use Rattle.field.proofs.fixed.u16_at.Tie as tie
 returns : tie.Need-returns
 returns c = field-ended 2 _ _ (omega arith)
 
-sub-if2 : tie.Need-sub-if2
-sub-if2 c = search needs
-
 returns-2 : tie.Need-returns-2
 returns-2 c = field-ended 2 _ _ (omega arith)
-
-le16-requires : tie.Need-le16-requires
-le16-requires c κs = search needs
-
-add-t3 : tie.Need-add-t3
-add-t3 c = search needs
 
 returns-3 : tie.Need-returns-3
 returns-3 c = field-there 2 _ _ _ (omega arith) (c .le16 .ensures)
 
 pub u16-at-spec : {M : Type 1} → statement M
-u16-at-spec = tie.close (tie.spec returns sub-if2 returns-2 le16-requires add-t3 returns-3)
+u16-at-spec = tie.close (tie.spec returns (λ c. search needs) returns-2 (λ c κs. search needs) (λ c. search needs) returns-3)

@@ -8,20 +8,11 @@ use Rattle.field.proofs.fixed.u8_at.Tie as tie
 returns : tie.Need-returns
 returns c = field-ended 1 _ _ (omega arith)
 
-sub-if2 : tie.Need-sub-if2
-sub-if2 c = search needs
-
 returns-2 : tie.Need-returns-2
 returns-2 c = field-ended 1 _ _ (omega arith)
-
-le8-requires : tie.Need-le8-requires
-le8-requires c κs = search needs
-
-add-t3 : tie.Need-add-t3
-add-t3 c = search needs
 
 returns-3 : tie.Need-returns-3
 returns-3 c = field-there 1 _ _ _ (omega arith) (c .le8 .ensures)
 
 pub u8-at-spec : {M : Type 1} → statement M
-u8-at-spec = tie.close (tie.spec returns sub-if2 returns-2 le8-requires add-t3 returns-3)
+u8-at-spec = tie.close (tie.spec returns (λ c. search needs) returns-2 (λ c κs. search needs) (λ c. search needs) returns-3)

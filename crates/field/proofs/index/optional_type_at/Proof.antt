@@ -20,5 +20,4 @@ returns-2 c = rw (
 pub optional-type-at-spec : {M : Type 1} → statement M
 optional-type-at-spec =
     tie.close (tie.spec
-    (λ c κs. search needs) (λ c. search needs) (λ c. search needs) returns (λ c κs. search needs)
-    returns-2)
+    (λ c κs. search needs) (λ c. search needs) (λ c. search needs) returns (λ c κs. search needs) returns-2)

@@ -12,6 +12,4 @@ returns-2 : tie.Need-returns-2
 returns-2 c = rw (told said32 (c .before .before .before .u32-at .ensures) (c .before .n .given .1))
 
 pub string-ref-at-spec : {M : Type 1} → statement M
-string-ref-at-spec =
-    tie.close (tie.spec
-    (λ c κs. search needs) (λ c. search needs) (λ c. search needs) returns returns-2)
+string-ref-at-spec = tie.close (tie.spec (λ c κs. search needs) (λ c. search needs) (λ c. search needs) returns returns-2)

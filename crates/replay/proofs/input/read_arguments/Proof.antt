@@ -10,33 +10,7 @@ Inv-loop buffer₀ shape first₀ second₀ places₀ numbers₀ a₀ left₀ bu
 abbrev μ-loop : tie.MeasureT-loop
 μ-loop buffer₀ shape first₀ second₀ places₀ numbers₀ a₀ left₀ buffer first second places numbers a left = left
 
-loop-holds : tie.Need-loop-holds Inv-loop μ-loop
-loop-holds c = search needs
-
-cast-argument : tie.Need-cast-argument Inv-loop μ-loop
-cast-argument c = search needs
-
-argument-requires : tie.Need-argument-requires Inv-loop μ-loop
-argument-requires c κs = search needs
-
-loop-less : tie.Need-loop-less Inv-loop μ-loop
-loop-less c = search needs
-
-loop-again : tie.Need-loop-again Inv-loop μ-loop
-loop-again c = search needs
-
-returns : tie.Need-returns Inv-loop μ-loop
-returns c = search needs
-
 pub read-arguments-spec : {M : Type 1} → statement M
 read-arguments-spec =
-    tie.close
-    (tie.spec
-    Inv-loop
-    μ-loop
-    loop-holds
-    cast-argument
-    argument-requires
-    loop-less
-    loop-again
-    returns)
+    tie.close (tie.spec
+    Inv-loop μ-loop (λ c. search needs) (λ c. search needs) (λ c κs. search needs) (λ c. search needs) (λ c. search needs) (λ c. search needs))

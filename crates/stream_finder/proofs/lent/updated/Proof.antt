@@ -11,4 +11,6 @@ returns-2 : tie.Need-returns-2
 returns-2 c = changes-refused _ _ _ _ (c .before .before .before .before .before .update .ensures) _ (c .before .e .given .1)
 
 pub updated-spec : {M : Type 1} → statement M
-updated-spec = tie.close (tie.spec (λ c κs. search needs) (λ c. search needs) (λ c. search needs) (λ c. search needs) returns (λ c. search needs) returns-2)
+updated-spec =
+    tie.close (tie.spec
+    (λ c κs. search needs) (λ c. search needs) (λ c. search needs) (λ c. search needs) returns (λ c. search needs) returns-2)

@@ -36,4 +36,7 @@ returns-9 : tie.Need-returns-9
 returns-9 c = rw (c .fields .ensures) (sym (header-whole _ (omega arith) (omega arith) (omega arith)))
 
 pub parse-spec : {M : Type 1} → statement M
-parse-spec = tie.close (tie.spec returns (λ c κs. search needs) returns-2 returns-3 (λ c κs. search needs) returns-4 returns-5 (λ c. search needs) returns-6 (λ c κs. search needs) returns-7 (λ c κs. search needs) returns-8 (λ c κs. search needs) returns-9)
+parse-spec =
+    tie.close (tie.spec
+    returns (λ c κs. search needs) returns-2 returns-3 (λ c κs. search needs) returns-4 returns-5 (λ c. search needs) returns-6
+    (λ c κs. search needs) returns-7 (λ c κs. search needs) returns-8 (λ c κs. search needs) returns-9)

@@ -7,6 +7,4 @@ returns : tie.Need-returns
 returns c = rw (c .len .ensures)
 
 pub is-empty-spec : {M : Type 1} → statement M
-is-empty-spec =
-    tie.close (tie.spec
-    (λ c κs. search needs) returns)
+is-empty-spec = tie.close (tie.spec (λ c κs. search needs) returns)

@@ -10,6 +10,4 @@ returns-2 : tie.Need-returns-2
 returns-2 c = rw (c .enum-told2 .given .1)
 
 pub index-spec : {M : Type 1} → statement M
-index-spec =
-    tie.close (tie.spec
-    (λ c. search needs) (λ c. search needs) returns returns-2)
+index-spec = tie.close (tie.spec (λ c. search needs) (λ c. search needs) returns returns-2)

@@ -15,6 +15,4 @@ unfolding iterOf
 returns-2 c = rw (told saidHeader (c .before .before .before .parse .ensures) (c .before .e .given .1))
 
 pub iter-spec : {M : Type 1} → statement M
-iter-spec =
-    tie.close (tie.spec
-    (λ c κs. search needs) (λ c. search needs) (λ c. search needs) (λ c. search needs) returns returns-2)
+iter-spec = tie.close (tie.spec (λ c κs. search needs) (λ c. search needs) (λ c. search needs) (λ c. search needs) returns returns-2)

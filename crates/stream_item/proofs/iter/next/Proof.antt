@@ -41,5 +41,5 @@ returns-8 c =
 pub next-spec : {M : Type 1} → statement M
 next-spec =
     tie.close (tie.spec
-    returns returns-2 (λ c. search needs) returns-3 returns-4 (λ c κs. search needs) returns-5 (λ c. search needs) (λ c. search needs) returns-6 returns-7
-    (λ c κs. search needs) returns-8)
+    returns returns-2 (λ c. search needs) returns-3 returns-4 (λ c κs. search needs) returns-5 (λ c. search needs) (λ c. search needs) returns-6
+    returns-7 (λ c κs. search needs) returns-8)

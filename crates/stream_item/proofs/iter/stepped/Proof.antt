@@ -7,6 +7,4 @@ returns : tie.Need-returns
 returns c = rw (c .index .ensures)
 
 pub stepped-spec : {M : Type 1} → statement M
-stepped-spec =
-    tie.close (tie.spec
-    (λ c. search needs) (λ c κs. search needs) (λ c. search needs) (λ c. search needs) returns)
+stepped-spec = tie.close (tie.spec (λ c. search needs) (λ c κs. search needs) (λ c. search needs) (λ c. search needs) returns)

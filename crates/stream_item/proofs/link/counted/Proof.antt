@@ -54,5 +54,5 @@ returns-3 c =
 pub counted-spec : {M : Type 1} → statement M
 counted-spec =
     tie.close (tie.spec
-    Inv-loop μ-loop loop-holds (λ c κs. search needs) (λ c. search needs) add-at (λ c. search needs) (λ c. search needs) loop-again (λ c. search needs)
-    returns (λ c κs. search needs) (λ c. search needs) (λ c. search needs) returns-2 returns-3)
+    Inv-loop μ-loop loop-holds (λ c κs. search needs) (λ c. search needs) add-at (λ c. search needs) (λ c. search needs) loop-again
+    (λ c. search needs) returns (λ c κs. search needs) (λ c. search needs) (λ c. search needs) returns-2 returns-3)

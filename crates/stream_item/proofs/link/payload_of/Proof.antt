@@ -9,18 +9,12 @@ use Rattle.stream_item.specs.Led.{Led}
 use Rattle.stream_item.proofs.LinkLaws.{chain-none, led-on}
 use Rattle.stream_item.proofs.link.payload_of.Statement.{statement}
 use Rattle.stream_item.proofs.link.payload_of.Tie as tie
-use Rattle.stream_item.proofs.link.payload_of.Reads as reads
-use Rattle.stream_item.proofs.link.payload_of.Lts as lts
-use Rattle.stream_item.proofs.length_at.Reads as length-at-reads
 
 abbrev Inv-loop : tie.InvT-loop
 Inv-loop s p k q₀ i₀ q i = (i ≤ k) × Led s p i q
 
 abbrev μ-loop : tie.MeasureT-loop
 μ-loop s p k q₀ i₀ q i = k - i
-
-add-q : tie.Need-add-q Inv-loop μ-loop
-add-q c = omega arith
 
 loop-holds : tie.Need-loop-holds Inv-loop μ-loop
 loop-holds c = (
@@ -30,24 +24,6 @@ loop-holds c = (
 
 returns : tie.Need-returns Inv-loop μ-loop
 returns c = record { low = omega arith; high = omega arith; came = λ h. absurd (omega arith) }
-
-add-q-2 : tie.Need-add-q-2 Inv-loop μ-loop
-add-q-2 c = omega arith
-
-sub-length-at : tie.Need-sub-length-at Inv-loop μ-loop
-sub-length-at c = omega arith
-
-length-at-requires : tie.Need-length-at-requires Inv-loop μ-loop
-length-at-requires c κs = omega arith
-
-add-q-3 : tie.Need-add-q-3 Inv-loop μ-loop
-add-q-3 c = omega arith
-
-add-i : tie.Need-add-i Inv-loop μ-loop
-add-i c = omega arith
-
-loop-less : tie.Need-loop-less Inv-loop μ-loop
-loop-less c = omega arith
 
 loop-again : tie.Need-loop-again Inv-loop μ-loop
 loop-again c =
@@ -69,18 +45,6 @@ returns-2 c =
 
 pub payload-of-spec : {M : Type 1} → statement M
 payload-of-spec =
-    tie.close
-    (tie.spec
-    Inv-loop
-    μ-loop
-    add-q
-    loop-holds
-    returns
-    add-q-2
-    sub-length-at
-    length-at-requires
-    add-q-3
-    add-i
-    loop-less
-    loop-again
-    returns-2)
+    tie.close (tie.spec
+    Inv-loop μ-loop (λ c. omega arith) loop-holds returns (λ c. omega arith) (λ c. omega arith) (λ c κs. omega arith) (λ c. omega arith)
+    (λ c. omega arith) (λ c. omega arith) loop-again returns-2)

@@ -10,19 +10,8 @@ use Rattle.word_attributes.proofs.PointerAttributes.pointer_kind.Tie as
 pub pointer-kind-spec : {M : Type 1} → statement M
 unfolding kindOf find pointerKinds
 pointer-kind-spec =
-    tie.close
-    (tie.spec
-    (λ c. simp (c .match .keys1))
-    (λ c. simp (c .match .keys2))
-    (λ c. simp (c .match .keys3))
-    (λ c. simp (c .match .keys4))
-    (λ c. simp (c .match .keys5))
-    (λ c. simp (c .match .keys6))
-    (λ c. simp (c .match .keys7))
-    (λ c. simp (c .match .keys8))
-    (λ c. simp (c .match .keys9))
-    (λ c. simp (c .match .keys10))
-    (λ c. simp (c .match .keys11))
-    (λ c. simp (c .match .keys12))
-    (λ c. simp (c .match .keys13))
-    (λ c. ap good (missed pointerKinds _ (c .match .rest))))
+    tie.close (tie.spec
+    (λ c. simp (c .match .keys1)) (λ c. simp (c .match .keys2)) (λ c. simp (c .match .keys3)) (λ c. simp (c .match .keys4))
+    (λ c. simp (c .match .keys5)) (λ c. simp (c .match .keys6)) (λ c. simp (c .match .keys7)) (λ c. simp (c .match .keys8))
+    (λ c. simp (c .match .keys9)) (λ c. simp (c .match .keys10)) (λ c. simp (c .match .keys11)) (λ c. simp (c .match .keys12))
+    (λ c. simp (c .match .keys13)) (λ c. ap good (missed pointerKinds _ (c .match .rest))))

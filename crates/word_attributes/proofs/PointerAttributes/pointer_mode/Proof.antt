@@ -10,11 +10,6 @@ use Rattle.word_attributes.proofs.PointerAttributes.pointer_mode.Tie as
 pub pointer-mode-spec : {M : Type 1} → statement M
 unfolding modeOf find pointerModes
 pointer-mode-spec =
-    tie.close
-    (tie.spec
-    (λ c. simp (c .match .keys1))
-    (λ c. simp (c .match .keys2))
-    (λ c. simp (c .match .keys3))
-    (λ c. simp (c .match .keys4))
-    (λ c. simp (c .match .keys5))
-    (λ c. ap good (missed pointerModes _ (c .match .rest))))
+    tie.close (tie.spec
+    (λ c. simp (c .match .keys1)) (λ c. simp (c .match .keys2)) (λ c. simp (c .match .keys3)) (λ c. simp (c .match .keys4))
+    (λ c. simp (c .match .keys5)) (λ c. ap good (missed pointerModes _ (c .match .rest))))

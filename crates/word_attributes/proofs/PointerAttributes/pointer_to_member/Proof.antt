@@ -15,11 +15,5 @@ returns-2 c = simp (sym (c .before .before .before .pointer-mode .ensures), c .b
 
 pub pointer-to-member-spec : {M : Type 1} → statement M
 pointer-to-member-spec =
-    tie.close
-    (tie.spec
-    (λ c κs. search needs)
-    (λ c. search needs)
-    (λ c κs. search needs)
-    (λ c. search needs)
-    returns
-    returns-2)
+    tie.close (tie.spec
+    (λ c κs. search needs) (λ c. search needs) (λ c κs. search needs) (λ c. search needs) returns returns-2)

@@ -15,6 +15,4 @@ unfolding optionalOf among
 returns-2 c = rw (ne-eqb _ _ (c .if1 .left))
 
 pub optional-spec : {M : Type 1} → statement M
-optional-spec =
-    tie.close (tie.spec
-    returns returns-2)
+optional-spec = tie.close (tie.spec returns returns-2)

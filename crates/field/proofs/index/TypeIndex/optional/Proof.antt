@@ -25,6 +25,4 @@ returns-3 c = rw (
 )
 
 pub optional-spec : {M : Type 1} → statement M
-optional-spec =
-    tie.close (tie.spec
-    returns returns-2 returns-3)
+optional-spec = tie.close (tie.spec returns returns-2 returns-3)

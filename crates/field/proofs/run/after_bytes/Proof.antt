@@ -1,12 +1,12 @@
--- `field_text::after_bytes` meets its contract: the bytes are there, or they pass the end. Assumes nothing.
+-- `field::run::after_bytes` meets its contract: the bytes are there, or they pass the end. Assumes nothing.
 use Prim.Native.Nat.{_+_}
 use borrow.Author.Needs.{needs}
 use borrow.Author.Tests.{le-ltb, lt-ltb}
 use native.Mathlib.Omega.{arith}
 use lib.ListN.{length}
-use Rattle.field_text.specs.Texts.{bytesAfter}
-use Rattle.field_text.proofs.after_bytes.Statement.{statement}
-use Rattle.field_text.proofs.after_bytes.Tie as tie
+use Rattle.field.specs.Runs.{bytesAfter}
+use Rattle.field.proofs.run.after_bytes.Statement.{statement}
+use Rattle.field.proofs.run.after_bytes.Tie as tie
 
 returns : tie.Need-returns
 unfolding bytesAfter

@@ -1,4 +1,4 @@
--- `stream_index::walk_on` meets its contract: the loop's invariant is that so many turns lead from what came in to where the loop stands. Assumes nothing.
+-- `stream_index::index_on` meets its contract: the loop's invariant is that so many turns lead from what came in to where the loop stands. Assumes nothing.
 use borrow.Author.Needs.{needs}
 use native.Mathlib.Omega.{arith}
 use Prim.Native.Nat.{ℕ, _-_}
@@ -7,8 +7,8 @@ use lib.ListN.{length}
 use Rattle.stream_finder.specs.Finder.{state}
 use Rattle.stream_index.specs.Walk.{Turns, none}
 use Rattle.stream_index.proofs.WalkLaws.{leads-moved, leads-over, leads-refused, turn-further, turns-more, walks-to}
-use Rattle.stream_index.proofs.walk_on.Statement.{statement}
-use Rattle.stream_index.proofs.walk_on.Tie as tie
+use Rattle.stream_index.proofs.index_on.Statement.{statement}
+use Rattle.stream_index.proofs.index_on.Tie as tie
 
 abbrev Inv-loop : tie.InvT-loop
 Inv-loop s t₀ finder₀ cursor₀ t finder cursor =
@@ -42,8 +42,8 @@ returns-2 c =
     let u = leads-refused _ _ _ _ _ (c .before .before .before .before .before .turn .ensures) (c .before .e .given .1) in
     walks-to _ _ _ _ _ _ _ _ _ (l .inv .1 .1) (u .0) (u .1)
 
-pub walk-on-spec : {M : Type 1} → statement M
-walk-on-spec =
+pub index-on-spec : {M : Type 1} → statement M
+index-on-spec =
     tie.close (tie.spec
-    Inv-loop μ-loop loop-holds (λ c κs. search needs) (λ c. search needs) loop-less loop-again (λ c. search needs) (λ c. search needs) returns (λ c. search needs)
-    (λ c. search needs) returns-2)
+    Inv-loop μ-loop loop-holds (λ c κs. search needs) (λ c. search needs) loop-less loop-again (λ c. search needs) (λ c. search needs) returns
+    (λ c. search needs) (λ c. search needs) returns-2)

@@ -1,11 +1,11 @@
--- `stream_index::walk` meets its contract: the creation's answer, or a walk from what is fresh. Assumes nothing.
+-- `stream_index::index_all` meets its contract: the creation's answer, or a walk from what is fresh. Assumes nothing.
 use borrow.Author.Needs.{needs}
 use mathlib.Core.Path.{refl}
 use Rattle.answer.proofs.Told.{told}
 use Rattle.stream_item.specs.Iterator.{saidIter}
 use Rattle.stream_index.proofs.WalkLaws.{leaves-answered, leaves-refused, create-refused}
-use Rattle.stream_index.proofs.walk.Statement.{statement}
-use Rattle.stream_index.proofs.walk.Tie as tie
+use Rattle.stream_index.proofs.index_all.Statement.{statement}
+use Rattle.stream_index.proofs.index_all.Tie as tie
 
 returns : tie.Need-returns
 returns c = record {
@@ -13,7 +13,7 @@ returns c = record {
   created = leaves-answered _ _ _ _ _ (c .before .before .before .before .before .before .before .before .before .create .ensures) (c .before .before .before .before .before .f .given .1);
   first = _;
   begun = told saidIter (c .before .before .before .before .before .before .before .before .before .before .before .before .before .before .iter .ensures) (c .before .before .before .before .before .before .before .before .before .before .before .before .c .given .1);
-  walks = c .before .before .walk-on .ensures;
+  walks = c .before .before .index-on .ensures;
 }
 
 returns-2 : tie.Need-returns-2
@@ -22,8 +22,8 @@ returns-2 c = leaves-refused _ _ _ _ _ (c .before .before .before .before .befor
 returns-3 : tie.Need-returns-3
 returns-3 c = (create-refused _ _ _ _ _ _ (told saidIter (c .before .before .before .iter .ensures) (c .before .e2 .given .1)), refl)
 
-pub walk-spec : {M : Type 1} → statement M
-walk-spec =
+pub index-all-spec : {M : Type 1} → statement M
+index-all-spec =
     tie.close (tie.spec
     (λ c κs. search needs) (λ c. search needs) (λ c κs. search needs) (λ c. search needs) (λ c κs. search needs) (λ c. search needs)
     (λ c. search needs) (λ c. search needs) returns (λ c. search needs) returns-2 returns-3)
