@@ -1,3 +1,4 @@
+-- Written by tools/record_proof.py with tools/records.ini and tools/field_number.ini.
 -- `field_number::signed32_at` meets its contract: at each return the readers so far have said what its layout says. Assumes nothing.
 use borrow.Author.Needs.{needs}
 use Rattle.field.specs.Fields.{signedAt, said32}

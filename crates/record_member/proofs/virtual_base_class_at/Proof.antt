@@ -1,3 +1,4 @@
+-- Written by tools/record_proof.py with tools/records.ini and tools/record_member.ini.
 -- `record_member::virtual_base_class_at` meets its contract: at each return the readers so far have said what its layout says. Assumes nothing.
 use borrow.Author.Needs.{needs}
 use Rattle.record_layout.specs.Fields.{readFields, readField}

@@ -1,3 +1,4 @@
+-- Written by tools/record_proof.py with tools/record_parse.ini.
 -- `record_parse::type_marker` meets its contract: at each return the readers so far have said what its layout says. Assumes nothing.
 use borrow.Author.Needs.{needs}
 use Rattle.record_parse.specs.Record.{typeMarker}
