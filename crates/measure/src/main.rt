@@ -82,7 +82,7 @@ fn walk_from(s: &[u8], from: ItemIter) -> u64 {
 }
 
 fn walk_once(s: &[u8]) -> u64 {
-    match stream_item::iter::types(s) {
+    match stream_item::iter::iter(Stream::Types, s) {
         IterAnswer::Answered(c) => walk_from(s, c),
         IterAnswer::Refused(_) => 0,
     }
