@@ -24,20 +24,6 @@ pub by-then : {A B : Type 0} {l : Links} {ns : List ℕ} {m : Answer A} {f : A �
 by-then gives q = q _
 by-then (refuses p) q = refuses p
 
--- the same, where the whole goes on from what the part gives
-module _ {A B : Type 0} {l : Links} {ns : List ℕ} {g : A → Answer B} where
-  pub by-pick-then : (b : Bool) {x y : Answer A} → By l ns (then x g) → By l ns (then y g) → By l ns (then (pick b x y) g)
-  by-pick-then true p q = p
-  by-pick-then false p q = q
-
-  pub by-stop-then : (b : Bool) (n : ℕ) {x : Answer A} → fits l ns n [] ≡ true → By l ns (then x g) → By l ns (then (stop b n x) g)
-  by-stop-then true n p q = refuses p
-  by-stop-then false n p q = q
-
-  pub by-then-then : {C : Type 0} {m : Answer C} {f : C → Answer A} → By l ns m → ((c : C) → By l ns (then (f c) g)) → By l ns (then (then m f) g)
-  by-then-then gives q = q _
-  by-then-then (refuses p) q = refuses p
-
 -- these numbers are among those
 unfoldable pub within : List ℕ → List ℕ → Bool
 within [] ms = true

@@ -6,7 +6,7 @@ use mathlib.Core.List.{List, [], _∷_}
 use mathlib.Core.Option.{Option, none, some}
 use lib.ListN.{length, getD}
 use lib.Dec.{leb, ltb, eqb}
-use Rattle.answer.specs.Answer.{Answer, answered, refused, pick, stop, then}
+use Rattle.answer.specs.Answer.{Answer, answered, refused, pick, stop, Read, then, and-then}
 use Rattle.answer.specs.Tables.{Line, find, among}
 use Rattle.answer.specs.Refusals.{listed, detailCounts}
 use Rattle.field.specs.Fields.{littleAt, fixedAt}
@@ -35,13 +35,14 @@ use Rattle.stream_item.specs.declared.link.Hit.the-variants.{Landed, Missed}
 use Rattle.stream_finder.specs.Finder.{State, distance, begunBy, createOf, createBy, due, updateBy, updateOf, landed, maxIndexBy, lookBy, findOf}
 use Rattle.stream_index.specs.Walk.{Turn, updating, turnBy, turnOf}
 use Rattle.record_layout.specs.Fields.{Value, Field, id, run, types, ids, readFields}
+use Rattle.record_layout.specs.Values.{nth, numberIn as countIn, stringIn}
 use Rattle.record_layout.specs.Layouts.{T, count16, count32, Layout, typeLeaves, idLeaves, memberLeaves, method, readRecord, recordOf}
 use Rattle.field_text.specs.Texts.{Part}
-use Rattle.record_list.specs.Lists.{ElementValues, typeElement, idElement, Step, inCounted, countedBy, counted, startTypes, startIds, startOf, countedStep, methodStep, memberStep, nextMember, stepOf, elementBy, elementOf}
+use Rattle.record_list.specs.Lists.{ElementValues, typeElement, idElement, Step, stepTo, inCounted, countedBy, counted, startTypes, startIds, startOf, countedStep, methodStep, memberStep, nextMember, stepOf, elementBy, elementOf}
 use Rattle.record_list.specs.declared.ListCursor.{ListCursor}
 use Rattle.record_parse.specs.Record.{bytes, numberedOf, typeBytes, idBytes, typeItem, typeMarker, itemOf, markerOf, entryOf as parsedOf, parseOf}
 use Rattle.claim_promises.specs.ByTable.{elsewhere, Refuses, FindRefuses, fits, gives, refuses}
-use Rattle.claim_promises.proofs.ByTable.{by-pick, by-stop, by-then, by-pick-then, by-stop-then, by-then-then, within, wider}
+use Rattle.claim_promises.proofs.ByTable.{by-pick, by-stop, by-then, within, wider}
 use Rattle.claim_promises.proofs.ReadingRefuses.{fixed-refuses, padding-refuses, TakesAll, no-more, _&_, free, fields-refuse, read-record-refuses, record-refuses, type-takes, member-takes, method-takes, id-takes}
 
 -- Primitives: 8. Pointer words: 12
@@ -299,28 +300,79 @@ pub element-refuses : (tag : Stream) (s : List ℕ) (k : ℕ) → Refuses ofStep
 unfolding elementOf within among
 element-refuses tag s k = by-then (wider refl (start-refuses tag s)) (λ c. element-by-refuses s k c)
 
--- the lists of id records have no numeric leaf: never 11. A counted list goes on as the list that it is
-counted-elements-refuse : (s : List ℕ) (f : Field) (element : List (Value Part) → ElementValues) (leaf : ℕ)
-    → ((p left : ℕ) → stepOf s (inCounted leaf p left) ≡ countedStep f element leaf s p left) → TakesAll ofIdSteps (f ∷ [])
-    → (k p left : ℕ) → Refuses ofIdSteps (elementBy (stepOf s) k (inCounted leaf p left))
-unfolding elementBy countedStep fits among listed find detailCounts
-counted-elements-refuse s f element leaf goes h zero p left =
-    rw (goes p left) (by-then (counted-step-refuses f element leaf s p left h) (λ x. gives))
-counted-elements-refuse s f element leaf goes h (suc k) p left =
-    rw (goes p left) (by-stop-then (eqb left 0) 15 refl (by-then-then (fields-refuse _ (f ∷ []) 0 s p h) (λ g.
-    counted-elements-refuse s f element leaf goes h k (g .next) (left - 1))))
+-- The lists of id records have no numeric leaf: never 11. A counted list goes on as the list that it is
+data Stays (leaf : ℕ) : Answer Step → Type 0 where
+  stays : {e : ElementValues} {p n : ℕ} → Stays leaf (answered (record { element = e; next = inCounted leaf p n }))
+  ends : {n : ℕ} {d : List ℕ} → fits elsewhere ofIdSteps n d ≡ true → Stays leaf (refused n d)
+
+counted-stays : (f : Field) (element : List (Value Part) → ElementValues) (leaf : ℕ) (s : List ℕ) (p left : ℕ) → TakesAll ofIdSteps (f ∷ [])
+    → Stays leaf (countedStep f element leaf s p left)
+unfolding countedStep fits among listed find detailCounts
+counted-stays f element leaf s p left h = go (eqb left 0) (fields-refuse _ (f ∷ []) 0 s p h)
+  where
+    read : {a : Read (List (Value Part))} → Refuses ofIdSteps a → Stays leaf (and-then a (λ vs e. stepTo (element vs) (inCounted leaf e (left - 1))))
+    read gives = stays
+    read (refuses q) = ends q
+
+    go : (b : Bool) {a : Read (List (Value Part))} → Refuses ofIdSteps a → Stays leaf (stop b 15 (and-then a (λ vs e. stepTo (element vs) (inCounted leaf e (left - 1)))))
+    go true r = ends refl
+    go false r = read r
+
+-- element k, of a list whose steps are those of a counted list
+module _ (s : List ℕ) (f : Field) (element : List (Value Part) → ElementValues) (leaf : ℕ)
+    (goes : (p left : ℕ) → stepOf s (inCounted leaf p left) ≡ countedStep f element leaf s p left) (h : TakesAll ofIdSteps (f ∷ [])) where
+  counted-elements-refuse : (k p left : ℕ) → Refuses ofIdSteps (elementBy (stepOf s) k (inCounted leaf p left))
+  unfolding elementBy
+  counted-elements-refuse zero p left = rw (goes p left) (by-then (counted-step-refuses f element leaf s p left h) (λ x. gives))
+  counted-elements-refuse (suc k) p left = rw (goes p left) (go-on (counted-elements-refuse k) (counted-stays f element leaf s p left h))
+    where
+      go-on : ((q n : ℕ) → Refuses ofIdSteps (elementBy (stepOf s) k (inCounted leaf q n)))
+          → {a : Answer Step} → Stays leaf a → Refuses ofIdSteps (then a (λ x. elementBy (stepOf s) k (x .next)))
+      go-on later stays = later _ _
+      go-on later (ends q) = refuses q
+
+data Started : Answer ListCursor → Type 0 where
+  of-ids : {p n : ℕ} → Started (answered (inCounted 0x1603 p n))
+  of-types : {p n : ℕ} → Started (answered (inCounted 0x1604 p n))
+  nowhere : {n : ℕ} {d : List ℕ} → fits elsewhere ofIdSteps n d ≡ true → Started (refused n d)
+
+started : (s : List ℕ) → Started (startIds s)
+unfolding startIds counted countedBy idLeaves fits within among listed find detailCounts
+started s = leaf-read (wider refl (fixed-refuses 2 s 0))
+  where
+    ids-read : {a : Read (List (Value Part))} → Refuses ofIdSteps a
+        → Started (and-then a (λ vs e. answered (inCounted 0x1603 (stringIn (nth 1 vs) .place) (countIn (nth 0 vs)))))
+    ids-read gives = of-ids
+    ids-read (refuses q) = nowhere q
+
+    types-read : {a : Read (List (Value Part))} → Refuses ofIdSteps a
+        → Started (and-then a (λ vs e. answered (inCounted 0x1604 (stringIn (nth 1 vs) .place) (countIn (nth 0 vs)))))
+    types-read gives = of-types
+    types-read (refuses q) = nowhere q
+
+    either-list : (b : Bool) {x y : Answer ListCursor} → Started x → Started y → Started (pick b x y)
+    either-list true x y = x
+    either-list false x y = y
+
+    by-leaf : (leaf p : ℕ) → Started (pick (eqb leaf 0x1603) (counted idLeaves 0x1603 s p) (pick (eqb leaf 0x1604) (counted idLeaves 0x1604 s p) (refused 10 (leaf ∷ []))))
+    by-leaf leaf p =
+        either-list (eqb leaf 0x1603) (ids-read (fields-refuse _ (count16 ∷ run ids ∷ []) 0 s p (free & refl & no-more)))
+        (either-list (eqb leaf 0x1604) (types-read (fields-refuse _ (count32 ∷ run types ∷ []) 0 s p (free & refl & no-more)))
+        (nowhere refl))
+
+    leaf-read : {a : Read ℕ} → Refuses ofIdSteps a
+        → Started (and-then a (λ leaf p. pick (eqb leaf 0x1603) (counted idLeaves 0x1603 s p) (pick (eqb leaf 0x1604) (counted idLeaves 0x1604 s p) (refused 10 (leaf ∷ [])))))
+    leaf-read (gives {a = g}) = by-leaf (g .value) (g .next)
+    leaf-read (refuses q) = nowhere q
 
 pub element-ids-refuses : (s : List ℕ) (k : ℕ) → Refuses ofIdSteps (elementOf stream.Ids s k)
-unfolding elementOf startOf startIds counted countedBy idLeaves stepOf fits within among listed find detailCounts
-element-ids-refuses s k =
-    by-then-then (wider refl (fixed-refuses 2 s 0)) (λ g.
-    by-pick-then (eqb (g .value) 0x1603)
-    (by-then-then (fields-refuse _ (count16 ∷ run ids ∷ []) 0 s (g .next) (free & refl & no-more)) (λ v.
-    counted-elements-refuse s id idElement 0x1603 (λ p left. refl) (refl & no-more) k _ _))
-    (by-pick-then (eqb (g .value) 0x1604)
-    (by-then-then (fields-refuse _ (count32 ∷ run types ∷ []) 0 s (g .next) (free & refl & no-more)) (λ v.
-    counted-elements-refuse s T typeElement 0x1604 (λ p left. refl) (refl & no-more) k _ _))
-    (refuses refl)))
+unfolding elementOf startOf stepOf within among
+element-ids-refuses s k = from (started s)
+  where
+    from : {a : Answer ListCursor} → Started a → Refuses ofIdSteps (then a (λ c. elementBy (stepOf s) k c))
+    from of-ids = counted-elements-refuse s id idElement 0x1603 (λ p left. refl) (refl & no-more) k _ _
+    from of-types = counted-elements-refuse s T typeElement 0x1604 (λ p left. refl) (refl & no-more) k _ _
+    from (nowhere q) = refuses q
 
 -- Entries
 

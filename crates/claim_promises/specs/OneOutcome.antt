@@ -15,7 +15,7 @@ use Rattle.field.specs.declared.index.TypeIndex.{TypeIndex}
 use Rattle.field.specs.declared.index.IdIndex.{IdIndex}
 use Rattle.word_primitive.specs.Primitive.{primitiveOf, saidPrimitive}
 use Rattle.word_attributes.specs.Pointers.{kindOf, modeOf, toMemberOf, referenceOf, sizeOf}
-use Rattle.word_attributes.specs.Said.{saidRawKind as saidPointerKind, saidMode, saidFlag, saidSize as saidPointerSize}
+use Rattle.word_attributes.specs.Said.{saidKind as saidPointerKind, saidMode, saidFlag, saidSize as saidPointerSize}
 use Rattle.stream_header.specs.Header.{headerOf, saidHeader}
 use Rattle.stream_item.specs.Iterator.{iterOf, nextOf, saidIter, saidNext}
 use Rattle.stream_view.specs.Views.{viewOf, rawKindOf, saidView, saidRawKind}
