@@ -1,5 +1,5 @@
 -- What a type record says: its leaf, and the values of its layout in the layout's order. To be read against the table typeLeaves of
--- layout/specs/Layouts.antt.
+-- record_layout/specs/Layouts.antt.
 use Prim.Native.Nat.{ℕ, _+_, _*_, _/_}
 use mathlib.Core.List.{List, [], _∷_}
 use mathlib.Core.Option.{Option, none, some}

@@ -1,5 +1,5 @@
 // The records of the TPI stream: the type leaves of document 01, by the names of the crate's data.rs, each read by its line of the table in
-// layout/specs/Layouts.antt. The members inside a field list are in the crate member, the elements of lists in the crate lists.
+// record_layout/specs/Layouts.antt. The members inside a field list are in record_member, the elements of lists in record_list.
 ghost use mathlib.Core.Path.{_≡_};
 ghost use Rattle.field_text.specs.Texts.{Part};
 ghost use Rattle.record_layout.specs.Fields.{readField, readFields};

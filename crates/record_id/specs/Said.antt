@@ -1,5 +1,5 @@
 -- What an id record says: its leaf, and the values of its layout in the layout's order. To be read against the table idLeaves of
--- layout/specs/Layouts.antt.
+-- record_layout/specs/Layouts.antt.
 use Prim.Native.Nat.{ℕ, _*_}
 use mathlib.Core.List.{List, [], _∷_}
 use Rattle.answer.specs.Answer.{Answer, answered}

@@ -1,5 +1,5 @@
 // The records of the IPI stream: the seven id leaves of document 01, by the names of the crate's id.rs, each read by its line of the table
-// in layout/specs/Layouts.antt.
+// in record_layout/specs/Layouts.antt.
 ghost use mathlib.Core.Path.{_≡_};
 ghost use Rattle.record_layout.specs.Layouts.{leafOf, recordOf, idLeaves};
 ghost use Rattle.record_id.specs.Said.{saidIdData};

@@ -1,5 +1,5 @@
 -- What a member and a method of a list say: the leaf of the member, and the values of its layout in the layout's order. To be read against
--- the table memberLeaves of layout/specs/Layouts.antt.
+-- the table memberLeaves of record_layout/specs/Layouts.antt.
 use Prim.Native.Nat.{ℕ}
 use mathlib.Core.Bool.{Bool}
 use mathlib.Core.List.{List, [], _∷_}

@@ -1,5 +1,5 @@
 // The members inside a field list, 0x1203, and the method inside a method list, 0x1206, by the names of the crate's data.rs, each read by
-// its line of the table in layout/specs/Layouts.antt.
+// its line of the table in record_layout/specs/Layouts.antt.
 ghost use mathlib.Core.Path.{_≡_};
 ghost use mathlib.Core.Option.{some};
 ghost use Rattle.field_text.specs.Texts.{stringOption};

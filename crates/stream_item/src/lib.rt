@@ -1,6 +1,6 @@
 // Items of a TPI or IPI stream: what names one, where its bytes lie, and the marker that stands for an index below the stream's minimum.
 // link.rt has the links that records lie in, iter.rt the iterator over them, information.rt a stream's count.
-// An item's bytes are given by the crate view.
+// An item's bytes are given by the crate stream_view.
 pub mod information;
 pub mod iter;
 pub mod link;
