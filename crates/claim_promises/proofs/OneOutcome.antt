@@ -1,143 +1,175 @@
--- Every contract admits one outcome: what an answer says fixes it, by the law of its crate. Assumes nothing.
+-- Every public contract admits one outcome. A contract `r ≡ x` does of itself; a contract `said.. r ≡ x` because what an answer says fixes it, by the law
+-- `one-..` of its crate; those over lent memory by laws of theirs. Assumes nothing.
 use Prim.Native.Nat.{ℕ}
-use mathlib.Core.Path.{_≡_, sym, ap, _∙_}
+use denote.Ref.{now}
 use mathlib.Core.List.{List}
-use Rattle.answer.specs.Refusals.{detailsOf}
+use mathlib.Core.Path.{_≡_, sym, ap, _∙_}
 use Rattle.answer.proofs.OneOutcome.{one-details}
-use Rattle.field.specs.Fields.{fixedAt, signedAt}
-use Rattle.field.specs.Indices.{noType, noId, optionalOf, optionalAt}
-use Rattle.field.specs.Runs.{bytesAfter}
-use Rattle.field_text.specs.Texts.{stringAt, countedStringAt, stringOf, paddingAfter}
-use Rattle.field_number.specs.Numbers.{numericAt, sizeAt}
 use Rattle.field.proofs.OneOutcome.{one-u8, one-u16, one-u32, one-u64, one-i8, one-i16, one-i32, one-i64, one-type, one-id, one-string-ref, one-optional-type, one-optional-id, one-read-type, one-read-id}
 use Rattle.field_text.proofs.OneOutcome.{one-optional-string, one-string, one-after}
 use Rattle.field_number.proofs.OneOutcome.{one-variant, one-size}
-use Rattle.field.specs.declared.index.TypeIndex.{TypeIndex}
-use Rattle.field.specs.declared.index.IdIndex.{IdIndex}
-use Rattle.word_primitive.specs.Primitive.{primitiveOf}
 use Rattle.word_primitive.proofs.OneOutcome.{one-primitive}
-use Rattle.word_attributes.specs.Pointers.{kindOf, modeOf, toMemberOf, referenceOf, sizeOf}
 use Rattle.word_attributes.proofs.OneOutcome.{one-kind as one-pointer-kind, one-mode, one-flag, one-size as one-pointer-size}
-use Rattle.stream_header.specs.Header.{headerOf}
 use Rattle.stream_header.proofs.OneOutcome.{one-header}
-use Rattle.stream_item.specs.Iterator.{iterOf, nextOf}
-use Rattle.stream_view.specs.Views.{viewOf, rawKindOf}
-use Rattle.stream_item.specs.Information.{lenOf, isEmptyOf}
 use Rattle.stream_item.proofs.OneOutcome.{one-iter, one-next, one-len, one-empty}
 use Rattle.stream_view.proofs.OneOutcome.{one-view, one-kind}
-use Rattle.stream_item.specs.declared.iter.ItemIter.{ItemIter}
-use Rattle.stream_finder.specs.Finder.{State, state, createOf, updateOf, findOf, maxIndexOf}
-use Rattle.stream_finder.specs.Lent.{Updates}
 use Rattle.stream_finder.proofs.OneOutcome.{one-change, one-find, one-fills}
+use Rattle.stream_index.proofs.OneOutcome.{one-leads}
+use Rattle.stream_index.proofs.OneWalk.{one-walks, one-indexes}
+use Rattle.record_id.proofs.OneOutcome.{one-id as one-id-data}
+use Rattle.record_data.proofs.OneOutcome.{one-type-data, one-name as one-type-name}
+use Rattle.record_member.proofs.OneOutcome.{one-member, one-entry}
+use Rattle.record_list.proofs.OneOutcome.{one-start, one-step, one-element}
+use Rattle.record_reader.proofs.OneOutcome.{one-reader, one-steps}
+use Rattle.record_parse.proofs.OneOutcome.{one-parse}
+use Rattle.stream_item.specs.declared.iter.ItemIter.{ItemIter}
+use Rattle.stream_finder.specs.Finder.{State, state, createOf, updateOf}
+use Rattle.stream_finder.specs.Lent.{Updates}
 use Rattle.stream_finder.specs.declared.ItemFinder.{ItemFinder}
 use Rattle.stream_finder.specs.declared.lent.UpdateStep.{UpdateStep}
 use Rattle.stream_index.specs.Walk.{turnOf}
-use Rattle.stream_index.proofs.OneOutcome.{one-leads}
-use Rattle.stream_index.proofs.OneWalk.{one-walks, one-indexes}
-use Rattle.record_layout.specs.Fields.{readFields}
-use Rattle.record_layout.specs.Layouts.{typeLeaves, memberLeaves, method, idLeaves, readRecord, recordOf}
-use Rattle.record_id.proofs.OneOutcome.{one-id as one-id-data}
-use Rattle.record_data.specs.Said.{typeName as typeNameOf}
-use Rattle.record_data.proofs.OneOutcome.{one-type-data, one-name as one-type-name}
-use Rattle.record_member.specs.Said.{memberValues, memberName as memberNameOf}
-use Rattle.record_member.proofs.OneOutcome.{one-member, one-entry}
-use Rattle.record_list.specs.Lists.{startOf, stepOf, elementBy, elementOf}
-use Rattle.record_list.proofs.OneOutcome.{one-start, one-step, one-element}
+use Rattle.record_list.specs.Lists.{stepOf}
 use Rattle.record_list.specs.declared.ListCursor.{ListCursor}
-use Rattle.record_reader.specs.Reader.{Steps}
-use Rattle.record_reader.proofs.OneOutcome.{one-reader, one-steps}
 use Rattle.record_reader.specs.declared.ListReader.{ListReader}
-use Rattle.record_reader.specs.declared.Stepped.{Stepped}
-use Rattle.record_parse.specs.Record.{parseOf}
-use Rattle.record_parse.proofs.OneOutcome.{one-parse}
-use Rattle.claim_promises.specs.OneOutcome.{Once, OnceLent, OneOutcome}
+use Rattle.claim_promises.specs.Contracts as contract
+use Rattle.claim_promises.specs.OneOutcome.{Once, OnceLent, OnceLentTwo, OneOutcome}
 
--- what an answer says fixes it
-once : {R S : Type 0} {said : R → S} → ((r q : R) → said r ≡ said q → r ≡ q) → (x : S) → Once (λ r. said r ≡ x)
-once one x r q a b = one r q (a ∙ sym b)
+one-update-lent : (f : ItemFinder) (t : List ℕ) (c : ItemIter) → OnceLentTwo (contract.stream-finder-lent-item-finder-update f t c)
+one-update-lent f t c r q g h m k x y =
+    let e = one-change (state f t) (updateOf (state f t) c) r q (state g m) (state h k) x y in
+    (e .0, ap (λ (σ : State). σ .finder) (e .1), ap (λ (σ : State). σ .table) (e .1))
 
-one-type-index : (x : ℕ) → Once {R = TypeIndex} (λ r. r .0 ≡ x)
-one-type-index x r q a b = let e : r .0 ≡ q .0 = a ∙ sym b in λ i. record { 0 = e i }
-
-one-id-index : (x : ℕ) → Once {R = IdIndex} (λ r. r .0 ≡ x)
-one-id-index x r q a b = let e : r .0 ≡ q .0 = a ∙ sym b in λ i. record { 0 = e i }
-
-one-update-step : (f : ItemFinder) (t : List ℕ) (c : ItemIter) → OnceLent (λ (u : UpdateStep) t′. Updates (state f t) c (u .answer) (state (u .finder) t′))
+one-update-step : (f : ItemFinder) (t : List ℕ) (c : ItemIter) → OnceLent (contract.stream-finder-lent-update-local f t c)
 one-update-step f t c u v m k x y =
-    let h = one-change (state f t) (updateOf (state f t) c) (u .answer) (v .answer) (state (u .finder) m) (state (v .finder) k) x y in
-    let a : u .answer ≡ v .answer = h .0 in
-    let g : u .finder ≡ v .finder = ap (λ (σ : State). σ .finder) (h .1) in
-    (λ i. record { answer = a i; finder = g i }, ap (λ (σ : State). σ .table) (h .1))
+    let e = one-update-lent f t c (u .answer) (v .answer) (u .finder) (v .finder) m k x y in
+    (λ i. record { answer = e .0 i; finder = e .1 i }, e .2)
 
-one-reader-of : (x : ListReader) → Once (λ (r : ListReader). (r .bytes ≡ x .bytes) × (r .cursor ≡ x .cursor))
-one-reader-of x r q a b = one-reader r q (a .0 ∙ sym (b .0)) (a .1 ∙ sym (b .1))
-
-one-stepped : (s : List ℕ) (c : ListCursor) → Once (λ (u : Stepped). Steps c (stepOf s c) (u .answer) (u .cursor))
+one-stepped : (s : List ℕ) (c : ListCursor) → Once (contract.record-reader-step-of s c)
 one-stepped s c u v x y =
     let h = one-steps c (stepOf s c) (u .answer) (v .answer) (u .cursor) (v .cursor) x y in
     λ i. record { cursor = h .1 i; answer = h .0 i }
 
+one-reader-step : (x : ListReader) → OnceLent (contract.record-reader-list-reader-step x)
+one-reader-step x r q m k a b =
+    let h = one-steps (x .cursor) (stepOf (now (x .bytes)) (x .cursor)) r q (m .cursor) (k .cursor) (a .0) (b .0) in
+    (h .0, one-reader m k (a .1 ∙ sym (b .1)) (h .1))
+
 pub one-outcome : OneOutcome
 one-outcome = record {
-  plain = λ x r q a b. a ∙ sym b;
-  details = λ e. once one-details (detailsOf e);
-  u8-at = λ s p. once one-u8 (fixedAt 1 s p);
-  u16-at = λ s p. once one-u16 (fixedAt 2 s p);
-  u32-at = λ s p. once one-u32 (fixedAt 4 s p);
-  u64-at = λ s p. once one-u64 (fixedAt 8 s p);
-  i8-at = λ s p. once one-i8 (signedAt 1 s p);
-  i16-at = λ s p. once one-i16 (signedAt 2 s p);
-  i32-at = λ s p. once one-i32 (signedAt 4 s p);
-  i64-at = λ s p. once one-i64 (signedAt 8 s p);
-  type-at = λ s p. once one-type (fixedAt 4 s p);
-  id-at = λ s p. once one-id (fixedAt 4 s p);
-  string-ref-at = λ s p. once one-string-ref (fixedAt 4 s p);
-  type-optional = λ n. once one-optional-type (optionalOf noType n);
-  id-optional = λ n. once one-optional-id (optionalOf noId n);
-  optional-type-at = λ s p. once one-read-type (optionalAt noType s p);
-  optional-id-at = λ s p. once one-read-id (optionalAt noId s p);
-  string-at = λ s p. once one-string (stringAt s p);
-  counted-string-at = λ s p. once one-string (countedStringAt s p);
-  string-of = λ leaf s p. once one-string (stringOf leaf s p);
-  after-bytes = λ n s p. once one-after (bytesAfter n s p);
-  after-padding = λ s p. once one-after (paddingAfter s p);
-  number-at = λ s p. once one-variant (numericAt s p);
-  size-at = λ s p. once one-size (sizeAt s p);
-  primitive = λ i. once one-primitive (primitiveOf i);
-  pointer-kind = λ w. once one-pointer-kind (kindOf w);
-  pointer-mode = λ w. once one-mode (modeOf w);
-  pointer-to-member = λ w. once one-flag (toMemberOf w);
-  is-reference = λ w. once one-flag (referenceOf w);
-  pointer-size = λ w. once one-pointer-size (sizeOf w);
-  header-parse = λ s. once one-header (headerOf s);
-  iter = λ tag s. once one-iter (iterOf tag s);
-  next = λ s c. once one-next (nextOf s c);
-  len = λ s. once one-len (lenOf s);
-  is-empty = λ s. once one-empty (isEmptyOf s);
-  view-answer = λ t p e. once one-view (viewOf t p e);
-  raw-kind = λ t p e. once one-kind (rawKindOf t p e);
-  create = λ s t. one-fills t (createOf s t);
-  update = λ f t c. one-fills t (updateOf (state f t) c);
-  lent-update = λ σ c. one-change σ (updateOf σ c);
-  update-local = one-update-step;
-  find = λ s σ i. once one-find (findOf s σ i);
-  max-type-index = λ f. one-type-index (maxIndexOf f);
-  max-id-index = λ f. one-id-index (maxIndexOf f);
-  turn = λ s f t c. one-leads t (turnOf s (state f t) c);
-  index-on = λ s f t c. one-walks s c (state f t);
-  index-all = one-indexes;
-  id-data = λ s. once one-id-data (recordOf idLeaves s);
-  type-data = λ s. once one-type-data (recordOf typeLeaves s);
-  type-name = λ d. once one-type-name (typeNameOf d);
-  member-at = λ s p. once one-member (readRecord memberLeaves s p);
-  method-entry-at = λ s p. once one-entry (readFields method 0 s p);
-  member-name = λ m. once one-optional-string (memberNameOf (memberValues m));
-  record-parse = λ t p e. once one-parse (parseOf t p e);
-  start = λ tag s. once one-start (startOf tag s);
-  step = λ s c. once one-step (stepOf s c);
-  element-from = λ s c k. once one-element (elementBy (stepOf s) k c);
-  nth = λ tag s k. once one-element (elementOf tag s k);
-  reader-of = one-reader-of;
-  reader-step = λ s c. one-steps c (stepOf s c);
-  reader-step-of = one-stepped;
+  answer-refusal-number = λ self r q a b. a ∙ sym b;
+  answer-refusal-details = λ self r q a b. one-details r q (a ∙ sym b);
+  field-fixed-u8-at = λ s p r q a b. one-u8 r q (a ∙ sym b);
+  field-fixed-u16-at = λ s p r q a b. one-u16 r q (a ∙ sym b);
+  field-fixed-u32-at = λ s p r q a b. one-u32 r q (a ∙ sym b);
+  field-fixed-u64-at = λ s p r q a b. one-u64 r q (a ∙ sym b);
+  field-fixed-i8-at = λ s p r q a b. one-i8 r q (a ∙ sym b);
+  field-fixed-i16-at = λ s p r q a b. one-i16 r q (a ∙ sym b);
+  field-fixed-i32-at = λ s p r q a b. one-i32 r q (a ∙ sym b);
+  field-fixed-i64-at = λ s p r q a b. one-i64 r q (a ∙ sym b);
+  field-fixed-u16-or-zero = λ s p r q a b. a ∙ sym b;
+  field-fixed-u32-or-zero = λ s p r q a b. a ∙ sym b;
+  field-fixed-i32-or-zero = λ s p r q a b. a ∙ sym b;
+  field-index-type-index-is-cross-module = λ self r q a b. a ∙ sym b;
+  field-index-type-index-optional = λ self r q a b. one-optional-type r q (a ∙ sym b);
+  field-index-id-index-is-cross-module = λ self r q a b. a ∙ sym b;
+  field-index-id-index-optional = λ self r q a b. one-optional-id r q (a ∙ sym b);
+  field-index-type-at = λ s p r q a b. one-type r q (a ∙ sym b);
+  field-index-id-at = λ s p r q a b. one-id r q (a ∙ sym b);
+  field-index-string-ref-at = λ s p r q a b. one-string-ref r q (a ∙ sym b);
+  field-index-optional-type-at = λ s p r q a b. one-read-type r q (a ∙ sym b);
+  field-index-optional-id-at = λ s p r q a b. one-read-id r q (a ∙ sym b);
+  field-run-after-bytes = λ s p n r q a b. one-after r q (a ∙ sym b);
+  field-run-bytes-at = λ s p n r q a b. a ∙ sym b;
+  field-number-number-at = λ s p r q a b. one-variant r q (a ∙ sym b);
+  field-number-size-at = λ s p r q a b. one-size r q (a ∙ sym b);
+  field-text-string-at = λ s p r q a b. one-string r q (a ∙ sym b);
+  field-text-raw-string-bytes = λ self s r q a b. a ∙ sym b;
+  field-text-counted-string-at = λ s p r q a b. one-string r q (a ∙ sym b);
+  field-text-string-of = λ leaf s p r q a b. one-string r q (a ∙ sym b);
+  field-text-after-padding = λ s p r q a b. one-after r q (a ∙ sym b);
+  record-data-type-data-name = λ self r q a b. one-type-name r q (a ∙ sym b);
+  record-data-type-data = λ s r q a b. one-type-data r q (a ∙ sym b);
+  record-id-id-data = λ s r q a b. one-id-data r q (a ∙ sym b);
+  record-list-start = λ stream s r q a b. one-start r q (a ∙ sym b);
+  record-list-step = λ s c r q a b. one-step r q (a ∙ sym b);
+  record-list-element-from = λ s c k r q a b. one-element r q (a ∙ sym b);
+  record-member-member-name = λ self r q a b. one-optional-string r q (a ∙ sym b);
+  record-member-member-at = λ s p r q a b. one-member r q (a ∙ sym b);
+  record-member-method-entry-at = λ s p r q a b. one-entry r q (a ∙ sym b);
+  record-parse-parse = λ tpi ipi entry r q a b. one-parse r q (a ∙ sym b);
+  record-reader-list-reader-new = λ bytes cursor r q a b. one-reader r q (a .0 ∙ sym (b .0)) (a .1 ∙ sym (b .1));
+  record-reader-list-reader-element = λ self k r q a b. one-element r q (a ∙ sym b);
+  record-reader-list-reader-step = one-reader-step;
+  record-reader-step-of = one-stepped;
+  record-reader-nth = λ stream s k r q a b. one-element r q (a ∙ sym b);
+  stream-finder-create = λ s t. one-fills t (createOf s t);
+  stream-finder-update = λ f t c. one-fills t (updateOf (state f t) c);
+  stream-finder-item-finder-max-type-index = λ self r q a b i. record { 0 = (a ∙ sym b) i };
+  stream-finder-item-finder-max-id-index = λ self r q a b i. record { 0 = (a ∙ sym b) i };
+  stream-finder-find-type = λ s f t i r q a b. one-find r q (a ∙ sym b);
+  stream-finder-find-id = λ s f t i r q a b. one-find r q (a ∙ sym b);
+  stream-finder-lent-item-finder-update = one-update-lent;
+  stream-finder-lent-update-local = one-update-step;
+  stream-header-header-parse = λ s r q a b. one-header r q (a ∙ sym b);
+  stream-header-header-count = λ self r q a b. a ∙ sym b;
+  stream-index-turn = λ s f t c. one-leads t (turnOf s (state f t) c);
+  stream-index-index-on = λ s f t c. one-walks s c (state f t);
+  stream-index-index-all = λ stream s t. one-indexes stream s t;
+  stream-item-stream-index = λ self n r q a b. a ∙ sym b;
+  stream-item-item-index-stream = λ self r q a b. a ∙ sym b;
+  stream-item-item-index-number = λ self r q a b. a ∙ sym b;
+  stream-item-item-index = λ self r q a b. a ∙ sym b;
+  stream-item-item-len = λ self r q a b. a ∙ sym b;
+  stream-item-item-is-empty = λ self r q a b. a ∙ sym b;
+  stream-item-entry-index = λ self r q a b. a ∙ sym b;
+  stream-item-entry-len = λ self r q a b. a ∙ sym b;
+  stream-item-entry-is-empty = λ self r q a b. a ∙ sym b;
+  stream-item-information-len = λ s r q a b. one-len r q (a ∙ sym b);
+  stream-item-information-is-empty = λ s r q a b. one-empty r q (a ∙ sym b);
+  stream-item-iter-iter = λ stream s r q a b. one-iter r q (a ∙ sym b);
+  stream-item-iter-next = λ s c r q a b. one-next r q (a ∙ sym b);
+  stream-item-link-link-at = λ s p r q a b. a ∙ sym b;
+  stream-item-link-link-of = λ s p k r q a b. a ∙ sym b;
+  stream-view-view-answer = λ tpi ipi entry r q a b. one-view r q (a ∙ sym b);
+  stream-view-view = λ tpi ipi entry r q a b. a ∙ sym b;
+  stream-view-raw-kind = λ tpi ipi entry r q a b. one-kind r q (a ∙ sym b);
+  word-attributes-type-properties-packed = λ self r q a b. a ∙ sym b;
+  word-attributes-type-properties-constructors = λ self r q a b. a ∙ sym b;
+  word-attributes-type-properties-overloaded-operators = λ self r q a b. a ∙ sym b;
+  word-attributes-type-properties-is-nested-type = λ self r q a b. a ∙ sym b;
+  word-attributes-type-properties-contains-nested-types = λ self r q a b. a ∙ sym b;
+  word-attributes-type-properties-overloaded-assignment = λ self r q a b. a ∙ sym b;
+  word-attributes-type-properties-overloaded-casting = λ self r q a b. a ∙ sym b;
+  word-attributes-type-properties-forward-reference = λ self r q a b. a ∙ sym b;
+  word-attributes-type-properties-scoped-definition = λ self r q a b. a ∙ sym b;
+  word-attributes-type-properties-has-unique-name = λ self r q a b. a ∙ sym b;
+  word-attributes-type-properties-sealed = λ self r q a b. a ∙ sym b;
+  word-attributes-type-properties-intrinsic-type = λ self r q a b. a ∙ sym b;
+  word-attributes-type-properties-hfa = λ self r q a b. a ∙ sym b;
+  word-attributes-type-properties-mocom = λ self r q a b. a ∙ sym b;
+  word-attributes-field-attributes-access = λ self r q a b. a ∙ sym b;
+  word-attributes-field-attributes-method-properties = λ self r q a b. a ∙ sym b;
+  word-attributes-field-attributes-is-static = λ self r q a b. a ∙ sym b;
+  word-attributes-field-attributes-is-virtual = λ self r q a b. a ∙ sym b;
+  word-attributes-field-attributes-is-pure-virtual = λ self r q a b. a ∙ sym b;
+  word-attributes-field-attributes-is-intro-virtual = λ self r q a b. a ∙ sym b;
+  word-attributes-function-attributes-calling-convention = λ self r q a b. a ∙ sym b;
+  word-attributes-function-attributes-cxx-return-udt = λ self r q a b. a ∙ sym b;
+  word-attributes-function-attributes-is-constructor = λ self r q a b. a ∙ sym b;
+  word-attributes-function-attributes-is-constructor-with-virtual-bases = λ self r q a b. a ∙ sym b;
+  word-attributes-modifier-flags-constant = λ self r q a b. a ∙ sym b;
+  word-attributes-modifier-flags-volatile = λ self r q a b. a ∙ sym b;
+  word-attributes-modifier-flags-unaligned = λ self r q a b. a ∙ sym b;
+  word-attributes-pointer-attributes-pointer-kind = λ self r q a b. one-pointer-kind r q (a ∙ sym b);
+  word-attributes-pointer-attributes-pointer-mode = λ self r q a b. one-mode r q (a ∙ sym b);
+  word-attributes-pointer-attributes-pointer-to-member = λ self r q a b. one-flag r q (a ∙ sym b);
+  word-attributes-pointer-attributes-is-flat-32 = λ self r q a b. a ∙ sym b;
+  word-attributes-pointer-attributes-is-volatile = λ self r q a b. a ∙ sym b;
+  word-attributes-pointer-attributes-is-const = λ self r q a b. a ∙ sym b;
+  word-attributes-pointer-attributes-is-unaligned = λ self r q a b. a ∙ sym b;
+  word-attributes-pointer-attributes-is-restrict = λ self r q a b. a ∙ sym b;
+  word-attributes-pointer-attributes-is-reference = λ self r q a b. one-flag r q (a ∙ sym b);
+  word-attributes-pointer-attributes-size = λ self r q a b. one-pointer-size r q (a ∙ sym b);
+  word-attributes-pointer-attributes-is-mocom = λ self r q a b. a ∙ sym b;
+  word-primitive-primitive = λ index r q a b. one-primitive r q (a ∙ sym b);
 }

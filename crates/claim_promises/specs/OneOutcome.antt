@@ -1,48 +1,30 @@
--- One outcome: no two outcomes of a public function meet its contract. A field for each, named as the function, with the function's contract as
--- the source has it over the arguments' values; where memory is lent, the outcome is the answer and the memory after.
+-- One outcome: no two outcomes of a public function meet its contract. A field for each, named as the function; where memory is lent, the outcome is
+-- the answer and the memory after. Written by tools/contracts.
 use Prim.Native.Nat.{ℕ}
-use mathlib.Core.Path.{_≡_}
+use denote.Ref.{RefT}
 use mathlib.Core.List.{List}
-use Rattle.answer.specs.Refusals.{detailsOf}
-use Rattle.answer.specs.Details.{detailsValue}
+use mathlib.Core.Path.{_≡_}
 use Rattle.answer.specs.declared.Refusal.{Refusal}
-use Rattle.field.specs.Fields.{fixedAt, signedAt, said8, said16, said32, said64, saidI8, saidI16, saidI32, saidI64}
-use Rattle.field.specs.Indices.{noType, noId, optionalOf, optionalAt, saidType, saidId, saidStringRef, typeOption, idOption, saidOptType, saidOptId}
-use Rattle.field.specs.Runs.{bytesAfter, saidAfter}
-use Rattle.field_text.specs.Texts.{stringAt, countedStringAt, stringOf, paddingAfter, stringOption, saidString}
-use Rattle.field_number.specs.Numbers.{numericAt, sizeAt, saidVariant, saidSize}
-use Rattle.field.specs.declared.index.TypeIndex.{TypeIndex}
 use Rattle.field.specs.declared.index.IdIndex.{IdIndex}
-use Rattle.word_primitive.specs.Primitive.{primitiveOf, saidPrimitive}
-use Rattle.word_attributes.specs.Pointers.{kindOf, modeOf, toMemberOf, referenceOf, sizeOf}
-use Rattle.word_attributes.specs.Said.{saidKind as saidPointerKind, saidMode, saidFlag, saidSize as saidPointerSize}
-use Rattle.stream_header.specs.Header.{headerOf, saidHeader}
-use Rattle.stream_item.specs.Iterator.{iterOf, nextOf, saidIter, saidNext}
-use Rattle.stream_view.specs.Views.{viewOf, rawKindOf, saidView, saidRawKind}
-use Rattle.stream_item.specs.Information.{lenOf, isEmptyOf, saidLen, saidEmpty}
-use Rattle.stream_item.specs.declared.Stream.{Stream}
-use Rattle.stream_item.specs.declared.ItemIndex.{ItemIndex}
-use Rattle.stream_item.specs.declared.Entry.{Entry}
-use Rattle.stream_item.specs.declared.iter.ItemIter.{ItemIter}
-use Rattle.stream_finder.specs.Finder.{State, state, createOf, updateOf, findOf, maxIndexOf, saidFind, Fills}
-use Rattle.stream_finder.specs.Lent.{Updates}
-use Rattle.stream_finder.specs.declared.ItemFinder.{ItemFinder}
-use Rattle.stream_finder.specs.declared.lent.UpdateStep.{UpdateStep}
-use Rattle.stream_index.specs.Walk.{turnOf, Leads, Walks, Indexes}
-use Rattle.record_layout.specs.Fields.{readFields}
-use Rattle.record_layout.specs.Layouts.{typeLeaves, memberLeaves, method, idLeaves, readRecord, recordOf}
-use Rattle.record_id.specs.Said.{saidIdData}
-use Rattle.record_data.specs.Said.{stringValue, typeName as typeNameOf, saidTypeData}
+use Rattle.field.specs.declared.index.TypeIndex.{TypeIndex}
+use Rattle.field_text.specs.declared.RawString.{RawString}
 use Rattle.record_data.specs.declared.TypeData.{TypeData}
-use Rattle.record_member.specs.Said.{memberValues, saidMember, saidEntry, memberName as memberNameOf}
-use Rattle.record_member.specs.declared.Member.{Member}
-use Rattle.record_list.specs.Lists.{startOf, stepOf, elementBy, elementOf}
-use Rattle.record_list.specs.Said.{saidStart, saidStep, saidElement}
 use Rattle.record_list.specs.declared.ListCursor.{ListCursor}
-use Rattle.record_reader.specs.Reader.{Steps}
+use Rattle.record_member.specs.declared.Member.{Member}
 use Rattle.record_reader.specs.declared.ListReader.{ListReader}
-use Rattle.record_reader.specs.declared.Stepped.{Stepped}
-use Rattle.record_parse.specs.Record.{parseOf, saidParse}
+use Rattle.stream_finder.specs.declared.ItemFinder.{ItemFinder}
+use Rattle.stream_header.specs.declared.Header.{Header}
+use Rattle.stream_item.specs.declared.Entry.{Entry}
+use Rattle.stream_item.specs.declared.Item.{Item}
+use Rattle.stream_item.specs.declared.ItemIndex.{ItemIndex}
+use Rattle.stream_item.specs.declared.Stream.{Stream}
+use Rattle.stream_item.specs.declared.iter.ItemIter.{ItemIter}
+use Rattle.word_attributes.specs.declared.FieldAttributes.{FieldAttributes}
+use Rattle.word_attributes.specs.declared.FunctionAttributes.{FunctionAttributes}
+use Rattle.word_attributes.specs.declared.ModifierFlags.{ModifierFlags}
+use Rattle.word_attributes.specs.declared.PointerAttributes.{PointerAttributes}
+use Rattle.word_attributes.specs.declared.TypeProperties.{TypeProperties}
+use Rattle.claim_promises.specs.Contracts as contract
 
 -- the contract C admits one answer
 abbrev pub Once : {R : Type 0} → (R → Type 0) → Type 0
@@ -52,79 +34,141 @@ Once {R = R} C = (r q : R) → C r → C q → r ≡ q
 abbrev pub OnceLent : {R M : Type 0} → (R → M → Type 0) → Type 0
 OnceLent {R = R} {M = M} C = (r q : R) (m k : M) → C r m → C q k → (r ≡ q) × (m ≡ k)
 
+-- the same, where memory is lent at two places
+abbrev pub OnceLentTwo : {R M N : Type 0} → (R → M → N → Type 0) → Type 0
+OnceLentTwo {R = R} {M = M} {N = N} C = (r q : R) (m k : M) (n l : N) → C r m n → C q k l → (r ≡ q) × (m ≡ k) × (n ≡ l)
+
 pub record OneOutcome : Type 1 where
-  -- a contract `r ≡ x` does of itself: the attribute words, `Refusal::number`, `Header::count`, the readers with zero for the end, links,
-  -- the small methods of indices, items and entries, `view`, `bytes_at` and `RawString::bytes` by their bytes, `max_index` by value, lent and local
-  pub plain : {R : Type 0} (x : R) → Once (λ (r : R). r ≡ x)
   -- answer
-  pub details : (e : Refusal) → Once (λ r. detailsValue r ≡ detailsOf e)
-  -- common
-  pub u8-at : (s : List ℕ) (p : ℕ) → Once (λ r. said8 r ≡ fixedAt 1 s p)
-  pub u16-at : (s : List ℕ) (p : ℕ) → Once (λ r. said16 r ≡ fixedAt 2 s p)
-  pub u32-at : (s : List ℕ) (p : ℕ) → Once (λ r. said32 r ≡ fixedAt 4 s p)
-  pub u64-at : (s : List ℕ) (p : ℕ) → Once (λ r. said64 r ≡ fixedAt 8 s p)
-  pub i8-at : (s : List ℕ) (p : ℕ) → Once (λ r. saidI8 r ≡ signedAt 1 s p)
-  pub i16-at : (s : List ℕ) (p : ℕ) → Once (λ r. saidI16 r ≡ signedAt 2 s p)
-  pub i32-at : (s : List ℕ) (p : ℕ) → Once (λ r. saidI32 r ≡ signedAt 4 s p)
-  pub i64-at : (s : List ℕ) (p : ℕ) → Once (λ r. saidI64 r ≡ signedAt 8 s p)
-  pub type-at : (s : List ℕ) (p : ℕ) → Once (λ r. saidType r ≡ fixedAt 4 s p)
-  pub id-at : (s : List ℕ) (p : ℕ) → Once (λ r. saidId r ≡ fixedAt 4 s p)
-  pub string-ref-at : (s : List ℕ) (p : ℕ) → Once (λ r. saidStringRef r ≡ fixedAt 4 s p)
-  pub type-optional : (n : ℕ) → Once (λ r. typeOption r ≡ optionalOf noType n)
-  pub id-optional : (n : ℕ) → Once (λ r. idOption r ≡ optionalOf noId n)
-  pub optional-type-at : (s : List ℕ) (p : ℕ) → Once (λ r. saidOptType r ≡ optionalAt noType s p)
-  pub optional-id-at : (s : List ℕ) (p : ℕ) → Once (λ r. saidOptId r ≡ optionalAt noId s p)
-  pub string-at : (s : List ℕ) (p : ℕ) → Once (λ r. saidString r ≡ stringAt s p)
-  pub counted-string-at : (s : List ℕ) (p : ℕ) → Once (λ r. saidString r ≡ countedStringAt s p)
-  pub string-of : (leaf : ℕ) (s : List ℕ) (p : ℕ) → Once (λ r. saidString r ≡ stringOf leaf s p)
-  pub after-bytes : (n : ℕ) (s : List ℕ) (p : ℕ) → Once (λ r. saidAfter r ≡ bytesAfter n s p)
-  pub after-padding : (s : List ℕ) (p : ℕ) → Once (λ r. saidAfter r ≡ paddingAfter s p)
-  pub number-at : (s : List ℕ) (p : ℕ) → Once (λ r. saidVariant r ≡ numericAt s p)
-  pub size-at : (s : List ℕ) (p : ℕ) → Once (λ r. saidSize r ≡ sizeAt s p)
-  -- primitive
-  pub primitive : (i : ℕ) → Once (λ r. saidPrimitive r ≡ primitiveOf i)
-  -- attributes
-  pub pointer-kind : (w : ℕ) → Once (λ r. saidPointerKind r ≡ kindOf w)
-  pub pointer-mode : (w : ℕ) → Once (λ r. saidMode r ≡ modeOf w)
-  pub pointer-to-member : (w : ℕ) → Once (λ r. saidFlag r ≡ toMemberOf w)
-  pub is-reference : (w : ℕ) → Once (λ r. saidFlag r ≡ referenceOf w)
-  pub pointer-size : (w : ℕ) → Once (λ r. saidPointerSize r ≡ sizeOf w)
-  -- header
-  pub header-parse : (s : List ℕ) → Once (λ r. saidHeader r ≡ headerOf s)
-  -- item: `types` and `ids` are `iter` of a stream
-  pub iter : (tag : Stream) (s : List ℕ) → Once (λ r. saidIter r ≡ iterOf tag s)
-  pub next : (s : List ℕ) (c : ItemIter) → Once (λ r. saidNext r ≡ nextOf s c)
-  pub len : (s : List ℕ) → Once (λ r. saidLen r ≡ lenOf s)
-  pub is-empty : (s : List ℕ) → Once (λ r. saidEmpty r ≡ isEmptyOf s)
-  -- view
-  pub view-answer : (t p : List ℕ) (e : Entry) → Once (λ r. saidView r ≡ viewOf t p e)
-  pub raw-kind : (t p : List ℕ) (e : Entry) → Once (λ r. saidRawKind r ≡ rawKindOf t p e)
-  -- finder: `find_type`, `find_id`, the lent `find` and `find_local` are `find`
-  pub create : (s t : List ℕ) → OnceLent (Fills t (createOf s t))
-  pub update : (f : ItemFinder) (t : List ℕ) (c : ItemIter) → OnceLent (Fills t (updateOf (state f t) c))
-  pub lent-update : (σ : State) (c : ItemIter) → OnceLent (Updates σ c)
-  pub update-local : (f : ItemFinder) (t : List ℕ) (c : ItemIter) → OnceLent (λ (u : UpdateStep) t′. Updates (state f t) c (u .answer) (state (u .finder) t′))
-  pub find : (s : List ℕ) (σ : State) (i : ItemIndex) → Once (λ r. saidFind r ≡ findOf s σ i)
-  pub max-type-index : (f : ItemFinder) → Once (λ (r : TypeIndex). r .0 ≡ maxIndexOf f)
-  pub max-id-index : (f : ItemFinder) → Once (λ (r : IdIndex). r .0 ≡ maxIndexOf f)
-  -- walk
-  pub turn : (s : List ℕ) (f : ItemFinder) (t : List ℕ) (c : ItemIter) → OnceLent (Leads t (turnOf s (state f t) c))
-  pub index-on : (s : List ℕ) (f : ItemFinder) (t : List ℕ) (c : ItemIter) → OnceLent (Walks s c (state f t))
-  pub index-all : (tag : Stream) (s t : List ℕ) → OnceLent (Indexes tag s t)
-  -- id, data, member, record
-  pub id-data : (s : List ℕ) → Once (λ r. saidIdData r ≡ recordOf idLeaves s)
-  pub type-data : (s : List ℕ) → Once (λ r. saidTypeData r ≡ recordOf typeLeaves s)
-  pub type-name : (d : TypeData) → Once (λ r. stringValue r ≡ typeNameOf d)
-  pub member-at : (s : List ℕ) (p : ℕ) → Once (λ r. saidMember r ≡ readRecord memberLeaves s p)
-  pub method-entry-at : (s : List ℕ) (p : ℕ) → Once (λ r. saidEntry r ≡ readFields method 0 s p)
-  pub member-name : (m : Member) → Once (λ r. stringOption r ≡ memberNameOf (memberValues m))
-  pub record-parse : (t p : List ℕ) (e : Entry) → Once (λ r. saidParse r ≡ parseOf t p e)
-  -- record_list; and record_reader, whose `element` and `nth` are elements by `elementBy` and `elementOf`
-  pub start : (tag : Stream) (s : List ℕ) → Once (λ r. saidStart r ≡ startOf tag s)
-  pub step : (s : List ℕ) (c : ListCursor) → Once (λ r. saidStep r ≡ stepOf s c)
-  pub element-from : (s : List ℕ) (c : ListCursor) (k : ℕ) → Once (λ r. saidElement r ≡ elementBy (stepOf s) k c)
-  pub nth : (tag : Stream) (s : List ℕ) (k : ℕ) → Once (λ r. saidElement r ≡ elementOf tag s k)
-  -- record_reader: `new` by the bytes and the cursor; the lent step, and the one above it
-  pub reader-of : (x : ListReader) → Once (λ (r : ListReader). (r .bytes ≡ x .bytes) × (r .cursor ≡ x .cursor))
-  pub reader-step : (s : List ℕ) (c : ListCursor) → OnceLent (Steps c (stepOf s c))
-  pub reader-step-of : (s : List ℕ) (c : ListCursor) → Once (λ (u : Stepped). Steps c (stepOf s c) (u .answer) (u .cursor))
+  pub answer-refusal-number : (self : Refusal) → Once (contract.answer-refusal-number self)
+  pub answer-refusal-details : (self : Refusal) → Once (contract.answer-refusal-details self)
+  -- field
+  pub field-fixed-u8-at : (s : List ℕ) (p : ℕ) → Once (contract.field-fixed-u8-at s p)
+  pub field-fixed-u16-at : (s : List ℕ) (p : ℕ) → Once (contract.field-fixed-u16-at s p)
+  pub field-fixed-u32-at : (s : List ℕ) (p : ℕ) → Once (contract.field-fixed-u32-at s p)
+  pub field-fixed-u64-at : (s : List ℕ) (p : ℕ) → Once (contract.field-fixed-u64-at s p)
+  pub field-fixed-i8-at : (s : List ℕ) (p : ℕ) → Once (contract.field-fixed-i8-at s p)
+  pub field-fixed-i16-at : (s : List ℕ) (p : ℕ) → Once (contract.field-fixed-i16-at s p)
+  pub field-fixed-i32-at : (s : List ℕ) (p : ℕ) → Once (contract.field-fixed-i32-at s p)
+  pub field-fixed-i64-at : (s : List ℕ) (p : ℕ) → Once (contract.field-fixed-i64-at s p)
+  pub field-fixed-u16-or-zero : (s : List ℕ) (p : ℕ) → Once (contract.field-fixed-u16-or-zero s p)
+  pub field-fixed-u32-or-zero : (s : List ℕ) (p : ℕ) → Once (contract.field-fixed-u32-or-zero s p)
+  pub field-fixed-i32-or-zero : (s : List ℕ) (p : ℕ) → Once (contract.field-fixed-i32-or-zero s p)
+  pub field-index-type-index-is-cross-module : (self : TypeIndex) → Once (contract.field-index-type-index-is-cross-module self)
+  pub field-index-type-index-optional : (self : TypeIndex) → Once (contract.field-index-type-index-optional self)
+  pub field-index-id-index-is-cross-module : (self : IdIndex) → Once (contract.field-index-id-index-is-cross-module self)
+  pub field-index-id-index-optional : (self : IdIndex) → Once (contract.field-index-id-index-optional self)
+  pub field-index-type-at : (s : List ℕ) (p : ℕ) → Once (contract.field-index-type-at s p)
+  pub field-index-id-at : (s : List ℕ) (p : ℕ) → Once (contract.field-index-id-at s p)
+  pub field-index-string-ref-at : (s : List ℕ) (p : ℕ) → Once (contract.field-index-string-ref-at s p)
+  pub field-index-optional-type-at : (s : List ℕ) (p : ℕ) → Once (contract.field-index-optional-type-at s p)
+  pub field-index-optional-id-at : (s : List ℕ) (p : ℕ) → Once (contract.field-index-optional-id-at s p)
+  pub field-run-after-bytes : (s : List ℕ) (p : ℕ) (n : ℕ) → Once (contract.field-run-after-bytes s p n)
+  pub field-run-bytes-at : (s : List ℕ) (p : ℕ) (n : ℕ) → Once (contract.field-run-bytes-at s p n)
+  -- field_number
+  pub field-number-number-at : (s : List ℕ) (p : ℕ) → Once (contract.field-number-number-at s p)
+  pub field-number-size-at : (s : List ℕ) (p : ℕ) → Once (contract.field-number-size-at s p)
+  -- field_text
+  pub field-text-string-at : (s : List ℕ) (p : ℕ) → Once (contract.field-text-string-at s p)
+  pub field-text-raw-string-bytes : (self : RawString) (s : List ℕ) → Once (contract.field-text-raw-string-bytes self s)
+  pub field-text-counted-string-at : (s : List ℕ) (p : ℕ) → Once (contract.field-text-counted-string-at s p)
+  pub field-text-string-of : (leaf : ℕ) (s : List ℕ) (p : ℕ) → Once (contract.field-text-string-of leaf s p)
+  pub field-text-after-padding : (s : List ℕ) (p : ℕ) → Once (contract.field-text-after-padding s p)
+  -- record_data
+  pub record-data-type-data-name : (self : TypeData) → Once (contract.record-data-type-data-name self)
+  pub record-data-type-data : (s : List ℕ) → Once (contract.record-data-type-data s)
+  -- record_id
+  pub record-id-id-data : (s : List ℕ) → Once (contract.record-id-id-data s)
+  -- record_list
+  pub record-list-start : (stream : Stream) (s : List ℕ) → Once (contract.record-list-start stream s)
+  pub record-list-step : (s : List ℕ) (c : ListCursor) → Once (contract.record-list-step s c)
+  pub record-list-element-from : (s : List ℕ) (c : ListCursor) (k : ℕ) → Once (contract.record-list-element-from s c k)
+  -- record_member
+  pub record-member-member-name : (self : Member) → Once (contract.record-member-member-name self)
+  pub record-member-member-at : (s : List ℕ) (p : ℕ) → Once (contract.record-member-member-at s p)
+  pub record-member-method-entry-at : (s : List ℕ) (p : ℕ) → Once (contract.record-member-method-entry-at s p)
+  -- record_parse
+  pub record-parse-parse : (tpi : List ℕ) (ipi : List ℕ) (entry : Entry) → Once (contract.record-parse-parse tpi ipi entry)
+  -- record_reader
+  pub record-reader-list-reader-new : (bytes : RefT (List ℕ)) (cursor : ListCursor) → Once (contract.record-reader-list-reader-new bytes cursor)
+  pub record-reader-list-reader-element : (self : ListReader) (k : ℕ) → Once (contract.record-reader-list-reader-element self k)
+  pub record-reader-list-reader-step : (self : ListReader) → OnceLent (contract.record-reader-list-reader-step self)
+  pub record-reader-step-of : (bytes : List ℕ) (cursor : ListCursor) → Once (contract.record-reader-step-of bytes cursor)
+  pub record-reader-nth : (stream : Stream) (s : List ℕ) (k : ℕ) → Once (contract.record-reader-nth stream s k)
+  -- stream_finder
+  pub stream-finder-create : (s : List ℕ) (t : List ℕ) → OnceLent (contract.stream-finder-create s t)
+  pub stream-finder-update : (f : ItemFinder) (t : List ℕ) (c : ItemIter) → OnceLent (contract.stream-finder-update f t c)
+  pub stream-finder-item-finder-max-type-index : (self : ItemFinder) → Once (contract.stream-finder-item-finder-max-type-index self)
+  pub stream-finder-item-finder-max-id-index : (self : ItemFinder) → Once (contract.stream-finder-item-finder-max-id-index self)
+  pub stream-finder-find-type : (s : List ℕ) (f : ItemFinder) (t : List ℕ) (i : TypeIndex) → Once (contract.stream-finder-find-type s f t i)
+  pub stream-finder-find-id : (s : List ℕ) (f : ItemFinder) (t : List ℕ) (i : IdIndex) → Once (contract.stream-finder-find-id s f t i)
+  pub stream-finder-lent-item-finder-update : (self : ItemFinder) (t : List ℕ) (c : ItemIter) → OnceLentTwo (contract.stream-finder-lent-item-finder-update self t c)
+  pub stream-finder-lent-update-local : (f : ItemFinder) (t : List ℕ) (c : ItemIter) → OnceLent (contract.stream-finder-lent-update-local f t c)
+  -- stream_header
+  pub stream-header-header-parse : (s : List ℕ) → Once (contract.stream-header-header-parse s)
+  pub stream-header-header-count : (self : Header) → Once (contract.stream-header-header-count self)
+  -- stream_index
+  pub stream-index-turn : (s : List ℕ) (f : ItemFinder) (t : List ℕ) (c : ItemIter) → OnceLent (contract.stream-index-turn s f t c)
+  pub stream-index-index-on : (s : List ℕ) (f : ItemFinder) (t : List ℕ) (c : ItemIter) → OnceLent (contract.stream-index-index-on s f t c)
+  pub stream-index-index-all : (stream : Stream) (s : List ℕ) (t : List ℕ) → OnceLent (contract.stream-index-index-all stream s t)
+  -- stream_item
+  pub stream-item-stream-index : (self : Stream) (n : ℕ) → Once (contract.stream-item-stream-index self n)
+  pub stream-item-item-index-stream : (self : ItemIndex) → Once (contract.stream-item-item-index-stream self)
+  pub stream-item-item-index-number : (self : ItemIndex) → Once (contract.stream-item-item-index-number self)
+  pub stream-item-item-index : (self : Item) → Once (contract.stream-item-item-index self)
+  pub stream-item-item-len : (self : Item) → Once (contract.stream-item-item-len self)
+  pub stream-item-item-is-empty : (self : Item) → Once (contract.stream-item-item-is-empty self)
+  pub stream-item-entry-index : (self : Entry) → Once (contract.stream-item-entry-index self)
+  pub stream-item-entry-len : (self : Entry) → Once (contract.stream-item-entry-len self)
+  pub stream-item-entry-is-empty : (self : Entry) → Once (contract.stream-item-entry-is-empty self)
+  pub stream-item-information-len : (s : List ℕ) → Once (contract.stream-item-information-len s)
+  pub stream-item-information-is-empty : (s : List ℕ) → Once (contract.stream-item-information-is-empty s)
+  pub stream-item-iter-iter : (stream : Stream) (s : List ℕ) → Once (contract.stream-item-iter-iter stream s)
+  pub stream-item-iter-next : (s : List ℕ) (c : ItemIter) → Once (contract.stream-item-iter-next s c)
+  pub stream-item-link-link-at : (s : List ℕ) (p : ℕ) → Once (contract.stream-item-link-link-at s p)
+  pub stream-item-link-link-of : (s : List ℕ) (p : ℕ) (k : ℕ) → Once (contract.stream-item-link-link-of s p k)
+  -- stream_view
+  pub stream-view-view-answer : (tpi : List ℕ) (ipi : List ℕ) (entry : Entry) → Once (contract.stream-view-view-answer tpi ipi entry)
+  pub stream-view-view : (tpi : List ℕ) (ipi : List ℕ) (entry : Entry) → Once (contract.stream-view-view tpi ipi entry)
+  pub stream-view-raw-kind : (tpi : List ℕ) (ipi : List ℕ) (entry : Entry) → Once (contract.stream-view-raw-kind tpi ipi entry)
+  -- word_attributes
+  pub word-attributes-type-properties-packed : (self : TypeProperties) → Once (contract.word-attributes-type-properties-packed self)
+  pub word-attributes-type-properties-constructors : (self : TypeProperties) → Once (contract.word-attributes-type-properties-constructors self)
+  pub word-attributes-type-properties-overloaded-operators : (self : TypeProperties) → Once (contract.word-attributes-type-properties-overloaded-operators self)
+  pub word-attributes-type-properties-is-nested-type : (self : TypeProperties) → Once (contract.word-attributes-type-properties-is-nested-type self)
+  pub word-attributes-type-properties-contains-nested-types : (self : TypeProperties) → Once (contract.word-attributes-type-properties-contains-nested-types self)
+  pub word-attributes-type-properties-overloaded-assignment : (self : TypeProperties) → Once (contract.word-attributes-type-properties-overloaded-assignment self)
+  pub word-attributes-type-properties-overloaded-casting : (self : TypeProperties) → Once (contract.word-attributes-type-properties-overloaded-casting self)
+  pub word-attributes-type-properties-forward-reference : (self : TypeProperties) → Once (contract.word-attributes-type-properties-forward-reference self)
+  pub word-attributes-type-properties-scoped-definition : (self : TypeProperties) → Once (contract.word-attributes-type-properties-scoped-definition self)
+  pub word-attributes-type-properties-has-unique-name : (self : TypeProperties) → Once (contract.word-attributes-type-properties-has-unique-name self)
+  pub word-attributes-type-properties-sealed : (self : TypeProperties) → Once (contract.word-attributes-type-properties-sealed self)
+  pub word-attributes-type-properties-intrinsic-type : (self : TypeProperties) → Once (contract.word-attributes-type-properties-intrinsic-type self)
+  pub word-attributes-type-properties-hfa : (self : TypeProperties) → Once (contract.word-attributes-type-properties-hfa self)
+  pub word-attributes-type-properties-mocom : (self : TypeProperties) → Once (contract.word-attributes-type-properties-mocom self)
+  pub word-attributes-field-attributes-access : (self : FieldAttributes) → Once (contract.word-attributes-field-attributes-access self)
+  pub word-attributes-field-attributes-method-properties : (self : FieldAttributes) → Once (contract.word-attributes-field-attributes-method-properties self)
+  pub word-attributes-field-attributes-is-static : (self : FieldAttributes) → Once (contract.word-attributes-field-attributes-is-static self)
+  pub word-attributes-field-attributes-is-virtual : (self : FieldAttributes) → Once (contract.word-attributes-field-attributes-is-virtual self)
+  pub word-attributes-field-attributes-is-pure-virtual : (self : FieldAttributes) → Once (contract.word-attributes-field-attributes-is-pure-virtual self)
+  pub word-attributes-field-attributes-is-intro-virtual : (self : FieldAttributes) → Once (contract.word-attributes-field-attributes-is-intro-virtual self)
+  pub word-attributes-function-attributes-calling-convention : (self : FunctionAttributes) → Once (contract.word-attributes-function-attributes-calling-convention self)
+  pub word-attributes-function-attributes-cxx-return-udt : (self : FunctionAttributes) → Once (contract.word-attributes-function-attributes-cxx-return-udt self)
+  pub word-attributes-function-attributes-is-constructor : (self : FunctionAttributes) → Once (contract.word-attributes-function-attributes-is-constructor self)
+  pub word-attributes-function-attributes-is-constructor-with-virtual-bases : (self : FunctionAttributes) → Once (contract.word-attributes-function-attributes-is-constructor-with-virtual-bases self)
+  pub word-attributes-modifier-flags-constant : (self : ModifierFlags) → Once (contract.word-attributes-modifier-flags-constant self)
+  pub word-attributes-modifier-flags-volatile : (self : ModifierFlags) → Once (contract.word-attributes-modifier-flags-volatile self)
+  pub word-attributes-modifier-flags-unaligned : (self : ModifierFlags) → Once (contract.word-attributes-modifier-flags-unaligned self)
+  pub word-attributes-pointer-attributes-pointer-kind : (self : PointerAttributes) → Once (contract.word-attributes-pointer-attributes-pointer-kind self)
+  pub word-attributes-pointer-attributes-pointer-mode : (self : PointerAttributes) → Once (contract.word-attributes-pointer-attributes-pointer-mode self)
+  pub word-attributes-pointer-attributes-pointer-to-member : (self : PointerAttributes) → Once (contract.word-attributes-pointer-attributes-pointer-to-member self)
+  pub word-attributes-pointer-attributes-is-flat-32 : (self : PointerAttributes) → Once (contract.word-attributes-pointer-attributes-is-flat-32 self)
+  pub word-attributes-pointer-attributes-is-volatile : (self : PointerAttributes) → Once (contract.word-attributes-pointer-attributes-is-volatile self)
+  pub word-attributes-pointer-attributes-is-const : (self : PointerAttributes) → Once (contract.word-attributes-pointer-attributes-is-const self)
+  pub word-attributes-pointer-attributes-is-unaligned : (self : PointerAttributes) → Once (contract.word-attributes-pointer-attributes-is-unaligned self)
+  pub word-attributes-pointer-attributes-is-restrict : (self : PointerAttributes) → Once (contract.word-attributes-pointer-attributes-is-restrict self)
+  pub word-attributes-pointer-attributes-is-reference : (self : PointerAttributes) → Once (contract.word-attributes-pointer-attributes-is-reference self)
+  pub word-attributes-pointer-attributes-size : (self : PointerAttributes) → Once (contract.word-attributes-pointer-attributes-size self)
+  pub word-attributes-pointer-attributes-is-mocom : (self : PointerAttributes) → Once (contract.word-attributes-pointer-attributes-is-mocom self)
+  -- word_primitive
+  pub word-primitive-primitive : (index : TypeIndex) → Once (contract.word-primitive-primitive index)

@@ -1,0 +1,574 @@
+-- The contract of each public function, word for word as its source has it, over the arguments' values. Written by tools/contracts.
+use Prim.Native.Nat.{_-_, ℕ}
+use denote.Ref.{RefT, now}
+use lib.Dec.{eqb, leb}
+use lib.IntN.{ℤ}
+use mathlib.Core.Bool.{Bool}
+use mathlib.Core.List.{List}
+use mathlib.Core.Path.{_≡_}
+use Rattle.answer.specs.Details.{detailsValue}
+use Rattle.answer.specs.Refusals.{detailsOf, numberOf}
+use Rattle.answer.specs.declared.Details.{Details}
+use Rattle.answer.specs.declared.Refusal.{Refusal}
+use Rattle.field.specs.Fields.{fixedAt, orZero, said16, said32, said64, said8, saidI16, saidI32, saidI64, saidI8, signedAt, twos}
+use Rattle.field.specs.Indices.{idOption, noId, noType, optionalAt, optionalOf, saidId, saidOptId, saidOptType, saidStringRef, saidType, typeOption}
+use Rattle.field.specs.Runs.{bytesAfter, bytesAt, saidAfter}
+use Rattle.field.specs.declared.fixed.Read16.{Read16}
+use Rattle.field.specs.declared.fixed.Read32.{Read32}
+use Rattle.field.specs.declared.fixed.Read64.{Read64}
+use Rattle.field.specs.declared.fixed.Read8.{Read8}
+use Rattle.field.specs.declared.fixed.ReadI16.{ReadI16}
+use Rattle.field.specs.declared.fixed.ReadI32.{ReadI32}
+use Rattle.field.specs.declared.fixed.ReadI64.{ReadI64}
+use Rattle.field.specs.declared.fixed.ReadI8.{ReadI8}
+use Rattle.field.specs.declared.index.IdIndex.{IdIndex}
+use Rattle.field.specs.declared.index.OptIdIndex.{OptIdIndex}
+use Rattle.field.specs.declared.index.OptTypeIndex.{OptTypeIndex}
+use Rattle.field.specs.declared.index.ReadId.{ReadId}
+use Rattle.field.specs.declared.index.ReadOptId.{ReadOptId}
+use Rattle.field.specs.declared.index.ReadOptType.{ReadOptType}
+use Rattle.field.specs.declared.index.ReadStringRef.{ReadStringRef}
+use Rattle.field.specs.declared.index.ReadType.{ReadType}
+use Rattle.field.specs.declared.index.TypeIndex.{TypeIndex}
+use Rattle.field.specs.declared.run.After.{After}
+use Rattle.field_number.specs.Numbers.{numericAt, saidSize as saidSize-of-field-number, saidVariant, sizeAt}
+use Rattle.field_number.specs.declared.ReadSize.{ReadSize}
+use Rattle.field_number.specs.declared.ReadVariant.{ReadVariant}
+use Rattle.field_text.specs.Texts.{countedStringAt, paddingAfter, saidString, stringAt, stringOf, stringOption}
+use Rattle.field_text.specs.declared.OptString.{OptString}
+use Rattle.field_text.specs.declared.RawString.{RawString}
+use Rattle.field_text.specs.declared.ReadString.{ReadString}
+use Rattle.record_data.specs.Said.{saidTypeData, stringValue, typeName}
+use Rattle.record_data.specs.declared.TypeAnswer.{TypeAnswer}
+use Rattle.record_data.specs.declared.TypeData.{TypeData}
+use Rattle.record_id.specs.Said.{saidIdData}
+use Rattle.record_id.specs.declared.IdAnswer.{IdAnswer}
+use Rattle.record_layout.specs.Fields.{readFields}
+use Rattle.record_layout.specs.Layouts.{idLeaves, memberLeaves, method, readRecord, recordOf, typeLeaves}
+use Rattle.record_list.specs.Lists.{elementBy, elementOf, startOf, stepOf}
+use Rattle.record_list.specs.Said.{saidElement, saidStart, saidStep}
+use Rattle.record_list.specs.declared.ElementAnswer.{ElementAnswer}
+use Rattle.record_list.specs.declared.ListCursor.{ListCursor}
+use Rattle.record_list.specs.declared.StartAnswer.{StartAnswer}
+use Rattle.record_list.specs.declared.StepAnswer.{StepAnswer}
+use Rattle.record_member.specs.Said.{memberName, memberValues, saidEntry, saidMember}
+use Rattle.record_member.specs.declared.Member.{Member}
+use Rattle.record_member.specs.declared.ReadMember.{ReadMember}
+use Rattle.record_member.specs.declared.ReadMethodEntry.{ReadMethodEntry}
+use Rattle.record_parse.specs.Record.{parseOf, saidParse}
+use Rattle.record_parse.specs.declared.ParseAnswer.{ParseAnswer}
+use Rattle.record_reader.specs.Reader.{Steps}
+use Rattle.record_reader.specs.declared.ListReader.{ListReader}
+use Rattle.record_reader.specs.declared.Stepped.{Stepped}
+use Rattle.stream_finder.specs.Finder.{Fills, createOf, findOf, maxIndexOf, saidFind, state, updateOf}
+use Rattle.stream_finder.specs.Lent.{Updates}
+use Rattle.stream_finder.specs.declared.FindAnswer.{FindAnswer}
+use Rattle.stream_finder.specs.declared.FinderAnswer.{FinderAnswer}
+use Rattle.stream_finder.specs.declared.ItemFinder.{ItemFinder}
+use Rattle.stream_finder.specs.declared.lent.UpdateAnswer.{UpdateAnswer}
+use Rattle.stream_finder.specs.declared.lent.UpdateStep.{UpdateStep}
+use Rattle.stream_header.specs.Header.{headerOf, saidHeader}
+use Rattle.stream_header.specs.declared.Header.{Header}
+use Rattle.stream_header.specs.declared.HeaderAnswer.{HeaderAnswer}
+use Rattle.stream_index.specs.Walk.{Indexes, Leads, Walks, turnOf}
+use Rattle.stream_index.specs.declared.IndexAnswer.{IndexAnswer}
+use Rattle.stream_index.specs.declared.Tour.{Tour}
+use Rattle.stream_index.specs.declared.TurnAnswer.{TurnAnswer}
+use Rattle.stream_item.specs.Information.{isEmptyOf, lenOf, saidEmpty, saidLen}
+use Rattle.stream_item.specs.Items.{indexIn, indexOf, lengthOf, numberIn, streamIn}
+use Rattle.stream_item.specs.Iterator.{iterOf, nextOf, saidIter, saidNext}
+use Rattle.stream_item.specs.Links.{linkAt, linkOf}
+use Rattle.stream_item.specs.declared.Entry.{Entry}
+use Rattle.stream_item.specs.declared.Item.{Item}
+use Rattle.stream_item.specs.declared.ItemIndex.the-variants as item-index
+use Rattle.stream_item.specs.declared.ItemIndex.{ItemIndex}
+use Rattle.stream_item.specs.declared.Stream.{Stream}
+use Rattle.stream_item.specs.declared.information.EmptyAnswer.{EmptyAnswer}
+use Rattle.stream_item.specs.declared.information.LenAnswer.{LenAnswer}
+use Rattle.stream_item.specs.declared.iter.ItemIter.{ItemIter}
+use Rattle.stream_item.specs.declared.iter.IterAnswer.{IterAnswer}
+use Rattle.stream_item.specs.declared.iter.NextAnswer.{NextAnswer}
+use Rattle.stream_item.specs.declared.link.Hit.{Hit}
+use Rattle.stream_item.specs.declared.link.Link.{Link}
+use Rattle.stream_view.specs.Views.{rawKindOf, saidRawKind, saidView, viewBytes, viewOf}
+use Rattle.stream_view.specs.declared.RawKindAnswer.{RawKindAnswer}
+use Rattle.stream_view.specs.declared.ViewAnswer.{ViewAnswer}
+use Rattle.word_attributes.specs.Bits.{bit, bits}
+use Rattle.word_attributes.specs.Pointers.{kindOf, modeOf, referenceOf, sizeOf, toMemberOf}
+use Rattle.word_attributes.specs.Said.{saidFlag, saidKind, saidMode, saidSize as saidSize-of-word-attributes}
+use Rattle.word_attributes.specs.Words.{introducing, methodProperty, mocomOf}
+use Rattle.word_attributes.specs.declared.FieldAttributes.{FieldAttributes}
+use Rattle.word_attributes.specs.declared.FlagAnswer.{FlagAnswer}
+use Rattle.word_attributes.specs.declared.FunctionAttributes.{FunctionAttributes}
+use Rattle.word_attributes.specs.declared.KindAnswer.{KindAnswer}
+use Rattle.word_attributes.specs.declared.ModeAnswer.{ModeAnswer}
+use Rattle.word_attributes.specs.declared.ModifierFlags.{ModifierFlags}
+use Rattle.word_attributes.specs.declared.PointerAttributes.{PointerAttributes}
+use Rattle.word_attributes.specs.declared.SizeAnswer.{SizeAnswer}
+use Rattle.word_attributes.specs.declared.TypeProperties.{TypeProperties}
+use Rattle.word_primitive.specs.Primitive.{primitiveOf, saidPrimitive}
+use Rattle.word_primitive.specs.declared.PrimitiveAnswer.{PrimitiveAnswer}
+
+-- answer::Refusal::number
+abbrev pub answer-refusal-number : (self : Refusal) → ℕ → Type 0
+answer-refusal-number self r = r ≡ numberOf self
+
+-- answer::Refusal::details
+abbrev pub answer-refusal-details : (self : Refusal) → Details → Type 0
+answer-refusal-details self r = detailsValue r ≡ detailsOf self
+
+-- field::fixed::u8_at
+abbrev pub field-fixed-u8-at : (s : List ℕ) (p : ℕ) → Read8 → Type 0
+field-fixed-u8-at s p r = said8 r ≡ fixedAt 1 s p
+
+-- field::fixed::u16_at
+abbrev pub field-fixed-u16-at : (s : List ℕ) (p : ℕ) → Read16 → Type 0
+field-fixed-u16-at s p r = said16 r ≡ fixedAt 2 s p
+
+-- field::fixed::u32_at
+abbrev pub field-fixed-u32-at : (s : List ℕ) (p : ℕ) → Read32 → Type 0
+field-fixed-u32-at s p r = said32 r ≡ fixedAt 4 s p
+
+-- field::fixed::u64_at
+abbrev pub field-fixed-u64-at : (s : List ℕ) (p : ℕ) → Read64 → Type 0
+field-fixed-u64-at s p r = said64 r ≡ fixedAt 8 s p
+
+-- field::fixed::i8_at
+abbrev pub field-fixed-i8-at : (s : List ℕ) (p : ℕ) → ReadI8 → Type 0
+field-fixed-i8-at s p r = saidI8 r ≡ signedAt 1 s p
+
+-- field::fixed::i16_at
+abbrev pub field-fixed-i16-at : (s : List ℕ) (p : ℕ) → ReadI16 → Type 0
+field-fixed-i16-at s p r = saidI16 r ≡ signedAt 2 s p
+
+-- field::fixed::i32_at
+abbrev pub field-fixed-i32-at : (s : List ℕ) (p : ℕ) → ReadI32 → Type 0
+field-fixed-i32-at s p r = saidI32 r ≡ signedAt 4 s p
+
+-- field::fixed::i64_at
+abbrev pub field-fixed-i64-at : (s : List ℕ) (p : ℕ) → ReadI64 → Type 0
+field-fixed-i64-at s p r = saidI64 r ≡ signedAt 8 s p
+
+-- field::fixed::u16_or_zero
+abbrev pub field-fixed-u16-or-zero : (s : List ℕ) (p : ℕ) → ℕ → Type 0
+field-fixed-u16-or-zero s p r = r ≡ orZero 2 s p
+
+-- field::fixed::u32_or_zero
+abbrev pub field-fixed-u32-or-zero : (s : List ℕ) (p : ℕ) → ℕ → Type 0
+field-fixed-u32-or-zero s p r = r ≡ orZero 4 s p
+
+-- field::fixed::i32_or_zero
+abbrev pub field-fixed-i32-or-zero : (s : List ℕ) (p : ℕ) → ℤ → Type 0
+field-fixed-i32-or-zero s p r = r ≡ twos 4 (orZero 4 s p)
+
+-- field::index::TypeIndex::is_cross_module
+abbrev pub field-index-type-index-is-cross-module : (self : TypeIndex) → Bool → Type 0
+field-index-type-index-is-cross-module self r = r ≡ leb 0x80000000 (self .0)
+
+-- field::index::TypeIndex::optional
+abbrev pub field-index-type-index-optional : (self : TypeIndex) → OptTypeIndex → Type 0
+field-index-type-index-optional self r = typeOption r ≡ optionalOf noType (self .0)
+
+-- field::index::IdIndex::is_cross_module
+abbrev pub field-index-id-index-is-cross-module : (self : IdIndex) → Bool → Type 0
+field-index-id-index-is-cross-module self r = r ≡ leb 0x80000000 (self .0)
+
+-- field::index::IdIndex::optional
+abbrev pub field-index-id-index-optional : (self : IdIndex) → OptIdIndex → Type 0
+field-index-id-index-optional self r = idOption r ≡ optionalOf noId (self .0)
+
+-- field::index::type_at
+abbrev pub field-index-type-at : (s : List ℕ) (p : ℕ) → ReadType → Type 0
+field-index-type-at s p r = saidType r ≡ fixedAt 4 s p
+
+-- field::index::id_at
+abbrev pub field-index-id-at : (s : List ℕ) (p : ℕ) → ReadId → Type 0
+field-index-id-at s p r = saidId r ≡ fixedAt 4 s p
+
+-- field::index::string_ref_at
+abbrev pub field-index-string-ref-at : (s : List ℕ) (p : ℕ) → ReadStringRef → Type 0
+field-index-string-ref-at s p r = saidStringRef r ≡ fixedAt 4 s p
+
+-- field::index::optional_type_at
+abbrev pub field-index-optional-type-at : (s : List ℕ) (p : ℕ) → ReadOptType → Type 0
+field-index-optional-type-at s p r = saidOptType r ≡ optionalAt noType s p
+
+-- field::index::optional_id_at
+abbrev pub field-index-optional-id-at : (s : List ℕ) (p : ℕ) → ReadOptId → Type 0
+field-index-optional-id-at s p r = saidOptId r ≡ optionalAt noId s p
+
+-- field::run::after_bytes
+abbrev pub field-run-after-bytes : (s : List ℕ) (p : ℕ) (n : ℕ) → After → Type 0
+field-run-after-bytes s p n r = saidAfter r ≡ bytesAfter n s p
+
+-- field::run::bytes_at
+abbrev pub field-run-bytes-at : (s : List ℕ) (p : ℕ) (n : ℕ) → List ℕ → Type 0
+field-run-bytes-at s p n r = r ≡ bytesAt n s p
+
+-- field_number::number_at
+abbrev pub field-number-number-at : (s : List ℕ) (p : ℕ) → ReadVariant → Type 0
+field-number-number-at s p r = saidVariant r ≡ numericAt s p
+
+-- field_number::size_at
+abbrev pub field-number-size-at : (s : List ℕ) (p : ℕ) → ReadSize → Type 0
+field-number-size-at s p r = saidSize-of-field-number r ≡ sizeAt s p
+
+-- field_text::string_at
+abbrev pub field-text-string-at : (s : List ℕ) (p : ℕ) → ReadString → Type 0
+field-text-string-at s p r = saidString r ≡ stringAt s p
+
+-- field_text::RawString::bytes
+abbrev pub field-text-raw-string-bytes : (self : RawString) (s : List ℕ) → List ℕ → Type 0
+field-text-raw-string-bytes self s r = r ≡ bytesAt (self .length) s (self .place)
+
+-- field_text::counted_string_at
+abbrev pub field-text-counted-string-at : (s : List ℕ) (p : ℕ) → ReadString → Type 0
+field-text-counted-string-at s p r = saidString r ≡ countedStringAt s p
+
+-- field_text::string_of
+abbrev pub field-text-string-of : (leaf : ℕ) (s : List ℕ) (p : ℕ) → ReadString → Type 0
+field-text-string-of leaf s p r = saidString r ≡ stringOf leaf s p
+
+-- field_text::after_padding
+abbrev pub field-text-after-padding : (s : List ℕ) (p : ℕ) → After → Type 0
+field-text-after-padding s p r = saidAfter r ≡ paddingAfter s p
+
+-- record_data::TypeData::name
+abbrev pub record-data-type-data-name : (self : TypeData) → OptString → Type 0
+record-data-type-data-name self r = stringValue r ≡ typeName self
+
+-- record_data::type_data
+abbrev pub record-data-type-data : (s : List ℕ) → TypeAnswer → Type 0
+record-data-type-data s r = saidTypeData r ≡ recordOf typeLeaves s
+
+-- record_id::id_data
+abbrev pub record-id-id-data : (s : List ℕ) → IdAnswer → Type 0
+record-id-id-data s r = saidIdData r ≡ recordOf idLeaves s
+
+-- record_list::start
+abbrev pub record-list-start : (stream : Stream) (s : List ℕ) → StartAnswer → Type 0
+record-list-start stream s r = saidStart r ≡ startOf stream s
+
+-- record_list::step
+abbrev pub record-list-step : (s : List ℕ) (c : ListCursor) → StepAnswer → Type 0
+record-list-step s c r = saidStep r ≡ stepOf s c
+
+-- record_list::element_from
+abbrev pub record-list-element-from : (s : List ℕ) (c : ListCursor) (k : ℕ) → ElementAnswer → Type 0
+record-list-element-from s c k r = saidElement r ≡ elementBy (stepOf s) k c
+
+-- record_member::Member::name
+abbrev pub record-member-member-name : (self : Member) → OptString → Type 0
+record-member-member-name self r = stringOption r ≡ memberName (memberValues self)
+
+-- record_member::member_at
+abbrev pub record-member-member-at : (s : List ℕ) (p : ℕ) → ReadMember → Type 0
+record-member-member-at s p r = saidMember r ≡ readRecord memberLeaves s p
+
+-- record_member::method_entry_at
+abbrev pub record-member-method-entry-at : (s : List ℕ) (p : ℕ) → ReadMethodEntry → Type 0
+record-member-method-entry-at s p r = saidEntry r ≡ readFields method 0 s p
+
+-- record_parse::parse
+abbrev pub record-parse-parse : (tpi : List ℕ) (ipi : List ℕ) (entry : Entry) → ParseAnswer → Type 0
+record-parse-parse tpi ipi entry r = saidParse r ≡ parseOf tpi ipi entry
+
+-- record_reader::ListReader::new
+abbrev pub record-reader-list-reader-new : (bytes : RefT (List ℕ)) (cursor : ListCursor) → ListReader → Type 0
+record-reader-list-reader-new bytes cursor r = (r .bytes ≡ bytes) × (r .cursor ≡ cursor)
+
+-- record_reader::ListReader::element
+abbrev pub record-reader-list-reader-element : (self : ListReader) (k : ℕ) → ElementAnswer → Type 0
+record-reader-list-reader-element self k r = saidElement r ≡ elementBy (stepOf (now (self .bytes))) k (self .cursor)
+
+-- record_reader::ListReader::step
+abbrev pub record-reader-list-reader-step : (self : ListReader) → ElementAnswer → ListReader → Type 0
+record-reader-list-reader-step self r self′ = Steps (self .cursor) (stepOf (now (self .bytes)) (self .cursor)) r (self′ .cursor) × (self′ .bytes ≡ self .bytes)
+
+-- record_reader::step_of
+abbrev pub record-reader-step-of : (bytes : List ℕ) (cursor : ListCursor) → Stepped → Type 0
+record-reader-step-of bytes cursor u = Steps cursor (stepOf bytes cursor) (u .answer) (u .cursor)
+
+-- record_reader::nth
+abbrev pub record-reader-nth : (stream : Stream) (s : List ℕ) (k : ℕ) → ElementAnswer → Type 0
+record-reader-nth stream s k r = saidElement r ≡ elementOf stream s k
+
+-- stream_finder::create
+abbrev pub stream-finder-create : (s : List ℕ) (t : List ℕ) → FinderAnswer → List ℕ → Type 0
+stream-finder-create s t r t′ = Fills t (createOf s t) r t′
+
+-- stream_finder::update
+abbrev pub stream-finder-update : (f : ItemFinder) (t : List ℕ) (c : ItemIter) → FinderAnswer → List ℕ → Type 0
+stream-finder-update f t c r t′ = Fills t (updateOf (state f t) c) r t′
+
+-- stream_finder::ItemFinder::max_type_index
+abbrev pub stream-finder-item-finder-max-type-index : (self : ItemFinder) → TypeIndex → Type 0
+stream-finder-item-finder-max-type-index self r = r .0 ≡ maxIndexOf self
+
+-- stream_finder::ItemFinder::max_id_index
+abbrev pub stream-finder-item-finder-max-id-index : (self : ItemFinder) → IdIndex → Type 0
+stream-finder-item-finder-max-id-index self r = r .0 ≡ maxIndexOf self
+
+-- stream_finder::find_type
+abbrev pub stream-finder-find-type : (s : List ℕ) (f : ItemFinder) (t : List ℕ) (i : TypeIndex) → FindAnswer → Type 0
+stream-finder-find-type s f t i r = saidFind r ≡ findOf s (state f t) (item-index.Types i)
+
+-- stream_finder::find_id
+abbrev pub stream-finder-find-id : (s : List ℕ) (f : ItemFinder) (t : List ℕ) (i : IdIndex) → FindAnswer → Type 0
+stream-finder-find-id s f t i r = saidFind r ≡ findOf s (state f t) (item-index.Ids i)
+
+-- stream_finder::lent::ItemFinder::update
+abbrev pub stream-finder-lent-item-finder-update : (self : ItemFinder) (t : List ℕ) (c : ItemIter) → UpdateAnswer → ItemFinder → List ℕ → Type 0
+stream-finder-lent-item-finder-update self t c r self′ t′ = Updates (state self t) c r (state self′ t′)
+
+-- stream_finder::lent::update_local
+abbrev pub stream-finder-lent-update-local : (f : ItemFinder) (t : List ℕ) (c : ItemIter) → UpdateStep → List ℕ → Type 0
+stream-finder-lent-update-local f t c u t′ = Updates (state f t) c (u .answer) (state (u .finder) t′)
+
+-- stream_header::Header::parse
+abbrev pub stream-header-header-parse : (s : List ℕ) → HeaderAnswer → Type 0
+stream-header-header-parse s r = saidHeader r ≡ headerOf s
+
+-- stream_header::Header::count
+abbrev pub stream-header-header-count : (self : Header) → ℕ → Type 0
+stream-header-header-count self r = r ≡ self .«maximum_index» - self .«minimum_index»
+
+-- stream_index::turn
+abbrev pub stream-index-turn : (s : List ℕ) (f : ItemFinder) (t : List ℕ) (c : ItemIter) → TurnAnswer → List ℕ → Type 0
+stream-index-turn s f t c r t′ = Leads t (turnOf s (state f t) c) r t′
+
+-- stream_index::index_on
+abbrev pub stream-index-index-on : (s : List ℕ) (f : ItemFinder) (t : List ℕ) (c : ItemIter) → Tour → List ℕ → Type 0
+stream-index-index-on s f t c r t′ = Walks s c (state f t) r t′
+
+-- stream_index::index_all
+abbrev pub stream-index-index-all : (stream : Stream) (s : List ℕ) (t : List ℕ) → IndexAnswer → List ℕ → Type 0
+stream-index-index-all stream s t r t′ = Indexes stream s t r t′
+
+-- stream_item::Stream::index
+abbrev pub stream-item-stream-index : (self : Stream) (n : ℕ) → ItemIndex → Type 0
+stream-item-stream-index self n r = r ≡ indexIn self n
+
+-- stream_item::ItemIndex::stream
+abbrev pub stream-item-item-index-stream : (self : ItemIndex) → Stream → Type 0
+stream-item-item-index-stream self r = r ≡ streamIn self
+
+-- stream_item::ItemIndex::number
+abbrev pub stream-item-item-index-number : (self : ItemIndex) → ℕ → Type 0
+stream-item-item-index-number self r = r ≡ numberIn self
+
+-- stream_item::Item::index
+abbrev pub stream-item-item-index : (self : Item) → ItemIndex → Type 0
+stream-item-item-index self r = r ≡ self .index
+
+-- stream_item::Item::len
+abbrev pub stream-item-item-len : (self : Item) → ℕ → Type 0
+stream-item-item-len self r = r ≡ self .length
+
+-- stream_item::Item::is_empty
+abbrev pub stream-item-item-is-empty : (self : Item) → Bool → Type 0
+stream-item-item-is-empty self r = r ≡ eqb (self .length) 0
+
+-- stream_item::Entry::index
+abbrev pub stream-item-entry-index : (self : Entry) → ItemIndex → Type 0
+stream-item-entry-index self r = r ≡ indexOf self
+
+-- stream_item::Entry::len
+abbrev pub stream-item-entry-len : (self : Entry) → ℕ → Type 0
+stream-item-entry-len self r = r ≡ lengthOf self
+
+-- stream_item::Entry::is_empty
+abbrev pub stream-item-entry-is-empty : (self : Entry) → Bool → Type 0
+stream-item-entry-is-empty self r = r ≡ eqb (lengthOf self) 0
+
+-- stream_item::information::len
+abbrev pub stream-item-information-len : (s : List ℕ) → LenAnswer → Type 0
+stream-item-information-len s r = saidLen r ≡ lenOf s
+
+-- stream_item::information::is_empty
+abbrev pub stream-item-information-is-empty : (s : List ℕ) → EmptyAnswer → Type 0
+stream-item-information-is-empty s r = saidEmpty r ≡ isEmptyOf s
+
+-- stream_item::iter::iter
+abbrev pub stream-item-iter-iter : (stream : Stream) (s : List ℕ) → IterAnswer → Type 0
+stream-item-iter-iter stream s r = saidIter r ≡ iterOf stream s
+
+-- stream_item::iter::next
+abbrev pub stream-item-iter-next : (s : List ℕ) (c : ItemIter) → NextAnswer → Type 0
+stream-item-iter-next s c r = saidNext r ≡ nextOf s c
+
+-- stream_item::link::link_at
+abbrev pub stream-item-link-link-at : (s : List ℕ) (p : ℕ) → Link → Type 0
+stream-item-link-link-at s p r = r ≡ linkAt s p
+
+-- stream_item::link::link_of
+abbrev pub stream-item-link-link-of : (s : List ℕ) (p : ℕ) (k : ℕ) → Hit → Type 0
+stream-item-link-link-of s p k r = r ≡ linkOf s p k
+
+-- stream_view::view_answer
+abbrev pub stream-view-view-answer : (tpi : List ℕ) (ipi : List ℕ) (entry : Entry) → ViewAnswer → Type 0
+stream-view-view-answer tpi ipi entry r = saidView r ≡ viewOf tpi ipi entry
+
+-- stream_view::view
+abbrev pub stream-view-view : (tpi : List ℕ) (ipi : List ℕ) (entry : Entry) → List ℕ → Type 0
+stream-view-view tpi ipi entry r = r ≡ viewBytes tpi ipi entry
+
+-- stream_view::raw_kind
+abbrev pub stream-view-raw-kind : (tpi : List ℕ) (ipi : List ℕ) (entry : Entry) → RawKindAnswer → Type 0
+stream-view-raw-kind tpi ipi entry r = saidRawKind r ≡ rawKindOf tpi ipi entry
+
+-- word_attributes::TypeProperties::packed
+abbrev pub word-attributes-type-properties-packed : (self : TypeProperties) → Bool → Type 0
+word-attributes-type-properties-packed self r = r ≡ bit 0 (self .0)
+
+-- word_attributes::TypeProperties::constructors
+abbrev pub word-attributes-type-properties-constructors : (self : TypeProperties) → Bool → Type 0
+word-attributes-type-properties-constructors self r = r ≡ bit 1 (self .0)
+
+-- word_attributes::TypeProperties::overloaded_operators
+abbrev pub word-attributes-type-properties-overloaded-operators : (self : TypeProperties) → Bool → Type 0
+word-attributes-type-properties-overloaded-operators self r = r ≡ bit 2 (self .0)
+
+-- word_attributes::TypeProperties::is_nested_type
+abbrev pub word-attributes-type-properties-is-nested-type : (self : TypeProperties) → Bool → Type 0
+word-attributes-type-properties-is-nested-type self r = r ≡ bit 3 (self .0)
+
+-- word_attributes::TypeProperties::contains_nested_types
+abbrev pub word-attributes-type-properties-contains-nested-types : (self : TypeProperties) → Bool → Type 0
+word-attributes-type-properties-contains-nested-types self r = r ≡ bit 4 (self .0)
+
+-- word_attributes::TypeProperties::overloaded_assignment
+abbrev pub word-attributes-type-properties-overloaded-assignment : (self : TypeProperties) → Bool → Type 0
+word-attributes-type-properties-overloaded-assignment self r = r ≡ bit 5 (self .0)
+
+-- word_attributes::TypeProperties::overloaded_casting
+abbrev pub word-attributes-type-properties-overloaded-casting : (self : TypeProperties) → Bool → Type 0
+word-attributes-type-properties-overloaded-casting self r = r ≡ bit 6 (self .0)
+
+-- word_attributes::TypeProperties::forward_reference
+abbrev pub word-attributes-type-properties-forward-reference : (self : TypeProperties) → Bool → Type 0
+word-attributes-type-properties-forward-reference self r = r ≡ bit 7 (self .0)
+
+-- word_attributes::TypeProperties::scoped_definition
+abbrev pub word-attributes-type-properties-scoped-definition : (self : TypeProperties) → Bool → Type 0
+word-attributes-type-properties-scoped-definition self r = r ≡ bit 8 (self .0)
+
+-- word_attributes::TypeProperties::has_unique_name
+abbrev pub word-attributes-type-properties-has-unique-name : (self : TypeProperties) → Bool → Type 0
+word-attributes-type-properties-has-unique-name self r = r ≡ bit 9 (self .0)
+
+-- word_attributes::TypeProperties::sealed
+abbrev pub word-attributes-type-properties-sealed : (self : TypeProperties) → Bool → Type 0
+word-attributes-type-properties-sealed self r = r ≡ bit 10 (self .0)
+
+-- word_attributes::TypeProperties::intrinsic_type
+abbrev pub word-attributes-type-properties-intrinsic-type : (self : TypeProperties) → Bool → Type 0
+word-attributes-type-properties-intrinsic-type self r = r ≡ bit 12 (self .0)
+
+-- word_attributes::TypeProperties::hfa
+abbrev pub word-attributes-type-properties-hfa : (self : TypeProperties) → ℕ → Type 0
+word-attributes-type-properties-hfa self r = r ≡ bits 11 12 (self .0)
+
+-- word_attributes::TypeProperties::mocom
+abbrev pub word-attributes-type-properties-mocom : (self : TypeProperties) → ℕ → Type 0
+word-attributes-type-properties-mocom self r = r ≡ mocomOf (self .0)
+
+-- word_attributes::FieldAttributes::access
+abbrev pub word-attributes-field-attributes-access : (self : FieldAttributes) → ℕ → Type 0
+word-attributes-field-attributes-access self r = r ≡ bits 0 1 (self .0)
+
+-- word_attributes::FieldAttributes::method_properties
+abbrev pub word-attributes-field-attributes-method-properties : (self : FieldAttributes) → ℕ → Type 0
+word-attributes-field-attributes-method-properties self r = r ≡ methodProperty (self .0)
+
+-- word_attributes::FieldAttributes::is_static
+abbrev pub word-attributes-field-attributes-is-static : (self : FieldAttributes) → Bool → Type 0
+word-attributes-field-attributes-is-static self r = r ≡ eqb (methodProperty (self .0)) 2
+
+-- word_attributes::FieldAttributes::is_virtual
+abbrev pub word-attributes-field-attributes-is-virtual : (self : FieldAttributes) → Bool → Type 0
+word-attributes-field-attributes-is-virtual self r = r ≡ eqb (methodProperty (self .0)) 1
+
+-- word_attributes::FieldAttributes::is_pure_virtual
+abbrev pub word-attributes-field-attributes-is-pure-virtual : (self : FieldAttributes) → Bool → Type 0
+word-attributes-field-attributes-is-pure-virtual self r = r ≡ eqb (methodProperty (self .0)) 5
+
+-- word_attributes::FieldAttributes::is_intro_virtual
+abbrev pub word-attributes-field-attributes-is-intro-virtual : (self : FieldAttributes) → Bool → Type 0
+word-attributes-field-attributes-is-intro-virtual self r = r ≡ introducing (self .0)
+
+-- word_attributes::FunctionAttributes::calling_convention
+abbrev pub word-attributes-function-attributes-calling-convention : (self : FunctionAttributes) → ℕ → Type 0
+word-attributes-function-attributes-calling-convention self r = r ≡ bits 0 7 (self .0)
+
+-- word_attributes::FunctionAttributes::cxx_return_udt
+abbrev pub word-attributes-function-attributes-cxx-return-udt : (self : FunctionAttributes) → Bool → Type 0
+word-attributes-function-attributes-cxx-return-udt self r = r ≡ bit 8 (self .0)
+
+-- word_attributes::FunctionAttributes::is_constructor
+abbrev pub word-attributes-function-attributes-is-constructor : (self : FunctionAttributes) → Bool → Type 0
+word-attributes-function-attributes-is-constructor self r = r ≡ bit 9 (self .0)
+
+-- word_attributes::FunctionAttributes::is_constructor_with_virtual_bases
+abbrev pub word-attributes-function-attributes-is-constructor-with-virtual-bases : (self : FunctionAttributes) → Bool → Type 0
+word-attributes-function-attributes-is-constructor-with-virtual-bases self r = r ≡ bit 10 (self .0)
+
+-- word_attributes::ModifierFlags::constant
+abbrev pub word-attributes-modifier-flags-constant : (self : ModifierFlags) → Bool → Type 0
+word-attributes-modifier-flags-constant self r = r ≡ bit 0 (self .0)
+
+-- word_attributes::ModifierFlags::volatile
+abbrev pub word-attributes-modifier-flags-volatile : (self : ModifierFlags) → Bool → Type 0
+word-attributes-modifier-flags-volatile self r = r ≡ bit 1 (self .0)
+
+-- word_attributes::ModifierFlags::unaligned
+abbrev pub word-attributes-modifier-flags-unaligned : (self : ModifierFlags) → Bool → Type 0
+word-attributes-modifier-flags-unaligned self r = r ≡ bit 2 (self .0)
+
+-- word_attributes::PointerAttributes::pointer_kind
+abbrev pub word-attributes-pointer-attributes-pointer-kind : (self : PointerAttributes) → KindAnswer → Type 0
+word-attributes-pointer-attributes-pointer-kind self r = saidKind r ≡ kindOf (self .0)
+
+-- word_attributes::PointerAttributes::pointer_mode
+abbrev pub word-attributes-pointer-attributes-pointer-mode : (self : PointerAttributes) → ModeAnswer → Type 0
+word-attributes-pointer-attributes-pointer-mode self r = saidMode r ≡ modeOf (self .0)
+
+-- word_attributes::PointerAttributes::pointer_to_member
+abbrev pub word-attributes-pointer-attributes-pointer-to-member : (self : PointerAttributes) → FlagAnswer → Type 0
+word-attributes-pointer-attributes-pointer-to-member self r = saidFlag r ≡ toMemberOf (self .0)
+
+-- word_attributes::PointerAttributes::is_flat_32
+abbrev pub word-attributes-pointer-attributes-is-flat-32 : (self : PointerAttributes) → Bool → Type 0
+word-attributes-pointer-attributes-is-flat-32 self r = r ≡ bit 8 (self .0)
+
+-- word_attributes::PointerAttributes::is_volatile
+abbrev pub word-attributes-pointer-attributes-is-volatile : (self : PointerAttributes) → Bool → Type 0
+word-attributes-pointer-attributes-is-volatile self r = r ≡ bit 9 (self .0)
+
+-- word_attributes::PointerAttributes::is_const
+abbrev pub word-attributes-pointer-attributes-is-const : (self : PointerAttributes) → Bool → Type 0
+word-attributes-pointer-attributes-is-const self r = r ≡ bit 10 (self .0)
+
+-- word_attributes::PointerAttributes::is_unaligned
+abbrev pub word-attributes-pointer-attributes-is-unaligned : (self : PointerAttributes) → Bool → Type 0
+word-attributes-pointer-attributes-is-unaligned self r = r ≡ bit 11 (self .0)
+
+-- word_attributes::PointerAttributes::is_restrict
+abbrev pub word-attributes-pointer-attributes-is-restrict : (self : PointerAttributes) → Bool → Type 0
+word-attributes-pointer-attributes-is-restrict self r = r ≡ bit 12 (self .0)
+
+-- word_attributes::PointerAttributes::is_reference
+abbrev pub word-attributes-pointer-attributes-is-reference : (self : PointerAttributes) → FlagAnswer → Type 0
+word-attributes-pointer-attributes-is-reference self r = saidFlag r ≡ referenceOf (self .0)
+
+-- word_attributes::PointerAttributes::size
+abbrev pub word-attributes-pointer-attributes-size : (self : PointerAttributes) → SizeAnswer → Type 0
+word-attributes-pointer-attributes-size self r = saidSize-of-word-attributes r ≡ sizeOf (self .0)
+
+-- word_attributes::PointerAttributes::is_mocom
+abbrev pub word-attributes-pointer-attributes-is-mocom : (self : PointerAttributes) → Bool → Type 0
+word-attributes-pointer-attributes-is-mocom self r = r ≡ bit 18 (self .0)
+
+-- word_primitive::primitive
+abbrev pub word-primitive-primitive : (index : TypeIndex) → PrimitiveAnswer → Type 0
+word-primitive-primitive index r = saidPrimitive r ≡ primitiveOf (index .0)
