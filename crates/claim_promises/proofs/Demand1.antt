@@ -1,7 +1,8 @@
 -- Demand 1 is met: each field by its law. Assumes nothing.
 use Rattle.answer.proofs.OneOutcome.{in-table}
 use Rattle.stream_finder.specs.Finder.{state, createOf, updateOf}
-use Rattle.stream_index.specs.Walk.{turnOf}
+use mathlib.Core.Path.{sym, ap, _∙_}
+use Rattle.stream_index.specs.Walk.{turnOf, saidEnd}
 use Rattle.record_list.specs.Lists.{stepOf}
 use Rattle.claim_promises.proofs.ReadingRefuses.{fixed-refuses, signed-refuses, optional-refuses, string-refuses, counted-refuses, string-of-refuses, bytes-refuses, padding-refuses, numeric-refuses, size-refuses}
 use Rattle.claim_promises.proofs.StreamRefuses.{primitive-refuses, kind-refuses, mode-refuses, to-member-refuses, reference-refuses, pointer-size-refuses, header-refuses, iter-refuses, len-refuses, is-empty-refuses, next-refuses, view-refuses, raw-kind-refuses, create-refuses, update-refuses, find-refuses, turn-refuses, type-refuses, id-refuses, member-refuses, method-refuses, start-refuses, step-refuses, element-by-refuses, element-refuses, element-ids-refuses, parse-refuses}
@@ -52,6 +53,7 @@ demand1 = record {
   update-keeps = λ f t c. leaves-alone t (updateOf (state f t) c);
   turn-keeps = λ s f t c. leads-nowhere t (turnOf s (state f t) c);
   index-all-keeps = λ tag s t e t′ h. h .1;
+  index-on-keeps = λ s f t c r t′ e w h. sym (w .ended) ∙ ap saidEnd h;
   lent-update-keeps = λ σ c. changes-nothing σ (updateOf σ c);
   step-keeps = λ s c. steps-nowhere c (stepOf s c);
 }

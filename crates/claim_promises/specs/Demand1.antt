@@ -8,7 +8,7 @@ use mathlib.Core.Bool.{true}
 use mathlib.Core.Path.{_≡_}
 use mathlib.Core.List.{List, [], _∷_}
 use Rattle.answer.specs.Answer.{refused}
-use Rattle.answer.specs.Refusals.{numberOf, detailsOf, listed}
+use Rattle.answer.specs.Refusals.{numberOf, detailsOf, no, listed}
 use Rattle.answer.specs.declared.Refusal.{Refusal}
 use Rattle.field.specs.Fields.{fixedAt, signedAt}
 use Rattle.field.specs.Indices.{optionalAt}
@@ -31,7 +31,9 @@ use Rattle.stream_finder.specs.Lent.{saidUpdate, Updates}
 use Rattle.stream_finder.specs.declared.ItemFinder.{ItemFinder}
 use Rattle.stream_finder.specs.declared.FinderAnswer.{FinderAnswer}
 use Rattle.stream_finder.specs.declared.lent.UpdateAnswer.{UpdateAnswer}
-use Rattle.stream_index.specs.Walk.{saidTurn, turnOf, Leads, Indexes}
+use Rattle.stream_index.specs.Walk.{saidTurn, turnOf, Leads, Walks, Indexes}
+use Rattle.stream_index.specs.declared.Tour.{Tour}
+use Rattle.stream_index.specs.declared.End.the-variants as end
 use Rattle.stream_index.specs.declared.TurnAnswer.{TurnAnswer}
 use Rattle.stream_index.specs.declared.IndexAnswer.the-variants as walk
 use Rattle.record_layout.specs.Fields.{readFields}
@@ -101,6 +103,10 @@ pub record Demand1 : Type 0 where
   pub turn-keeps : (s : List ℕ) (f : ItemFinder) (t : List ℕ) (c : ItemIter) (r : TurnAnswer) (t′ : List ℕ) (n : ℕ) (d : List ℕ)
       → Leads t (turnOf s (state f t) c) r t′ → saidTurn r t′ ≡ refused n d → t′ ≡ t
   pub index-all-keeps : (tag : Stream) (s t : List ℕ) (e : Refusal) (t′ : List ℕ) → Indexes tag s t (walk.Refused e) t′ → t′ ≡ t
+  -- a walk that ends in a refusal is answered, and says so: the turns before it have stored their places, and the turn that was refused has changed
+  -- nothing. It is the next turn from where the walk stands, and can be tried again, with a longer table for example
+  pub index-on-keeps : (s : List ℕ) (f : ItemFinder) (t : List ℕ) (c : ItemIter) (r : Tour) (t′ : List ℕ) (e : Refusal)
+      → Walks s c (state f t) r t′ → r .end ≡ end.Refused e → turnOf s (state (r .finder) t′) (r .cursor) ≡ no e
   -- finder and table, lent to `update` in place
   pub lent-update-keeps : (σ : State) (c : ItemIter) (r : UpdateAnswer) (τ : State) (n : ℕ) (d : List ℕ) → Updates σ c r τ → saidUpdate r ≡ refused n d → τ ≡ σ
   -- the list reader, lent to its step: its bytes stay by the contract itself
