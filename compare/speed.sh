@@ -11,7 +11,7 @@
 # once (starting, reading the input, a finder for `find`) is not in it. `header` is counted by the header and not by the record.
 # valgrind's callgrind counts every instruction of the program, so that a run can be repeated and gives the same numbers.
 # On another processor the port, which is compiled for x86-64, runs under the toolchain's emulator, one instruction a line of its log, once and
-# twice; the numbers are callgrind's. The crate is then not counted: its own build is for that processor (SPEED may be `-`).
+# twice. The crate is then not counted: its own build is for that processor (SPEED may be `-`).
 set -e
 if [ $# -lt 1 ]; then
   echo "usage: speed.sh SPEED [STREAM..]" >&2
