@@ -57,6 +57,16 @@ fn put_name_of(e: Refusal) {
         Refusal::ForeignCursor => put(b"foreign cursor"),
         Refusal::NoSuchElement => put(b"no such element"),
         Refusal::TooLong => put(b"too long"),
+        Refusal::WouldNotReadBack => put(b"would not read back"),
+        Refusal::RecordTooLong => put(b"record too long"),
+        Refusal::NoRoom => put(b"no room"),
+        Refusal::FileWrong => put(b"file wrong"),
+        Refusal::AnotherStream => put(b"another stream"),
+        Refusal::OffTheChain => put(b"off the chain"),
+        Refusal::TooDeep => put(b"too deep"),
+        Refusal::LeafNotPrinted => put(b"leaf not printed"),
+        Refusal::Signature => put(b"signature"),
+        Refusal::Shift => put(b"shift"),
     }
 }
 
