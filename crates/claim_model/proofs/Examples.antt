@@ -27,7 +27,7 @@ use Rattle.claim_model.specs.TpiWords.{kind-arms as pointer-arms}
 use Rattle.claim_model.specs.TpiHelpers.{parse-optional-id-index, parse-string, pad-byte, padding-loop, parse-padding}
 use Rattle.claim_model.specs.TpiId.{Function, MemberFunction, BuildInfo, StringList, String, UserDefinedTypeSource, Local, Remote, function-id, member-function-id, pushed, build-info, string-list, string-id, source-line, by-leaf, try-from-ctx, parse-id}
 use Rattle.claim_model.specs.Run.{crateRun, turns, portRun}
-use Rattle.claim_model.specs.Course.{begins, steps, updates, crateUses, crateCourse}
+use Rattle.claim_model.specs.Course.{Action, begins, steps, updates, crateUses, crateCourse, portUses, portCourse}
 
 -- the payloads of E's two records
 abbrev modifier : List ℕ
@@ -103,6 +103,30 @@ pub courses : crateCourse streamE (begins ∷ begins ∷ steps 0 ∷ updates 0 �
     ≡ found 4097 pointed ∷ errs UnexpectedEof ∷ errs (TypeNotIndexed 0 0) ∷ []
 unfolding crateCourse crateUses parse-information parse-header fields iter new resolve max-index update skipped hit miss find next len is-empty parse take littleAt
 courses = refl
+
+abbrev twice : List ℕ → List ℕ
+twice b = b ++ b
+
+-- eight records, then a length of one, which `next` refuses and `find` takes
+abbrev short-ninth : List ℕ
+short-ninth = made (four 56 0) (four 0 16) (four 8 16) (twice (twice (twice (2 ∷ 0 ∷ 6 ∷ 7 ∷ []))) ++ (1 ∷ 0 ∷ 5 ∷ []))
+
+-- iterator k steps n times and updates
+abbrev goes : ℕ → ℕ → List Action
+goes n k = replicate n (steps k) ++ (updates k ∷ [])
+
+-- after eight steps an update stores the place of 4104; after the ninth, which is refused, it does nothing; and another iterator goes on after
+-- that refusal, and its update stores the place
+abbrev uses : List (List Action)
+uses = (begins ∷ goes 8 0) ∷ (begins ∷ goes 9 0) ∷ (begins ∷ begins ∷ steps 1 ∷ goes 9 0 ++ goes 7 1) ∷ []
+
+pub crate-stops : map (λ acts. crateCourse short-ninth acts 4104) uses ≡ found 4104 (5 ∷ []) ∷ errs (TypeNotIndexed 4104 4103) ∷ found 4104 (5 ∷ []) ∷ []
+unfolding crateCourse crateUses parse-information parse-header fields iter new resolve max-index update skipped hit miss find next len is-empty parse take littleAt
+crate-stops = refl
+
+pub port-stops : map (λ acts. portCourse stream.Types short-ninth (0 ∷ 0 ∷ []) acts 4104) uses ≡ answered (port 4104 90 1 0) ∷ refused 9 (4104 ∷ 4103 ∷ []) ∷ answered (port 4104 90 1 0) ∷ []
+unfolding portCourse portUses createBy begunBy iterOf headerOf nextOf updateBy lookBy linkOf chain linkAt maxIndexBy littleAt
+port-stops = refl
 
 -- "0x0674 is I32 by Near64; 0x0874 and 0x0004 give 8"; 0x1000 is outside the domain
 pub primitives : map type-data-for-primitive (0x0674 ∷ 0x0003 ∷ 0x0874 ∷ 0x0004 ∷ 0x1000 ∷ [])

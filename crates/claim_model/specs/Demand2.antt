@@ -81,7 +81,7 @@ pub record Demand2 : Type 0 where
   -- from the header to a lookup, n turns of `next` and `update` between; and how far the domain reaches: minimum + 8 (n + 1) below 2 ^ 32
   pub runs : RunsEqual
   pub reach : RunsSame
-  -- as many iterators as one likes, stepping and updating in any order, then a lookup: every update from an iterator that has not refused
+  -- as many iterators as one likes, stepping and updating in any order, each up to its own first refusal, then a lookup
   pub courses : CoursesEqual
   -- "Indices and primitives": every index below 0x1000; from there up the crate panics
   pub primitives : (i : ℕ) → i < 0x1000 → Same (type-data-for-primitive i) (shownBy primitiveShown (primitiveOf i))
