@@ -13,12 +13,17 @@ use Rattle.answer.specs.Answer.{answered}
 use Rattle.stream_header.specs.Header.{longest}
 use Rattle.stream_header.specs.declared.Header.{Header}
 use Rattle.stream_item.specs.declared.Stream.{Stream}
+use Rattle.stream_item.specs.declared.iter.ItemIter.{ItemIter}
 use Rattle.stream_finder.specs.Finder.{state, holding, begunOf}
 use Rattle.stream_finder.proofs.FinderLaws.{begun-none, begun-full, begun-some}
 use Rattle.claim_model.specs.TpiItems.{iter, new, finder}
 use Rattle.claim_model.specs.Equal.{Equal, Same, shownBy}
-use Rattle.claim_model.specs.Shown.{information, iterShown, finderShown, Roomy, first}
+use Rattle.claim_model.specs.Shown.{information, iterShown, finderShown, Roomy}
 use Rattle.claim_model.proofs.BufferLaws.{take-in, take-out, equal-wraps, equal-panics, same-gives, by-order}
+
+-- the cursor behind the header
+abbrev pub first : Stream → Header → ItemIter
+first tag h = record { stream = tag; at = h .«header_size»; index = h .«minimum_index» }
 
 module _ (tag : Stream) (s : List ℕ) (h : Header) (l : length s ≤ longest) where
   pub iter-same : h .«header_size» ≤ length s → Same (iter (information s h)) (answered (iterShown s (first tag h)))

@@ -1,13 +1,12 @@
 -- Demand 2 is met: each field by its theorem. Assumes nothing.
 use Rattle.claim_model.proofs.HeaderEqual.{header}
 use Rattle.claim_model.proofs.NextEqual.{next-alike}
-use Rattle.claim_model.proofs.CreateEqual.{iter-equal, create-equal}
 use Rattle.claim_model.proofs.UpdateEqual.{update-equal}
 use Rattle.claim_model.proofs.FindEqual.{max-equal, find-equal}
 use Rattle.claim_model.proofs.RunEqual.{run-equal}
 use Rattle.claim_model.proofs.RunStays.{run-same}
 use Rattle.claim_model.proofs.CourseEqual.{course-equal}
-use Rattle.claim_model.proofs.ItemsEqual.{len-same, is-empty-same, item-len-is, item-is-empty-is, raw-kind-equal}
+use Rattle.claim_model.proofs.ItemsEqual.{start-same, creation-same, len-same, is-empty-same, item-len-is, item-is-empty-is, raw-kind-equal}
 use Rattle.claim_model.proofs.PrimitiveEqual.{primitive-same, primitive-equal}
 use Rattle.claim_model.proofs.WordsEqual.{properties, hfa-is, mocom-is, access-is, method-properties-is, methods, calling-convention-is, functions, pointers, kind-is, mode-is, to-member-is, reference-is, size-is}
 use Rattle.claim_model.proofs.HelpersEqual.{optional-type, optional-id, string, padding, cross-module}
@@ -21,12 +20,12 @@ demand2 = record {
   headers = header;
   counts = len-same;
   empties = is-empty-same;
-  starts = iter-equal;
+  starts = start-same;
   steps = next-alike;
   lengths = item-len-is;
   none-long = item-is-empty-is;
   raw-kinds = raw-kind-equal;
-  creations = create-equal;
+  creations = creation-same;
   updates = update-equal 3;
   lookups = find-equal 3;
   highest = max-equal 3;

@@ -1,4 +1,5 @@
--- The small methods: the count of records of a stream, and an item's length and raw kind. Assumes nothing.
+-- The methods of a stream, each from its bytes on: a fresh iterator, a fresh finder, the count of records; and an item's length and raw kind.
+-- Assumes nothing.
 use Prim.Native.Nat.{ℕ, _+_, _-_, _*_, _%_, _^_, _≤_, _<_}
 use mathlib.Core.Path.{_≡_, refl, ap, _∙_}
 use mathlib.Core.List.{List}
@@ -16,22 +17,40 @@ use Rattle.stream_header.specs.declared.Header.{Header}
 use Rattle.stream_item.specs.Items.{numberIn, indexOf, lengthOf}
 use Rattle.stream_view.specs.Views.{named, kindAt, rawKindOf}
 use Rattle.stream_item.specs.Information.{lenOf, isEmptyOf}
+use Rattle.stream_item.specs.Iterator.{iterOf}
+use Rattle.stream_item.specs.declared.Stream.{Stream}
 use Rattle.stream_item.specs.declared.Entry.{Entry}
 use Rattle.stream_item.specs.declared.Entry.the-variants.{Record, Marker}
 use Rattle.stream_item.specs.declared.ItemIndex.{ItemIndex}
 use Rattle.stream_item.specs.declared.ItemIndex.the-variants.{Types, Ids}
+use Rattle.stream_finder.specs.Finder.{begunOf, createOf, createBy}
 use Rattle.claim_model.specs.Rust.{gives, _>>=_}
 use Rattle.claim_model.specs.TpiHeader.{parse-information}
-use Rattle.claim_model.specs.TpiItems.{item-len, item-is-empty, raw-kind, information-len, information-is-empty}
-use Rattle.claim_model.specs.Equal.{Equal, Same}
-use Rattle.claim_model.specs.Shown.{information, entryShown, Within}
+use Rattle.claim_model.specs.TpiItems.{iter, finder, item-len, item-is-empty, raw-kind, information-len, information-is-empty}
+use Rattle.claim_model.specs.Equal.{Equal, Same, shownBy}
+use Rattle.claim_model.specs.Shown.{information, iterShown, finderShown, entryShown, Roomy, Within}
 use Rattle.claim_model.proofs.BufferLaws.{equal-panics, same-gives, by-order}
-use Rattle.claim_model.proofs.Compose.{bind-same}
+use Rattle.claim_model.proofs.Compose.{shown-numbered, bind-same, roomy-then}
 use Rattle.claim_model.proofs.HeaderEqual.{header}
+use Rattle.claim_model.proofs.CreateEqual.{first, iter-same, create-same}
 use Rattle.claim_model.specs.Run.{Lent}
-use Rattle.claim_model.proofs.RunEqual.{accepted}
+use Rattle.claim_model.proofs.RunEqual.{Accepted, accepted}
 
 -- ---- ItemInformation
+pub start-same : (tag : Stream) (s : List ℕ) → Lent s → Same (_>>=_ (parse-information s) iter) (shownBy (iterShown s) (iterOf tag s))
+unfolding iterOf
+start-same tag s ok =
+    bind-same (parse-information s) (headerOf s) (information s) iter (λ h. answered (first tag h)) (shownBy (iterShown s)) (shown-numbered (iterShown s)) (header s (ok .short))
+    λ h e. iter-same tag s h (ok .short) (accepted s h ok e .inside)
+
+pub creation-same : (s t : List ℕ) → Lent s → Roomy (createOf s t) → Same (_>>=_ (parse-information s) finder) (shownBy (finderShown 3 s) (createOf s t))
+unfolding createBy
+creation-same s t ok roomy =
+    bind-same (parse-information s) (headerOf s) (information s) finder (begunOf t) (shownBy (finderShown 3 s)) (shown-numbered (finderShown 3 s)) (header s (ok .short))
+    λ h e.
+    let a : Accepted s h = accepted s h ok e in
+    create-same s t h (a .counted) (a .round) (roomy-then (headerOf s) (begunOf t) h e roomy)
+
 module _ (s : List ℕ) (ok : Lent s) where
   pub len-same : Same (_>>=_ (parse-information s) information-len) (lenOf s)
   unfolding information-len lenOf

@@ -24,12 +24,12 @@ use Rattle.claim_model.specs.ParseBuffer.{if-some}
 use Rattle.claim_model.specs.TpiHeader.{parse-information}
 use Rattle.claim_model.specs.TpiItems.{ItemIter as CrateIter, ItemFinder as CrateFinder, iter, finder, next, update, tour, find}
 use Rattle.claim_model.specs.Equal.{Equal, shownBy}
-use Rattle.claim_model.specs.Shown.{information, iterShown, nextShown, finderShown, unlinked, Roomy, CanStand, first}
+use Rattle.claim_model.specs.Shown.{information, iterShown, nextShown, finderShown, unlinked, Roomy, CanStand}
 use Rattle.claim_model.proofs.BufferLaws.{by-order}
 use Rattle.claim_model.proofs.Compose.{shown-numbered, unlinked-numbered, bind-equal, roomy-first, roomy-then}
 use Rattle.claim_model.proofs.HeaderEqual.{header}
 use Rattle.claim_model.proofs.NextEqual.{number-in, next-equal}
-use Rattle.claim_model.proofs.CreateEqual.{iter-equal, create-equal}
+use Rattle.claim_model.proofs.CreateEqual.{first, iter-equal, create-equal}
 use Rattle.claim_model.proofs.UpdateEqual.{update-equal}
 use Rattle.claim_model.proofs.FindEqual.{find-equal}
 use Rattle.claim_model.specs.Run.{crateRun, followed, turns, portRun, Lent, RunsEqual}

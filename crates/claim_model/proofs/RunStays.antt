@@ -18,11 +18,11 @@ use Rattle.claim_model.specs.ParseBuffer.{if-some}
 use Rattle.claim_model.specs.TpiHeader.{parse-information}
 use Rattle.claim_model.specs.TpiItems.{iter, finder, next, update, tour, find}
 use Rattle.claim_model.specs.Equal.{Same, shownBy}
-use Rattle.claim_model.specs.Shown.{information, iterShown, nextShown, finderShown, unlinked, Roomy, CanStand, first}
+use Rattle.claim_model.specs.Shown.{information, iterShown, nextShown, finderShown, unlinked, Roomy, CanStand}
 use Rattle.claim_model.proofs.Compose.{shown-numbered, unlinked-numbered, bind-same, roomy-first, roomy-then}
 use Rattle.claim_model.proofs.HeaderEqual.{header}
 use Rattle.claim_model.proofs.NextEqual.{number-in, next-same}
-use Rattle.claim_model.proofs.CreateEqual.{iter-same, create-same}
+use Rattle.claim_model.proofs.CreateEqual.{first, iter-same, create-same}
 use Rattle.claim_model.proofs.UpdateEqual.{update-same}
 use Rattle.claim_model.proofs.FindEqual.{find-same}
 use Rattle.claim_model.specs.Run.{crateRun, followed, turns, RunsSame}

@@ -20,9 +20,8 @@ use Rattle.word_attributes.specs.Bits.{bit, bits}
 use Rattle.word_attributes.specs.Words.{mocomOf, methodProperty, introducing}
 use Rattle.word_attributes.specs.Pointers.{kindOf, modeOf, toMemberOf, referenceOf, sizeOf}
 use Rattle.stream_header.specs.Header.{longest, headerOf}
-use Rattle.stream_header.specs.declared.Header.{Header}
 use Rattle.stream_item.specs.Items.{numberIn, indexOf, lengthOf}
-use Rattle.stream_item.specs.Iterator.{nextOf}
+use Rattle.stream_item.specs.Iterator.{iterOf, nextOf}
 use Rattle.stream_view.specs.Views.{named, rawKindOf}
 use Rattle.stream_item.specs.Information.{lenOf, isEmptyOf}
 use Rattle.stream_item.specs.declared.Stream.{Stream}
@@ -31,7 +30,7 @@ use Rattle.stream_item.specs.declared.ItemIndex.{ItemIndex}
 use Rattle.stream_item.specs.declared.ItemIndex.the-variants as index
 use Rattle.stream_item.specs.declared.Entry.{Entry}
 use Rattle.stream_item.specs.declared.iter.ItemIter.{ItemIter}
-use Rattle.stream_finder.specs.Finder.{State, begunOf, updateOf, maxIndexOf, findOf}
+use Rattle.stream_finder.specs.Finder.{State, createOf, updateOf, maxIndexOf, findOf}
 use Rattle.stream_finder.specs.Places.{Ready}
 use Rattle.record_layout.specs.Layouts.{idLeaves, recordOf}
 use Rattle.record_id.specs.Said.{saidIdData}
@@ -47,7 +46,7 @@ use Rattle.claim_model.specs.TpiWords.{packed, constructors, overloaded-
 use Rattle.claim_model.specs.TpiHelpers.{parse-optional-type-index, parse-optional-id-index, parse-string, parse-padding, is-cross-module}
 use Rattle.claim_model.specs.TpiId.{parse-id}
 use Rattle.claim_model.specs.Equal.{Equal, Same, Replaced, Stepwise, shownBy}
-use Rattle.claim_model.specs.Shown.{information, iterShown, nextShown, finderShown, entryShown, unlinked, Roomy, CanStand, readShown, textShown, primitiveShown, idShown, idAnswerShown, first, Within}
+use Rattle.claim_model.specs.Shown.{information, iterShown, nextShown, finderShown, entryShown, unlinked, Roomy, CanStand, readShown, textShown, primitiveShown, idShown, idAnswerShown, Within}
 use Rattle.claim_model.specs.EntryShown.{listed, asElement, asId, asPrimitive}
 use Rattle.claim_model.specs.Run.{Lent, RunsEqual, RunsSame}
 use Rattle.claim_model.specs.Course.{CoursesEqual}
@@ -62,16 +61,17 @@ pub record Demand2 : Type 0 where
   -- "The record count is maximum minus minimum"
   pub counts : (s : List ℕ) → Lent s → Same (_>>=_ (parse-information s) information-len) (lenOf s)
   pub empties : (s : List ℕ) → Lent s → Same (_>>=_ (parse-information s) information-is-empty) (isEmptyOf s)
-  -- "Links and the iterator": a fresh iterator, and a step wherever one that has not refused can stand; where the crate's index wraps, 7
-  pub starts : (tag : Stream) (s : List ℕ) (h : Header) → length s ≤ longest → Equal (iter (information s h)) (answered (iterShown s (first tag h)))
+  -- "Links and the iterator": a fresh iterator of a stream, and a step wherever one that has not refused can stand; where the crate's index wraps, 7
+  pub starts : (tag : Stream) (s : List ℕ) → Lent s → Same (_>>=_ (parse-information s) iter) (shownBy (iterShown s) (iterOf tag s))
   pub steps : (s : List ℕ) (c : ItemIter) → CanStand s c → Stepwise (nextShown s c) (next (iterShown s c)) (nextOf s c)
   -- an item's length and raw kind; "`raw_kind` of fewer than two bytes is 1", where the crate panics
   pub lengths : (s : List ℕ) (e : Entry) → Within s e → item-len (entryShown s e) ≡ lengthOf e
   pub none-long : (s : List ℕ) (e : Entry) → Within s e → item-is-empty (entryShown s e) ≡ eqb (lengthOf e) 0
   pub raw-kinds : (t p : List ℕ) → Lent t → Lent p → (e : Entry) → Within (named t p (indexOf e)) e
       → Equal (raw-kind (entryShown (named t p (indexOf e)) e)) (rawKindOf t p e)
-  -- "Finder": creation, `update`, `find` and `max_index`, for any places held in a table that does not lack room; the places fit a u32 times 8
-  pub creations : (s t : List ℕ) (h : Header) → Roomy (begunOf t h) → Equal (finder (information s h)) (shownBy (finderShown 3 s) (begunOf t h))
+  -- "Finder": a fresh finder of a stream, and `update`, `find` and `max_index` for any places held in a table that does not lack room; the places
+  -- fit a u32 times 8
+  pub creations : (s t : List ℕ) → Lent s → Roomy (createOf s t) → Same (_>>=_ (parse-information s) finder) (shownBy (finderShown 3 s) (createOf s t))
   pub updates : (s : List ℕ) (σ : State) (c : ItemIter) → c .at ≤ longest → σ .finder .held ≤ length (σ .table) → Roomy (updateOf σ c)
       → Equal (update (finderShown 3 s σ) (iterShown s c)) (shownBy (finderShown 3 s) (updateOf σ c))
   pub lookups : (s : List ℕ) (σ : State) → Ready s σ → σ .finder .held * 8 < 4294967296 → (i : ItemIndex)

@@ -10,7 +10,6 @@ use Rattle.field.specs.Fields.{littleAt}
 use Rattle.field_text.specs.Texts.{Part}
 use Rattle.stream_item.specs.Items.{numberIn as indexShown}
 use Rattle.stream_item.specs.Iterator.{Next, done, yielded}
-use Rattle.stream_item.specs.declared.Stream.{Stream}
 use Rattle.stream_item.specs.declared.Item.{Item as PortItem}
 use Rattle.stream_item.specs.declared.Entry.{Entry}
 use Rattle.stream_item.specs.declared.Entry.the-variants.{Record, Marker}
@@ -81,10 +80,6 @@ entryShown s (Marker i) = record { index = indexShown i; bytes = PRIMITIVE-TYPE 
 
 abbrev pub iterShown : List ℕ → PortIter → ItemIter
 iterShown s c = record { buf = at s (c .at); index = c .index }
-
--- the cursor behind the header
-abbrev pub first : Stream → PortHeader → PortIter
-first tag h = record { stream = tag; at = h .«header_size»; index = h .«minimum_index» }
 
 abbrev pub nextShown : List ℕ → PortIter → Next → Option Item × ItemIter
 nextShown s c done = (none, iterShown s c)
