@@ -29,11 +29,11 @@ unfoldable pub within : List ℕ → List ℕ → Bool
 within [] ms = true
 within (n ∷ ns) ms = both (among n ms) (within ns ms)
 
-both-first : (a b : Bool) → both a b ≡ true → a ≡ true
+pub both-first : (a b : Bool) → both a b ≡ true → a ≡ true
 both-first true b p = refl
 both-first false b p = p
 
-both-second : (a b : Bool) → both a b ≡ true → b ≡ true
+pub both-second : (a b : Bool) → both a b ≡ true → b ≡ true
 both-second true b p = p
 both-second false b p = let z : _≡_ {A = ℕ} 0 1 = cc in absurd (omega arith)
 

@@ -3,6 +3,11 @@ pub mod ReadingRefuses
 pub mod StreamRefuses
 pub mod LeftAlone
 pub mod Demand1
+pub mod Given
+pub mod GivenStreams
+pub mod GivenReading
+pub mod ExactlyWhen
+pub mod Idle
 pub mod Examples
 pub mod OneOutcome
 pub mod Demands

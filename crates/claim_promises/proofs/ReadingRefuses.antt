@@ -9,7 +9,7 @@ use lib.Dec.{leb, ltb, eqb}
 use lib.IntN.{ℤ, pos, negsuc}
 use Rattle.answer.specs.Answer.{Answer, answered, refused, pick, both, Got, Read}
 use Rattle.answer.specs.Tables.{Line, _is_, find, among}
-use Rattle.answer.specs.Refusals.{listed, named, refusals}
+use Rattle.answer.specs.Refusals.{listed, named as inTable, refusals}
 use Rattle.field.specs.Fields.{fixedAt, signedAt}
 use Rattle.field.specs.Indices.{noType, noId, optionalAt}
 use Rattle.field.specs.Runs.{bytesAfter}
@@ -24,7 +24,7 @@ use Rattle.claim_promises.proofs.ByTable.{by-pick, by-stop, by-then, wi
 -- Fields, strings, padding: 1
 
 pub fixed-refuses : (k : ℕ) (s : List ℕ) (p : ℕ) → Refuses (1 ∷ []) (fixedAt k s p)
-unfolding fixedAt fits among listed find named refusals
+unfolding fixedAt fits among listed find inTable refusals
 fixed-refuses k s p = by-pick (leb (p + k) (length s)) gives (refuses refl)
 
 pub signed-refuses : (k : ℕ) (s : List ℕ) (p : ℕ) → Refuses (1 ∷ []) (signedAt k s p)
@@ -36,7 +36,7 @@ unfolding optionalAt
 optional-refuses nones s p = by-then (fixed-refuses 4 s p) (λ g. gives)
 
 part-refuses : (o : Option ℕ) (p : ℕ) → Refuses (1 ∷ []) (partOr o p)
-unfolding fits among listed find named refusals
+unfolding fits among listed find inTable refusals
 part-refuses none p = refuses refl
 part-refuses (some n) p = gives
 
@@ -45,7 +45,7 @@ unfolding stringAt
 string-refuses s p = part-refuses (toZero (drop p s) 0) p
 
 pub bytes-refuses : (n : ℕ) (s : List ℕ) (p : ℕ) → Refuses (1 ∷ []) (bytesAfter n s p)
-unfolding bytesAfter fits among listed find named refusals
+unfolding bytesAfter fits among listed find inTable refusals
 bytes-refuses n s p = by-stop (ltb (length s) (p + n)) 1 refl gives
 
 pub counted-refuses : (s : List ℕ) (p : ℕ) → Refuses (1 ∷ []) (countedStringAt s p)
@@ -57,20 +57,20 @@ unfolding stringOf
 string-of-refuses leaf s p = by-pick (leb leaf 0x1500) (counted-refuses s p) (string-refuses s p)
 
 pad-refuses : (bs : List ℕ) (k p : ℕ) → Refuses (1 ∷ []) (pad k p bs)
-unfolding pad fits among listed find named refusals
+unfolding pad fits among listed find inTable refusals
 pad-refuses [] zero p = gives
 pad-refuses [] (suc k) p = refuses refl
 pad-refuses (b ∷ bs) zero p = by-pick (leb 0xf0 b) (pad-refuses bs (more b) (p + 1)) gives
 pad-refuses (b ∷ bs) (suc k) p = pad-refuses bs k (p + 1)
 
 pub padding-refuses : (s : List ℕ) (p : ℕ) → Refuses (1 ∷ []) (paddingAfter s p)
-unfolding paddingAfter fits among listed find named refusals
+unfolding paddingAfter fits among listed find inTable refusals
 padding-refuses s p = by-stop (ltb (length s) p) 1 refl (pad-refuses (drop p s) 0 p)
 
 -- Numeric leaves: 1 and 11
 
 wide-refuses : (o : Option Wide) (s : List ℕ) (p : ℕ) → Refuses (1 ∷ 11 ∷ []) (wideAt o s p)
-unfolding fits among listed find named refusals unsignedAt within
+unfolding fits among listed find inTable refusals unsignedAt within
 wide-refuses none s p = refuses refl
 wide-refuses (some (signed k)) s p = wider refl (signed-refuses k s p)
 wide-refuses (some (unsigned k)) s p = by-then (wider refl (fixed-refuses k s p)) (λ g. gives)
@@ -80,7 +80,7 @@ unfolding numericAt within among
 numeric-refuses s p = by-then (wider refl (fixed-refuses 2 s p)) (λ g. by-pick (ltb (g .value) 0x8000) gives (wide-refuses (find (g .value) prefixes) s (g .next)))
 
 natural-refuses : (z : ℤ) (q : ℕ) → Refuses (1 ∷ 11 ∷ []) (natural z q)
-unfolding fits among listed find named refusals
+unfolding fits among listed find inTable refusals
 natural-refuses (pos n) q = gives
 natural-refuses (negsuc n) q = refuses refl
 
@@ -114,7 +114,7 @@ pub data TakesAll (ns : List ℕ) : List Field → Type 0 where
 
 -- 12 with no details, where the word fails its test
 word-refuses : {A : Type 0} {ns : List ℕ} {x : Answer A} (b : Bool) → pick b true (within (12 ∷ []) ns) ≡ true → Refuses ns x → Refuses ns (pick b x (refused 12 []))
-unfolding fits among listed find named refusals
+unfolding fits among listed find inTable refusals
 word-refuses true h r = r
 word-refuses false h r = wider h (refuses refl)
 
@@ -164,7 +164,7 @@ found-takes ns leaf ((n is fs) ∷ ls) (h and hs) = go (eqb leaf n) (found-takes
     go false later = later
 
 layout-refuses : (ns : List ℕ) (o : Option Layout) (leaf : ℕ) (s : List ℕ) (p : ℕ) → within (10 ∷ []) ns ≡ true → TakesFound ns o → Refuses ns (byLayout o leaf s p)
-unfolding fits among listed find named refusals
+unfolding fits among listed find inTable refusals
 layout-refuses ns none leaf s p ten h = wider ten (refuses refl)
 layout-refuses ns (some fs) leaf s p ten h = by-then (fields-refuse ns fs 0 s p h) (λ g. gives)
 

@@ -8,7 +8,7 @@ use lib.ListN.{length, getD}
 use lib.Dec.{leb, ltb, eqb}
 use Rattle.answer.specs.Answer.{Answer, answered, refused, pick, stop, Read, then, and-then}
 use Rattle.answer.specs.Tables.{Line, find, among}
-use Rattle.answer.specs.Refusals.{listed, named, refusals}
+use Rattle.answer.specs.Refusals.{listed, named as inTable, refusals}
 use Rattle.field.specs.Fields.{littleAt, fixedAt}
 use Rattle.field.specs.Runs.{bytesAfter}
 use Rattle.field_text.specs.Texts.{paddingAfter}
@@ -48,19 +48,19 @@ use Rattle.claim_promises.proofs.ReadingRefuses.{fixed-refuses, padding
 -- Primitives: 8. Pointer words: 12
 
 known-refuses : {A B : Type 0} (i : ℕ) (o : Option A) (f : A → Answer B) → ((a : A) → Refuses (8 ∷ []) (f a)) → Refuses (8 ∷ []) (known i o f)
-unfolding fits among listed find named refusals
+unfolding fits among listed find inTable refusals
 known-refuses i none f h = refuses refl
 known-refuses i (some a) f h = h a
 
 pub primitive-refuses : (i : ℕ) → Refuses (8 ∷ []) (primitiveOf i)
-unfolding primitiveOf fits among listed find named refusals
+unfolding primitiveOf fits among listed find inTable refusals
 primitive-refuses i =
     by-pick (leb 0x1000 i) (refuses refl)
     (known-refuses i (find (i / 2 ^ 8 % 2 ^ 4) indirections) _ (λ d.
     known-refuses i (find (i % 2 ^ 8) kinds) _ (λ k. gives)))
 
 good-refuses : {A : Type 0} (o : Option A) → Refuses (12 ∷ []) (good o)
-unfolding fits among listed find named refusals
+unfolding fits among listed find inTable refusals
 good-refuses none = refuses refl
 good-refuses (some a) = gives
 
@@ -90,7 +90,7 @@ abbrev pub ofHeaders : List ℕ
 ofHeaders = 16 ∷ 1 ∷ 2 ∷ 3 ∷ 4 ∷ 5 ∷ []
 
 pub header-refuses : (s : List ℕ) → Refuses ofHeaders (headerOf s)
-unfolding headerOf fits among listed find named refusals
+unfolding headerOf fits among listed find inTable refusals
 header-refuses s =
     by-stop (ltb longest (length s)) 16 refl
     (by-pick (eqb (length s) 0) gives
@@ -117,7 +117,7 @@ is-empty-refuses s = by-then (len-refuses s) (λ n. gives)
 -- The iterator: 16, 1, 6, 7
 
 pub next-refuses : (s : List ℕ) (c : ItemIter) → Refuses (16 ∷ 1 ∷ 6 ∷ 7 ∷ []) (nextOf s c)
-unfolding nextOf fits among listed find named refusals
+unfolding nextOf fits among listed find inTable refusals
 next-refuses s c =
     by-stop (ltb longest (length s)) 16 refl
     (by-stop (ltb (length s) (c .at)) 1 refl
@@ -134,16 +134,16 @@ short-refuses : {A : Type 0} (ns t p : List ℕ) {a : Answer A} → fits elsewhe
 short-refuses ns t p h r = by-stop (ltb longest (length t)) 16 h (by-stop (ltb longest (length p)) 16 h r)
 
 entry-refuses : (t p : List ℕ) (e : Entry) → Refuses (16 ∷ 1 ∷ 8 ∷ []) (entryOf t p e)
-unfolding partOf fits among listed find named refusals
+unfolding partOf fits among listed find inTable refusals
 entry-refuses t p (entry.Record i) = by-stop (ltb (length (named t p (i .index))) (i .place + i .length)) 1 refl gives
 entry-refuses t p (entry.Marker i) = refuses refl
 
 pub view-refuses : (t p : List ℕ) (e : Entry) → Refuses (16 ∷ 1 ∷ 8 ∷ []) (viewOf t p e)
-unfolding fits among listed find named refusals
+unfolding fits among listed find inTable refusals
 view-refuses t p e = short-refuses _ t p refl (entry-refuses t p e)
 
 kind-in-refuses : (t p : List ℕ) (e : Entry) → Refuses (16 ∷ 1 ∷ []) (kindIn t p e)
-unfolding kindAt fits among listed find named refusals
+unfolding kindAt fits among listed find inTable refusals
 kind-in-refuses t p (entry.Record i) =
     by-stop (ltb (length (named t p (i .index))) (i .place + i .length)) 1 refl
     (by-stop (ltb (i .length) 2) 1 refl
@@ -151,7 +151,7 @@ kind-in-refuses t p (entry.Record i) =
 kind-in-refuses t p (entry.Marker i) = gives
 
 pub raw-kind-refuses : (t p : List ℕ) (e : Entry) → Refuses (16 ∷ 1 ∷ []) (rawKindOf t p e)
-unfolding fits among listed find named refusals
+unfolding fits among listed find inTable refusals
 raw-kind-refuses t p e = short-refuses _ t p refl (kind-in-refuses t p e)
 
 -- The finder
@@ -160,7 +160,7 @@ abbrev pub ofCreation : List ℕ
 ofCreation = 16 ∷ 1 ∷ 2 ∷ 3 ∷ 4 ∷ 5 ∷ 13 ∷ []
 
 begun-refuses : (t : List ℕ) (h : Header) → Refuses ofCreation (begunBy 3 t h)
-unfolding begunBy fits among listed find named refusals
+unfolding begunBy fits among listed find inTable refusals
 begun-refuses t h = by-pick (ltb (h .«minimum_index») (h .«maximum_index»)) (by-stop (leb (length t) 0) 13 refl gives) gives
 
 pub create-refuses : (s t : List ℕ) → Refuses ofCreation (createOf s t)
@@ -168,7 +168,7 @@ unfolding createBy within among
 create-refuses s t = by-then (wider refl (header-refuses s)) (λ h. begun-refuses t h)
 
 pub update-refuses : (σ : State) (c : ItemIter) → Refuses (16 ∷ 13 ∷ 14 ∷ []) (updateOf σ c)
-unfolding updateBy fits among listed find named refusals
+unfolding updateBy fits among listed find inTable refusals
 update-refuses σ c =
     by-stop (ltb longest (c .at)) 16 refl
     (by-stop (ltb (length (σ .table)) (σ .finder .held)) 13 refl
@@ -181,12 +181,12 @@ abbrev pub ofFind : List ℕ
 ofFind = 16 ∷ 13 ∷ 8 ∷ 9 ∷ 1 ∷ []
 
 landed-refuses : (i : ItemIndex) (k : ℕ) (h : Hit) → FindRefuses ofFind (landed i k h)
-unfolding fits among listed find named refusals
+unfolding fits among listed find inTable refusals
 landed-refuses i k (Landed p n) = gives
 landed-refuses i k (Missed j) = refuses refl
 
 look-refuses : (s : List ℕ) (σ : State) (i : ItemIndex) (n : ℕ) → FindRefuses ofFind (lookBy 8 s σ i n)
-unfolding lookBy fits among listed find named refusals
+unfolding lookBy fits among listed find inTable refusals
 look-refuses s σ i n =
     by-stop (ltb longest (length s)) 16 refl
     (by-stop (ltb (length (σ .table)) (σ .finder .held)) 13 refl
@@ -235,7 +235,7 @@ unfolding countedBy
 counted-by-refuses fs leaf s p h = by-then (fields-refuse _ fs 0 s p h) (λ g. gives)
 
 pub start-types-refuses : (s : List ℕ) → Refuses (1 ∷ 10 ∷ []) (startTypes s)
-unfolding startTypes counted typeLeaves fits within among listed find named refusals
+unfolding startTypes counted typeLeaves fits within among listed find inTable refusals
 start-types-refuses s =
     by-then (wider refl (fixed-refuses 2 s 0)) (λ g.
     by-pick (eqb (g .value) 0x1201) (counted-by-refuses _ 0x1201 s (g .next) (free & refl & no-more))
@@ -244,7 +244,7 @@ start-types-refuses s =
     (refuses refl))))
 
 pub start-ids-refuses : (s : List ℕ) → Refuses (1 ∷ 10 ∷ []) (startIds s)
-unfolding startIds counted idLeaves fits within among listed find named refusals
+unfolding startIds counted idLeaves fits within among listed find inTable refusals
 start-ids-refuses s =
     by-then (wider refl (fixed-refuses 2 s 0)) (λ g.
     by-pick (eqb (g .value) 0x1603) (counted-by-refuses _ 0x1603 s (g .next) (free & refl & no-more))
@@ -263,26 +263,26 @@ abbrev pub ofSteps : List ℕ
 ofSteps = 15 ∷ 1 ∷ 10 ∷ 11 ∷ []
 
 counted-step-refuses : (f : Field) (entry : List (Value Part) → ElementValues) (leaf : ℕ) (s : List ℕ) (p left : ℕ) → TakesAll ofIdSteps (f ∷ []) → Refuses ofIdSteps (countedStep f entry leaf s p left)
-unfolding countedStep fits among listed find named refusals
+unfolding countedStep fits among listed find inTable refusals
 counted-step-refuses f entry leaf s p left h = by-stop (eqb left 0) 15 refl (by-then (fields-refuse _ (f ∷ []) 0 s p h) (λ g. gives))
 
 method-step-refuses : (s : List ℕ) (p : ℕ) → Refuses ofSteps (methodStep s p)
-unfolding methodStep fits within among listed find named refusals
+unfolding methodStep fits within among listed find inTable refusals
 method-step-refuses s p = by-stop (leb (length s) p) 15 refl (by-then (wider refl (method-refuses s p)) (λ g. gives))
 
 member-step-refuses : (s : List ℕ) (p : ℕ) → Refuses ofSteps (memberStep s p)
-unfolding memberStep fits within among listed find named refusals
+unfolding memberStep fits within among listed find inTable refusals
 member-step-refuses s p = by-stop (leb (length s) p) 15 refl (by-then (wider refl (member-refuses s p)) (λ g. gives))
 
 next-member-refuses : (s : List ℕ) (p left : ℕ) (padded : Bool) → Refuses ofSteps (nextMember s p left padded)
-unfolding nextMember fits within among listed find named refusals
+unfolding nextMember fits within among listed find inTable refusals
 next-member-refuses s p left padded =
     by-stop (eqb left 0) 15 refl
     (by-then (by-pick padded (wider refl (padding-refuses s p)) gives) (λ q.
     member-step-refuses s q))
 
 pub step-refuses : (s : List ℕ) (c : ListCursor) → Refuses ofSteps (stepOf s c)
-unfolding stepOf fits within among listed find named refusals
+unfolding stepOf fits within among listed find inTable refusals
 step-refuses s c =
     by-pick (eqb (c .leaf) 0x1201) (wider refl (counted-step-refuses T typeElement 0x1201 s (c .at) (c .left) (refl & no-more)))
     (by-pick (eqb (c .leaf) 0x1206) (method-step-refuses s (c .at))
@@ -307,7 +307,7 @@ data Stays (leaf : ℕ) : Answer Step → Type 0 where
 
 counted-stays : (f : Field) (element : List (Value Part) → ElementValues) (leaf : ℕ) (s : List ℕ) (p left : ℕ) → TakesAll ofIdSteps (f ∷ [])
     → Stays leaf (countedStep f element leaf s p left)
-unfolding countedStep fits among listed find named refusals
+unfolding countedStep fits among listed find inTable refusals
 counted-stays f element leaf s p left h = go (eqb left 0) (fields-refuse _ (f ∷ []) 0 s p h)
   where
     read : {a : Read (List (Value Part))} → Refuses ofIdSteps a → Stays leaf (and-then a (λ vs e. stepTo (element vs) (inCounted leaf e (left - 1))))
@@ -337,7 +337,7 @@ data Started : Answer ListCursor → Type 0 where
   nowhere : {n : ℕ} {d : List ℕ} → fits elsewhere ofIdSteps n d ≡ true → Started (refused n d)
 
 started : (s : List ℕ) → Started (startIds s)
-unfolding startIds counted countedBy idLeaves fits within among listed find named refusals
+unfolding startIds counted countedBy idLeaves fits within among listed find inTable refusals
 started s = leaf-read (wider refl (fixed-refuses 2 s 0))
   where
     ids-read : {a : Read (List (Value Part))} → Refuses ofIdSteps a
@@ -376,35 +376,38 @@ element-ids-refuses s k = from (started s)
 
 -- Entries
 
-abbrev pub ofEntries : List ℕ
-ofEntries = 16 ∷ 1 ∷ 8 ∷ 10 ∷ 11 ∷ 12 ∷ []
+abbrev pub ofItems : List ℕ
+ofItems = 1 ∷ 8 ∷ 10 ∷ 11 ∷ 12 ∷ []
 
-numbered-refuses : (i : ℕ) → Refuses ofEntries (numberedOf i)
+abbrev pub ofEntries : List ℕ
+ofEntries = 16 ∷ ofItems
+
+numbered-refuses : (i : ℕ) → Refuses ofItems (numberedOf i)
 unfolding within among
 numbered-refuses i = by-then (wider refl (primitive-refuses i)) (λ t. gives)
 
-type-bytes-refuses : (s : List ℕ) (p n : ℕ) → Refuses ofEntries (typeBytes s p n)
-unfolding typeBytes fits within among listed find named refusals
+type-bytes-refuses : (s : List ℕ) (p n : ℕ) → Refuses ofItems (typeBytes s p n)
+unfolding typeBytes fits within among listed find inTable refusals
 type-bytes-refuses s p n = by-stop (ltb (length s) (p + n)) 1 refl (by-then (wider refl (type-refuses (bytes s p n))) (λ vs. gives))
 
-id-bytes-refuses : (s : List ℕ) (p n : ℕ) → Refuses ofEntries (idBytes s p n)
-unfolding idBytes fits within among listed find named refusals
+id-bytes-refuses : (s : List ℕ) (p n : ℕ) → Refuses ofItems (idBytes s p n)
+unfolding idBytes fits within among listed find inTable refusals
 id-bytes-refuses s p n = by-stop (ltb (length s) (p + n)) 1 refl (by-then (wider refl (id-refuses (bytes s p n))) (λ vs. gives))
 
-item-refuses : (t s : List ℕ) (i : ItemIndex) (p n : ℕ) → Refuses ofEntries (itemOf t s i p n)
+item-refuses : (t s : List ℕ) (i : ItemIndex) (p n : ℕ) → Refuses ofItems (itemOf t s i p n)
 unfolding typeItem
 item-refuses t s (index.Types i) p n = by-pick (ltb (i .0) 0x1000) (numbered-refuses (i .0)) (type-bytes-refuses t p n)
 item-refuses t s (index.Ids i) p n = id-bytes-refuses s p n
 
-marker-refuses : (i : ItemIndex) → Refuses ofEntries (markerOf i)
-unfolding typeMarker fits among listed find named refusals
+marker-refuses : (i : ItemIndex) → Refuses ofItems (markerOf i)
+unfolding typeMarker fits among listed find inTable refusals
 marker-refuses (index.Types i) = by-pick (ltb (i .0) 0x1000) (numbered-refuses (i .0)) (refuses refl)
 marker-refuses (index.Ids i) = refuses refl
 
-parsed-refuses : (t s : List ℕ) (e : Entry) → Refuses ofEntries (parsedOf t s e)
+pub parsed-refuses : (t s : List ℕ) (e : Entry) → Refuses ofItems (parsedOf t s e)
 parsed-refuses t s (entry.Record i) = item-refuses t s (i .index) (i .place) (i .length)
 parsed-refuses t s (entry.Marker i) = marker-refuses i
 
 pub parse-refuses : (t s : List ℕ) (e : Entry) → Refuses ofEntries (parseOf t s e)
-unfolding parseOf fits among listed find named refusals
-parse-refuses t s e = short-refuses _ t s refl (parsed-refuses t s e)
+unfolding parseOf fits within among listed find inTable refusals
+parse-refuses t s e = short-refuses _ t s refl (wider refl (parsed-refuses t s e))

@@ -5,13 +5,16 @@ use mathlib.Core.List.{map}
 use Rattle.claim_model.specs.Demand2.{Demand2}
 use Rattle.stream_finder.specs.Demand.{Demand3, NotIndexed}
 use Rattle.claim_promises.specs.Demand1.{Demand1}
-use Rattle.claim_promises.specs.Examples.{examples, asked, given}
+use Rattle.claim_promises.specs.ExactlyWhen.{ExactlyWhen}
+use Rattle.claim_promises.specs.Examples.{examples, asked, given as answers}
 use Rattle.claim_promises.specs.OneOutcome.{OneOutcome}
 
 pub record Demands : Type 1 where
   -- "Every byte string and every number is answered or refused by document 01's table. A refusal gives nothing but its number and named detail,
   -- and all lent memory stays unchanged." Demand1.antt
   pub first : Demand1
+  -- the table's column "Given exactly when": each number is given just then. ExactlyWhen.antt
+  pub given : ExactlyWhen
   -- "Header, iteration, finding, ids, primitives and attribute words equal the crate's on the domain in 01": crates/claim_model/specs/Demand2.antt.
   -- "Type leaves equal 01's layouts" is the contracts of `type_data`, `member_at` and the lists, which cite the tables of
   -- crates/record_layout/specs/Layouts.antt
@@ -22,6 +25,6 @@ pub record Demands : Type 1 where
   -- "is 'not indexed' exactly if d/8 exceeds N/8, both rounded down"
   pub exactly-if : NotIndexed
   -- "P marks those proved, together as one statement over their list": Examples.antt
-  pub shown : map asked examples ≡ map given examples
+  pub shown : map asked examples ≡ map answers examples
   -- "For each, show that the contract admits one outcome": OneOutcome.antt
   pub one : OneOutcome
