@@ -23,9 +23,9 @@ view-back (view.Refused e) = heard-no viewIn view.Refused e
 pub one-view : (r q : ViewAnswer) → saidView r ≡ saidView q → r ≡ q
 one-view = one-of saidView (heard viewIn view.Refused) view-back
 
--- a view's answer and its bytes, and so what `view` gives
-pub one-entry-view : (a : Answer Part) (bytes : List ℕ) (r q : EntryView) → (saidView (r .answer) ≡ a) × (now (r .bytes) ≡ bytes) → (saidView (q .answer) ≡ a) × (now (q .bytes) ≡ bytes) → (r .answer ≡ q .answer) × (now (r .bytes) ≡ now (q .bytes))
-one-entry-view a bytes r q x y = (one-view (r .answer) (q .answer) (x .0 ∙ sym (y .0)), x .1 ∙ sym (y .1))
+-- `view` gives one view: its bytes are these, wherever they lie, and its answer says this
+pub one-entry-view : {a : Answer Part} {bytes : List ℕ} (r q : EntryView) → (saidView (r .answer) ≡ a) × (now (r .bytes) ≡ bytes) → (saidView (q .answer) ≡ a) × (now (q .bytes) ≡ bytes) → (now (r .bytes) ≡ now (q .bytes)) × (r .answer ≡ q .answer)
+one-entry-view r q x y = (x .1 ∙ sym (y .1), one-view (r .answer) (q .answer) (x .0 ∙ sym (y .0)))
 
 kind-back : (r : RawKindAnswer) → heard kind.Answered kind.Refused (saidRawKind r) ≡ r
 kind-back (kind.Answered k) = refl
