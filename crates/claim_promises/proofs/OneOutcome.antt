@@ -1,5 +1,5 @@
 -- Every public contract admits one outcome. A contract `r ≡ x` does of itself; a contract `said.. r ≡ x` because what an answer says fixes it, by the law
--- `one-..` of its crate; those over lent memory by laws of theirs. Assumes nothing.
+-- `one-..` of its crate; those over lent memory, and that of `view`, whose answer holds a slice, by laws of theirs. Assumes nothing.
 use Prim.Native.Nat.{ℕ}
 use denote.Ref.{now}
 use mathlib.Core.List.{List}
@@ -12,7 +12,7 @@ use Rattle.word_primitive.proofs.OneOutcome.{one-primitive}
 use Rattle.word_attributes.proofs.OneOutcome.{one-kind as one-pointer-kind, one-mode, one-flag, one-size as one-pointer-size}
 use Rattle.stream_header.proofs.OneOutcome.{one-header}
 use Rattle.stream_item.proofs.OneOutcome.{one-iter, one-next, one-len, one-empty}
-use Rattle.stream_view.proofs.OneOutcome.{one-view, one-kind}
+use Rattle.stream_view.proofs.OneOutcome.{one-view, one-entry-view, one-kind}
 use Rattle.stream_finder.proofs.OneOutcome.{one-change, one-find, one-fills}
 use Rattle.stream_index.proofs.OneOutcome.{one-leads}
 use Rattle.stream_index.proofs.OneWalk.{one-walks, one-indexes}
@@ -130,8 +130,9 @@ one-outcome = record {
   stream-item-iter-next = λ s c r q a b. one-next r q (a ∙ sym b);
   stream-item-link-link-at = λ s p r q a b. a ∙ sym b;
   stream-item-link-link-of = λ s p k r q a b. a ∙ sym b;
-  stream-view-view-answer = λ tpi ipi entry r q a b. one-view r q (a ∙ sym b);
-  stream-view-view = λ tpi ipi entry r q a b. a ∙ sym b;
+  stream-view-bytes-of = λ tpi ipi entry r q a b. a ∙ sym b;
+  stream-view-view = λ tpi ipi entry r q a b. one-entry-view r q a b;
+  stream-view-why = λ tpi ipi entry r q a b. one-view r q (a ∙ sym b);
   stream-view-raw-kind = λ tpi ipi entry r q a b. one-kind r q (a ∙ sym b);
   word-attributes-type-properties-packed = λ self r q a b. a ∙ sym b;
   word-attributes-type-properties-constructors = λ self r q a b. a ∙ sym b;

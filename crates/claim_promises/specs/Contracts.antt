@@ -91,6 +91,7 @@ use Rattle.stream_item.specs.declared.iter.NextAnswer.{NextAnswer}
 use Rattle.stream_item.specs.declared.link.Hit.{Hit}
 use Rattle.stream_item.specs.declared.link.Link.{Link}
 use Rattle.stream_view.specs.Views.{rawKindOf, saidRawKind, saidView, viewBytes, viewOf}
+use Rattle.stream_view.specs.declared.EntryView.{EntryView}
 use Rattle.stream_view.specs.declared.RawKindAnswer.{RawKindAnswer}
 use Rattle.stream_view.specs.declared.ViewAnswer.{ViewAnswer}
 use Rattle.word_attributes.specs.Bits.{bit, bits}
@@ -405,13 +406,17 @@ stream-item-link-link-at s p r = r ≡ linkAt s p
 abbrev pub stream-item-link-link-of : (s : List ℕ) (p : ℕ) (k : ℕ) → Hit → Type 0
 stream-item-link-link-of s p k r = r ≡ linkOf s p k
 
--- stream_view::view_answer
-abbrev pub stream-view-view-answer : (tpi : List ℕ) (ipi : List ℕ) (entry : Entry) → ViewAnswer → Type 0
-stream-view-view-answer tpi ipi entry r = saidView r ≡ viewOf tpi ipi entry
+-- stream_view::bytes_of
+abbrev pub stream-view-bytes-of : (tpi : List ℕ) (ipi : List ℕ) (entry : Entry) → List ℕ → Type 0
+stream-view-bytes-of tpi ipi entry r = r ≡ viewBytes tpi ipi entry
 
 -- stream_view::view
-abbrev pub stream-view-view : (tpi : List ℕ) (ipi : List ℕ) (entry : Entry) → List ℕ → Type 0
-stream-view-view tpi ipi entry r = r ≡ viewBytes tpi ipi entry
+abbrev pub stream-view-view : (tpi : List ℕ) (ipi : List ℕ) (entry : Entry) → EntryView → Type 0
+stream-view-view tpi ipi entry r = (saidView (r .answer) ≡ viewOf tpi ipi entry) × (now (r .bytes) ≡ viewBytes tpi ipi entry)
+
+-- stream_view::why
+abbrev pub stream-view-why : (tpi : List ℕ) (ipi : List ℕ) (entry : Entry) → ViewAnswer → Type 0
+stream-view-why tpi ipi entry r = saidView r ≡ viewOf tpi ipi entry
 
 -- stream_view::raw_kind
 abbrev pub stream-view-raw-kind : (tpi : List ℕ) (ipi : List ℕ) (entry : Entry) → RawKindAnswer → Type 0

@@ -1,7 +1,7 @@
 -- One outcome: no two outcomes of a public function meet its contract. A field for each, named as the function; where memory is lent, the outcome is
--- the answer and the memory after. Written by tools/contracts.
+-- the answer and the memory after; where the answer holds a slice, what that holds, and the other fields. Written by tools/contracts.
 use Prim.Native.Nat.{ℕ}
-use denote.Ref.{RefT}
+use denote.Ref.{RefT, now}
 use mathlib.Core.List.{List}
 use mathlib.Core.Path.{_≡_}
 use Rattle.answer.specs.declared.Refusal.{Refusal}
@@ -19,6 +19,7 @@ use Rattle.stream_item.specs.declared.Item.{Item}
 use Rattle.stream_item.specs.declared.ItemIndex.{ItemIndex}
 use Rattle.stream_item.specs.declared.Stream.{Stream}
 use Rattle.stream_item.specs.declared.iter.ItemIter.{ItemIter}
+use Rattle.stream_view.specs.declared.EntryView.{EntryView}
 use Rattle.word_attributes.specs.declared.FieldAttributes.{FieldAttributes}
 use Rattle.word_attributes.specs.declared.FunctionAttributes.{FunctionAttributes}
 use Rattle.word_attributes.specs.declared.ModifierFlags.{ModifierFlags}
@@ -128,8 +129,9 @@ pub record OneOutcome : Type 1 where
   pub stream-item-link-link-at : (s : List ℕ) (p : ℕ) → Once (contract.stream-item-link-link-at s p)
   pub stream-item-link-link-of : (s : List ℕ) (p : ℕ) (k : ℕ) → Once (contract.stream-item-link-link-of s p k)
   -- stream_view
-  pub stream-view-view-answer : (tpi : List ℕ) (ipi : List ℕ) (entry : Entry) → Once (contract.stream-view-view-answer tpi ipi entry)
-  pub stream-view-view : (tpi : List ℕ) (ipi : List ℕ) (entry : Entry) → Once (contract.stream-view-view tpi ipi entry)
+  pub stream-view-bytes-of : (tpi : List ℕ) (ipi : List ℕ) (entry : Entry) → Once (contract.stream-view-bytes-of tpi ipi entry)
+  pub stream-view-view : (tpi : List ℕ) (ipi : List ℕ) (entry : Entry) (r q : EntryView) → contract.stream-view-view tpi ipi entry r → contract.stream-view-view tpi ipi entry q → (now (r .bytes) ≡ now (q .bytes)) × (r .answer ≡ q .answer)
+  pub stream-view-why : (tpi : List ℕ) (ipi : List ℕ) (entry : Entry) → Once (contract.stream-view-why tpi ipi entry)
   pub stream-view-raw-kind : (tpi : List ℕ) (ipi : List ℕ) (entry : Entry) → Once (contract.stream-view-raw-kind tpi ipi entry)
   -- word_attributes
   pub word-attributes-type-properties-packed : (self : TypeProperties) → Once (contract.word-attributes-type-properties-packed self)

@@ -150,15 +150,15 @@ fn record_read(s: &[u8], i: Item) -> u64 {
             TypeData::VirtualTableShape(_) => 0,
             TypeData::FieldList => list_read(
                 Stream::Types,
-                stream_view::view(s, s, Entry::Record(i)),
+                stream_view::bytes_of(s, s, Entry::Record(i)),
             ),
             TypeData::ArgumentList(_) => list_read(
                 Stream::Types,
-                stream_view::view(s, s, Entry::Record(i)),
+                stream_view::bytes_of(s, s, Entry::Record(i)),
             ),
             TypeData::MethodList => list_read(
                 Stream::Types,
-                stream_view::view(s, s, Entry::Record(i)),
+                stream_view::bytes_of(s, s, Entry::Record(i)),
             ),
         },
         ParseAnswer::Id(d) => match d {
@@ -166,11 +166,11 @@ fn record_read(s: &[u8], i: Item) -> u64 {
             IdData::MemberFunction(f) => sums::member_function_id(f),
             IdData::BuildInfo(_) => list_read(
                 Stream::Ids,
-                stream_view::view(s, s, Entry::Record(i)),
+                stream_view::bytes_of(s, s, Entry::Record(i)),
             ),
             IdData::StringList(_) => list_read(
                 Stream::Ids,
-                stream_view::view(s, s, Entry::Record(i)),
+                stream_view::bytes_of(s, s, Entry::Record(i)),
             ),
             IdData::String(t) => sums::string(t),
             IdData::UserDefinedTypeSource(u) => sums::source(u),

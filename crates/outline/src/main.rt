@@ -80,7 +80,7 @@ fn put_refused(e: Refusal) {
 
 // A record's bytes in the type stream; the id stream is not at hand.
 fn bytes_of<'a>(tpi: &'a [u8], entry: Entry) -> &'a [u8] {
-    stream_view::view(tpi, &tpi[0..0], entry)
+    stream_view::bytes_of(tpi, &tpi[0..0], entry)
 }
 
 // The name of a type whose record is at hand.

@@ -16,7 +16,7 @@ enum Onward {
 
 fn data_line<'a>(tpi: &'a [u8], ipi: &'a [u8], e: Entry) {
     lines::put(b"  ");
-    record_lines::entry(tpi, ipi, e, stream_view::view(tpi, ipi, e));
+    record_lines::entry(tpi, ipi, e, stream_view::bytes_of(tpi, ipi, e));
 }
 
 // A record's line, and under it its data if they are asked for.

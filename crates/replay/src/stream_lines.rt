@@ -419,10 +419,10 @@ fn kind_part(k: RawKindAnswer) {
 }
 
 fn view_part<'a>(tpi: &'a [u8], ipi: &'a [u8], e: Entry) {
-    match stream_view::view_answer(tpi, ipi, e) {
+    match stream_view::why(tpi, ipi, e) {
         ViewAnswer::Answered(_, _) => {
             lines::put(b"0 ");
-            hex(stream_view::view(tpi, ipi, e));
+            hex(stream_view::bytes_of(tpi, ipi, e));
         }
         ViewAnswer::Refused(x) => lines::refusal(x),
     }
@@ -436,7 +436,7 @@ pub fn view<'a>(tpi: &'a [u8], ipi: &'a [u8], i: Item) {
 
 // The marker's view and its kind.
 pub fn marker(none: &[u8], e: Entry) {
-    match stream_view::view_answer(none, none, e) {
+    match stream_view::why(none, none, e) {
         ViewAnswer::Answered(_, _) => lines::put(b"0"),
         ViewAnswer::Refused(x) => lines::refusal(x),
     }

@@ -1,3 +1,4 @@
+pub mod Held
 pub mod ViewLaws
 pub mod OneOutcome
 pub mod Examples

@@ -13,6 +13,12 @@ pub enum ViewAnswer {
     Refused(Refusal),
 }
 
+// A part of one of the two streams; or no bytes, and why.
+pub struct EntryView<'a> {
+    pub bytes: &'a [u8],
+    pub answer: ViewAnswer,
+}
+
 pub enum RawKindAnswer {
     Answered(u16),
     Refused(Refusal),
@@ -48,7 +54,7 @@ fn kind_at(s: &[u8], place: usize, length: usize) -> RawKindAnswer
 }
 
 // Where the payload of an entry lies.
-pub fn view_answer(tpi: &[u8], ipi: &[u8], entry: Entry) -> ViewAnswer
+fn answer_of<'a>(tpi: &'a [u8], ipi: &'a [u8], entry: Entry) -> ViewAnswer
     ensures { λ r. ⌜ saidView r ≡ viewOf (now (tpi .entry)) (now (ipi .entry)) entry ⌝ }
 {
     if tpi.len() > LONGEST {
@@ -71,8 +77,8 @@ pub fn view_answer(tpi: &[u8], ipi: &[u8], entry: Entry) -> ViewAnswer
     }
 }
 
-// The payload of an entry, and no bytes where `view_answer` refuses.
-pub fn view<'a>(tpi: &'a [u8], ipi: &'a [u8], entry: Entry) -> &'a [u8]
+// The bytes of `view` alone, for a caller that has no `EntryView` in a local: no bytes where `why` refuses.
+pub fn bytes_of<'a>(tpi: &'a [u8], ipi: &'a [u8], entry: Entry) -> &'a [u8]
     ensures { λ r. ⌜ now r ≡ viewBytes (now (tpi .entry)) (now (ipi .entry)) entry ⌝ }
 {
     if tpi.len() > LONGEST {
@@ -93,6 +99,22 @@ pub fn view<'a>(tpi: &'a [u8], ipi: &'a [u8], entry: Entry) -> &'a [u8]
         }
         Entry::Marker(_) => &tpi[0..0],
     }
+}
+
+// The payload of an entry; or no bytes, and why.
+pub fn view<'a>(tpi: &'a [u8], ipi: &'a [u8], entry: Entry) -> EntryView<'a>
+    ensures { λ r. ⌜ (saidView (r .answer) ≡ viewOf (now (tpi .entry)) (now (ipi .entry)) entry) × (now (r .bytes) ≡ viewBytes (now (tpi .entry)) (now (ipi .entry)) entry) ⌝ }
+{
+    let bytes = bytes_of(tpi, ipi, entry);
+    let answer = answer_of(tpi, ipi, entry);
+    EntryView { bytes, answer }
+}
+
+// The answer of `view` alone, for a caller that has no `EntryView` in a local.
+pub fn why<'a>(tpi: &'a [u8], ipi: &'a [u8], entry: Entry) -> ViewAnswer
+    ensures { λ r. ⌜ saidView r ≡ viewOf (now (tpi .entry)) (now (ipi .entry)) entry ⌝ }
+{
+    view(tpi, ipi, entry).answer
 }
 
 // The leaf that an entry starts with: 0xffff, a reserved value, for the marker.

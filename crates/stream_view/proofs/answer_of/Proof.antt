@@ -1,8 +1,8 @@
--- `stream_view::view_answer` meets its contract: 16 for either stream first, then by cases of the entry and of its stream. Assumes nothing.
+-- `stream_view::answer_of` meets its contract: 16 for either stream first, then by cases of the entry and of its stream. Assumes nothing.
 use borrow.Author.Needs.{needs}
 use borrow.Author.Tests.{le-ltb, lt-ltb}
-use Rattle.stream_view.proofs.view_answer.Statement.{statement}
-use Rattle.stream_view.proofs.view_answer.Tie as tie
+use Rattle.stream_view.proofs.answer_of.Statement.{statement}
+use Rattle.stream_view.proofs.answer_of.Tie as tie
 
 returns : tie.Need-returns
 returns c = simp (lt-ltb _ _ (c .if1 .taken))
@@ -25,8 +25,8 @@ returns-5 c =
     let e = c .before .before in
     simp (le-ltb _ _ (e .before .before .before .if1 .left), le-ltb _ _ (e .before .before .if2 .left), e .entry2 .given .1, c .number .ensures)
 
-pub view-answer-spec : {M : Type 1} → statement M
-view-answer-spec =
+pub answer-of-spec : {M : Type 1} → statement M
+answer-of-spec =
     tie.close (tie.spec
     returns returns-2 (λ c. search needs) (λ c. search needs) (λ c κs. search needs) (λ c. search needs) (λ c κs. search needs)
     (λ c. search needs) (λ c κs. search needs) returns-3 returns-4 returns-5)
