@@ -220,16 +220,6 @@ def table_of(word):
     return [] if word == "-" else [int(n) for n in word.split(",")]
 
 
-def signs_line(s, p):
-    """The signs of the i8, i16, i32 and i64 at a place, `1` for one that passes the end."""
-    def sign(k):
-        if p + k > len(s):
-            return "1"
-        n = int.from_bytes(s[p:p + k], "little", signed=True)
-        return "-" if n < 0 else "+" if n > 0 else "0"
-    return "".join(sign(k) for k in (1, 2, 4, 8))
-
-
 def count_line(s):
     """"The record count is maximum minus minimum.\""""
     number = refused_header(s)
@@ -280,8 +270,6 @@ def by_rule(words, primitive):
         return id_element_line(blob(n[1]), int(n[0]))
     if kind == "membername":
         return spelt(blob(n[1]), name_in(element_line(blob(n[1]), int(n[0])), NAMED_MEMBERS))
-    if kind == "signs":
-        return signs_line(blob(n[1]), int(n[0]))
     if kind == "count":
         return count_line(blob(n[0]))
     if kind == "cross":
@@ -291,14 +279,14 @@ def by_rule(words, primitive):
     return None
 
 
-PORT_ONLY = ("next", "create", "update", "findin", "maxindex", "view", "marker", "element", "idelement", "signs", "count", "cross", "item",
+PORT_ONLY = ("next", "create", "update", "findin", "maxindex", "view", "marker", "element", "idelement", "count", "cross", "item",
              "membername", "idat")
 
 
 # ---- words that should be BYTES ----
 
 # Where a command has its BYTES, the command itself being word 0; most have them as word 1.
-BYTES_AT = {**dict.fromkeys(("itemtype", "itemid", "string", "element", "idelement", "idat", "membername", "signs"), (2,)), "view": (1, 2),
+BYTES_AT = {**dict.fromkeys(("itemtype", "itemid", "string", "element", "idelement", "idat", "membername"), (2,)), "view": (1, 2),
             **dict.fromkeys(("prim", "word", "opttype", "optid", "update", "maxindex", "marker", "cross", "item"), ())}
 MOST_BYTES = 65536
 
@@ -456,7 +444,7 @@ NO_COMMANDS = ["frobnicate", "antidisestablishmentarianism 12"]
 NO_BYTES = [f"{kind} {word}" for kind in ("header", "kind", "type") for word in
             ("zz", "0g", "011", "0", "01z", "0B", "0110AA", "--", "-00", "00-", "@e.tpi", "01,02", "")]
 NO_BYTES += ["find zz 0 0,1", "find 0 3 4096", "next 001 0 0", "create 0 7", "findin zz 4096 4120 0 - 4096", "view 0 01 t 0 0", "view 01 0 t 0 0",
-             "view zz zz i 0 0", "view 01", "string 4611 4", "signs 0 0x", "element 0 031", "itemtype 4096 0X10", "membername 0 0", "count 5",
+             "view zz zz i 0 0", "view 01", "string 4611 4", "element 0 031", "itemtype 4096 0X10", "membername 0 0", "count 5",
              "padding " + "00" * (MOST_BYTES + 1)]
 MOST = "padding " + "f1" * MOST_BYTES
 EXAMPLES = [
@@ -584,9 +572,6 @@ def word_commands(rng):
 
 def small_commands():
     """The functions that no other command asks."""
-    for p in (0, 1, 7, 8, 9, 15, 16, 17, 2 ** 64 - 1):
-        for s in ("-", "00" * 8, "ff" * 9, "80" + "00" * 7 + "80", "0000008000000000017f", "0100" * 4):
-            yield f"signs {p} {s}"
     for s in (b"", header(), header(4096, 4096), header(4096, TOP), header()[:55], header(size=55), header(size=1025), header(4095), header(4096, 4095)):
         yield f"count {hexed(s)}"
     for n in (0, 4096, 2 ** 31 - 1, 2 ** 31, TOP):
@@ -706,7 +691,7 @@ def numbers_in(words, lines):
         elif words[0] in ("find", "findids", "prim"):
             if parts[0].isdigit() and len(parts) > 1:
                 yield int(parts[1])
-        elif words[0] not in ("word", "opttype", "optid", "maxindex", "signs", "cross", "item"):
+        elif words[0] not in ("word", "opttype", "optid", "maxindex", "cross", "item"):
             yield int(parts[0])
         yield from (int(n) for n in re.findall(r" ; end (\d+)", line))
         yield from (12 for _ in re.findall(r"=r12", line))

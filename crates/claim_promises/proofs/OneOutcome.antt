@@ -5,7 +5,7 @@ use denote.Ref.{now}
 use mathlib.Core.List.{List}
 use mathlib.Core.Path.{_≡_, sym, ap, _∙_}
 use Rattle.answer.proofs.OneOutcome.{one-details}
-use Rattle.field.proofs.OneOutcome.{one-u8, one-u16, one-u32, one-u64, one-i8, one-i16, one-i32, one-i64, one-type, one-id, one-string-ref, one-optional-type, one-optional-id, one-read-type, one-read-id}
+use Rattle.field.proofs.OneOutcome.{one-u8, one-u16, one-u32, one-u64, one-type, one-id, one-string-ref, one-optional-type, one-optional-id, one-read-type, one-read-id}
 use Rattle.field_text.proofs.OneOutcome.{one-optional-string, one-string, one-after}
 use Rattle.field_number.proofs.OneOutcome.{one-variant, one-size}
 use Rattle.word_primitive.proofs.OneOutcome.{one-primitive}
@@ -62,13 +62,6 @@ one-outcome = record {
   field-fixed-u16-at = λ s p r q a b. one-u16 r q (a ∙ sym b);
   field-fixed-u32-at = λ s p r q a b. one-u32 r q (a ∙ sym b);
   field-fixed-u64-at = λ s p r q a b. one-u64 r q (a ∙ sym b);
-  field-fixed-i8-at = λ s p r q a b. one-i8 r q (a ∙ sym b);
-  field-fixed-i16-at = λ s p r q a b. one-i16 r q (a ∙ sym b);
-  field-fixed-i32-at = λ s p r q a b. one-i32 r q (a ∙ sym b);
-  field-fixed-i64-at = λ s p r q a b. one-i64 r q (a ∙ sym b);
-  field-fixed-u16-or-zero = λ s p r q a b. a ∙ sym b;
-  field-fixed-u32-or-zero = λ s p r q a b. a ∙ sym b;
-  field-fixed-i32-or-zero = λ s p r q a b. a ∙ sym b;
   field-index-type-index-is-cross-module = λ self r q a b. a ∙ sym b;
   field-index-type-index-optional = λ self r q a b. one-optional-type r q (a ∙ sym b);
   field-index-id-index-is-cross-module = λ self r q a b. a ∙ sym b;
@@ -84,7 +77,6 @@ one-outcome = record {
   field-number-size-at = λ s p r q a b. one-size r q (a ∙ sym b);
   field-text-string-at = λ s p r q a b. one-string r q (a ∙ sym b);
   field-text-raw-string-bytes = λ self s r q a b. a ∙ sym b;
-  field-text-counted-string-at = λ s p r q a b. one-string r q (a ∙ sym b);
   field-text-string-of = λ leaf s p r q a b. one-string r q (a ∙ sym b);
   field-text-after-padding = λ s p r q a b. one-after r q (a ∙ sym b);
   record-data-type-data-name = λ self r q a b. one-type-name r q (a ∙ sym b);
@@ -118,9 +110,6 @@ one-outcome = record {
   stream-item-stream-index = λ self n r q a b. a ∙ sym b;
   stream-item-item-index-stream = λ self r q a b. a ∙ sym b;
   stream-item-item-index-number = λ self r q a b. a ∙ sym b;
-  stream-item-item-index = λ self r q a b. a ∙ sym b;
-  stream-item-item-len = λ self r q a b. a ∙ sym b;
-  stream-item-item-is-empty = λ self r q a b. a ∙ sym b;
   stream-item-entry-index = λ self r q a b. a ∙ sym b;
   stream-item-entry-len = λ self r q a b. a ∙ sym b;
   stream-item-entry-is-empty = λ self r q a b. a ∙ sym b;
@@ -128,7 +117,6 @@ one-outcome = record {
   stream-item-information-is-empty = λ s r q a b. one-empty r q (a ∙ sym b);
   stream-item-iter-iter = λ stream s r q a b. one-iter r q (a ∙ sym b);
   stream-item-iter-next = λ s c r q a b. one-next r q (a ∙ sym b);
-  stream-item-link-link-at = λ s p r q a b. a ∙ sym b;
   stream-item-link-link-of = λ s p k r q a b. a ∙ sym b;
   stream-view-bytes-of = λ tpi ipi entry r q a b. a ∙ sym b;
   stream-view-view = λ tpi ipi entry r q a b. one-entry-view r q a b;

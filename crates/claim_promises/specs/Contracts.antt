@@ -2,7 +2,6 @@
 use Prim.Native.Nat.{_-_, ℕ}
 use denote.Ref.{RefT, now}
 use lib.Dec.{eqb, leb}
-use lib.IntN.{ℤ}
 use mathlib.Core.Bool.{Bool}
 use mathlib.Core.List.{List}
 use mathlib.Core.Path.{_≡_}
@@ -10,17 +9,13 @@ use Rattle.answer.specs.Details.{detailsValue}
 use Rattle.answer.specs.Refusals.{detailsOf, numberOf}
 use Rattle.answer.specs.declared.Details.{Details}
 use Rattle.answer.specs.declared.Refusal.{Refusal}
-use Rattle.field.specs.Fields.{fixedAt, orZero, said16, said32, said64, said8, saidI16, saidI32, saidI64, saidI8, signedAt, twos}
+use Rattle.field.specs.Fields.{fixedAt, said16, said32, said64, said8}
 use Rattle.field.specs.Indices.{idOption, noId, noType, optionalAt, optionalOf, saidId, saidOptId, saidOptType, saidStringRef, saidType, typeOption}
 use Rattle.field.specs.Runs.{bytesAfter, bytesAt, saidAfter}
 use Rattle.field.specs.declared.fixed.Read16.{Read16}
 use Rattle.field.specs.declared.fixed.Read32.{Read32}
 use Rattle.field.specs.declared.fixed.Read64.{Read64}
 use Rattle.field.specs.declared.fixed.Read8.{Read8}
-use Rattle.field.specs.declared.fixed.ReadI16.{ReadI16}
-use Rattle.field.specs.declared.fixed.ReadI32.{ReadI32}
-use Rattle.field.specs.declared.fixed.ReadI64.{ReadI64}
-use Rattle.field.specs.declared.fixed.ReadI8.{ReadI8}
 use Rattle.field.specs.declared.index.IdIndex.{IdIndex}
 use Rattle.field.specs.declared.index.OptIdIndex.{OptIdIndex}
 use Rattle.field.specs.declared.index.OptTypeIndex.{OptTypeIndex}
@@ -34,7 +29,7 @@ use Rattle.field.specs.declared.run.After.{After}
 use Rattle.field_number.specs.Numbers.{numericAt, saidSize as saidSize-of-field-number, saidVariant, sizeAt}
 use Rattle.field_number.specs.declared.ReadSize.{ReadSize}
 use Rattle.field_number.specs.declared.ReadVariant.{ReadVariant}
-use Rattle.field_text.specs.Texts.{countedStringAt, paddingAfter, saidString, stringAt, stringOf, stringOption}
+use Rattle.field_text.specs.Texts.{paddingAfter, saidString, stringAt, stringOf, stringOption}
 use Rattle.field_text.specs.declared.OptString.{OptString}
 use Rattle.field_text.specs.declared.RawString.{RawString}
 use Rattle.field_text.specs.declared.ReadString.{ReadString}
@@ -77,9 +72,8 @@ use Rattle.stream_index.specs.declared.TurnAnswer.{TurnAnswer}
 use Rattle.stream_item.specs.Information.{isEmptyOf, lenOf, saidEmpty, saidLen}
 use Rattle.stream_item.specs.Items.{indexIn, indexOf, lengthOf, numberIn, streamIn}
 use Rattle.stream_item.specs.Iterator.{iterOf, nextOf, saidIter, saidNext}
-use Rattle.stream_item.specs.Links.{linkAt, linkOf}
+use Rattle.stream_item.specs.Links.{linkOf}
 use Rattle.stream_item.specs.declared.Entry.{Entry}
-use Rattle.stream_item.specs.declared.Item.{Item}
 use Rattle.stream_item.specs.declared.ItemIndex.the-variants as item-index
 use Rattle.stream_item.specs.declared.ItemIndex.{ItemIndex}
 use Rattle.stream_item.specs.declared.Stream.{Stream}
@@ -89,7 +83,6 @@ use Rattle.stream_item.specs.declared.iter.ItemIter.{ItemIter}
 use Rattle.stream_item.specs.declared.iter.IterAnswer.{IterAnswer}
 use Rattle.stream_item.specs.declared.iter.NextAnswer.{NextAnswer}
 use Rattle.stream_item.specs.declared.link.Hit.{Hit}
-use Rattle.stream_item.specs.declared.link.Link.{Link}
 use Rattle.stream_view.specs.Views.{rawKindOf, saidRawKind, saidView, viewBytes, viewOf}
 use Rattle.stream_view.specs.declared.EntryView.{EntryView}
 use Rattle.stream_view.specs.declared.RawKindAnswer.{RawKindAnswer}
@@ -133,34 +126,6 @@ field-fixed-u32-at s p r = said32 r ≡ fixedAt 4 s p
 -- field::fixed::u64_at
 abbrev pub field-fixed-u64-at : (s : List ℕ) (p : ℕ) → Read64 → Type 0
 field-fixed-u64-at s p r = said64 r ≡ fixedAt 8 s p
-
--- field::fixed::i8_at
-abbrev pub field-fixed-i8-at : (s : List ℕ) (p : ℕ) → ReadI8 → Type 0
-field-fixed-i8-at s p r = saidI8 r ≡ signedAt 1 s p
-
--- field::fixed::i16_at
-abbrev pub field-fixed-i16-at : (s : List ℕ) (p : ℕ) → ReadI16 → Type 0
-field-fixed-i16-at s p r = saidI16 r ≡ signedAt 2 s p
-
--- field::fixed::i32_at
-abbrev pub field-fixed-i32-at : (s : List ℕ) (p : ℕ) → ReadI32 → Type 0
-field-fixed-i32-at s p r = saidI32 r ≡ signedAt 4 s p
-
--- field::fixed::i64_at
-abbrev pub field-fixed-i64-at : (s : List ℕ) (p : ℕ) → ReadI64 → Type 0
-field-fixed-i64-at s p r = saidI64 r ≡ signedAt 8 s p
-
--- field::fixed::u16_or_zero
-abbrev pub field-fixed-u16-or-zero : (s : List ℕ) (p : ℕ) → ℕ → Type 0
-field-fixed-u16-or-zero s p r = r ≡ orZero 2 s p
-
--- field::fixed::u32_or_zero
-abbrev pub field-fixed-u32-or-zero : (s : List ℕ) (p : ℕ) → ℕ → Type 0
-field-fixed-u32-or-zero s p r = r ≡ orZero 4 s p
-
--- field::fixed::i32_or_zero
-abbrev pub field-fixed-i32-or-zero : (s : List ℕ) (p : ℕ) → ℤ → Type 0
-field-fixed-i32-or-zero s p r = r ≡ twos 4 (orZero 4 s p)
 
 -- field::index::TypeIndex::is_cross_module
 abbrev pub field-index-type-index-is-cross-module : (self : TypeIndex) → Bool → Type 0
@@ -221,10 +186,6 @@ field-text-string-at s p r = saidString r ≡ stringAt s p
 -- field_text::RawString::bytes
 abbrev pub field-text-raw-string-bytes : (self : RawString) (s : List ℕ) → List ℕ → Type 0
 field-text-raw-string-bytes self s r = r ≡ bytesAt (self .length) s (self .place)
-
--- field_text::counted_string_at
-abbrev pub field-text-counted-string-at : (s : List ℕ) (p : ℕ) → ReadString → Type 0
-field-text-counted-string-at s p r = saidString r ≡ countedStringAt s p
 
 -- field_text::string_of
 abbrev pub field-text-string-of : (leaf : ℕ) (s : List ℕ) (p : ℕ) → ReadString → Type 0
@@ -358,18 +319,6 @@ stream-item-item-index-stream self r = r ≡ streamIn self
 abbrev pub stream-item-item-index-number : (self : ItemIndex) → ℕ → Type 0
 stream-item-item-index-number self r = r ≡ numberIn self
 
--- stream_item::Item::index
-abbrev pub stream-item-item-index : (self : Item) → ItemIndex → Type 0
-stream-item-item-index self r = r ≡ self .index
-
--- stream_item::Item::len
-abbrev pub stream-item-item-len : (self : Item) → ℕ → Type 0
-stream-item-item-len self r = r ≡ self .length
-
--- stream_item::Item::is_empty
-abbrev pub stream-item-item-is-empty : (self : Item) → Bool → Type 0
-stream-item-item-is-empty self r = r ≡ eqb (self .length) 0
-
 -- stream_item::Entry::index
 abbrev pub stream-item-entry-index : (self : Entry) → ItemIndex → Type 0
 stream-item-entry-index self r = r ≡ indexOf self
@@ -397,10 +346,6 @@ stream-item-iter-iter stream s r = saidIter r ≡ iterOf stream s
 -- stream_item::iter::next
 abbrev pub stream-item-iter-next : (s : List ℕ) (c : ItemIter) → NextAnswer → Type 0
 stream-item-iter-next s c r = saidNext r ≡ nextOf s c
-
--- stream_item::link::link_at
-abbrev pub stream-item-link-link-at : (s : List ℕ) (p : ℕ) → Link → Type 0
-stream-item-link-link-at s p r = r ≡ linkAt s p
 
 -- stream_item::link::link_of
 abbrev pub stream-item-link-link-of : (s : List ℕ) (p : ℕ) (k : ℕ) → Hit → Type 0

@@ -15,7 +15,6 @@ use Rattle.record_reader.specs.declared.ListReader.{ListReader}
 use Rattle.stream_finder.specs.declared.ItemFinder.{ItemFinder}
 use Rattle.stream_header.specs.declared.Header.{Header}
 use Rattle.stream_item.specs.declared.Entry.{Entry}
-use Rattle.stream_item.specs.declared.Item.{Item}
 use Rattle.stream_item.specs.declared.ItemIndex.{ItemIndex}
 use Rattle.stream_item.specs.declared.Stream.{Stream}
 use Rattle.stream_item.specs.declared.iter.ItemIter.{ItemIter}
@@ -48,13 +47,6 @@ pub record OneOutcome : Type 1 where
   pub field-fixed-u16-at : (s : List ℕ) (p : ℕ) → Once (contract.field-fixed-u16-at s p)
   pub field-fixed-u32-at : (s : List ℕ) (p : ℕ) → Once (contract.field-fixed-u32-at s p)
   pub field-fixed-u64-at : (s : List ℕ) (p : ℕ) → Once (contract.field-fixed-u64-at s p)
-  pub field-fixed-i8-at : (s : List ℕ) (p : ℕ) → Once (contract.field-fixed-i8-at s p)
-  pub field-fixed-i16-at : (s : List ℕ) (p : ℕ) → Once (contract.field-fixed-i16-at s p)
-  pub field-fixed-i32-at : (s : List ℕ) (p : ℕ) → Once (contract.field-fixed-i32-at s p)
-  pub field-fixed-i64-at : (s : List ℕ) (p : ℕ) → Once (contract.field-fixed-i64-at s p)
-  pub field-fixed-u16-or-zero : (s : List ℕ) (p : ℕ) → Once (contract.field-fixed-u16-or-zero s p)
-  pub field-fixed-u32-or-zero : (s : List ℕ) (p : ℕ) → Once (contract.field-fixed-u32-or-zero s p)
-  pub field-fixed-i32-or-zero : (s : List ℕ) (p : ℕ) → Once (contract.field-fixed-i32-or-zero s p)
   pub field-index-type-index-is-cross-module : (self : TypeIndex) → Once (contract.field-index-type-index-is-cross-module self)
   pub field-index-type-index-optional : (self : TypeIndex) → Once (contract.field-index-type-index-optional self)
   pub field-index-id-index-is-cross-module : (self : IdIndex) → Once (contract.field-index-id-index-is-cross-module self)
@@ -72,7 +64,6 @@ pub record OneOutcome : Type 1 where
   -- field_text
   pub field-text-string-at : (s : List ℕ) (p : ℕ) → Once (contract.field-text-string-at s p)
   pub field-text-raw-string-bytes : (self : RawString) (s : List ℕ) → Once (contract.field-text-raw-string-bytes self s)
-  pub field-text-counted-string-at : (s : List ℕ) (p : ℕ) → Once (contract.field-text-counted-string-at s p)
   pub field-text-string-of : (leaf : ℕ) (s : List ℕ) (p : ℕ) → Once (contract.field-text-string-of leaf s p)
   pub field-text-after-padding : (s : List ℕ) (p : ℕ) → Once (contract.field-text-after-padding s p)
   -- record_data
@@ -116,9 +107,6 @@ pub record OneOutcome : Type 1 where
   pub stream-item-stream-index : (self : Stream) (n : ℕ) → Once (contract.stream-item-stream-index self n)
   pub stream-item-item-index-stream : (self : ItemIndex) → Once (contract.stream-item-item-index-stream self)
   pub stream-item-item-index-number : (self : ItemIndex) → Once (contract.stream-item-item-index-number self)
-  pub stream-item-item-index : (self : Item) → Once (contract.stream-item-item-index self)
-  pub stream-item-item-len : (self : Item) → Once (contract.stream-item-item-len self)
-  pub stream-item-item-is-empty : (self : Item) → Once (contract.stream-item-item-is-empty self)
   pub stream-item-entry-index : (self : Entry) → Once (contract.stream-item-entry-index self)
   pub stream-item-entry-len : (self : Entry) → Once (contract.stream-item-entry-len self)
   pub stream-item-entry-is-empty : (self : Entry) → Once (contract.stream-item-entry-is-empty self)
@@ -126,7 +114,6 @@ pub record OneOutcome : Type 1 where
   pub stream-item-information-is-empty : (s : List ℕ) → Once (contract.stream-item-information-is-empty s)
   pub stream-item-iter-iter : (stream : Stream) (s : List ℕ) → Once (contract.stream-item-iter-iter stream s)
   pub stream-item-iter-next : (s : List ℕ) (c : ItemIter) → Once (contract.stream-item-iter-next s c)
-  pub stream-item-link-link-at : (s : List ℕ) (p : ℕ) → Once (contract.stream-item-link-link-at s p)
   pub stream-item-link-link-of : (s : List ℕ) (p : ℕ) (k : ℕ) → Once (contract.stream-item-link-link-of s p k)
   -- stream_view
   pub stream-view-bytes-of : (tpi : List ℕ) (ipi : List ℕ) (entry : Entry) → Once (contract.stream-view-bytes-of tpi ipi entry)

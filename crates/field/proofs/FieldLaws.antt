@@ -9,7 +9,7 @@ use lib.ListN.{length, getD}
 use lib.Dec.{leb}
 use borrow.Author.Tests.{le-leb, lt-leb, leb-true}
 use Rattle.answer.specs.Answer.{Answer, answered, refused, Read, got, ended, pick}
-use Rattle.field.specs.Fields.{littleAt, fixedAt, orZero}
+use Rattle.field.specs.Fields.{littleAt, fixedAt}
 
 -- one byte is itself
 pub little-one : (s : List ℕ) (p : ℕ) → getD s p 0 ≡ littleAt 1 s p
@@ -75,26 +75,13 @@ field-got k s p v q e = go (leb (p + k) (length s)) refl e
 pub field-within : (k : ℕ) (s : List ℕ) (p v q : ℕ) → fixedAt k s p ≡ got v q → q ≤ length s
 field-within k s p v q e = let t = field-got k s p v q e in omega (arith, t .room, t .next)
 
--- the number, or 0, from the field's own answer
-abbrev or-zero : Read ℕ → ℕ
-or-zero (answered g) = g .value
-or-zero (refused n d) = 0
-
-pub zero-or : (k : ℕ) (s : List ℕ) (p : ℕ) → or-zero (fixedAt k s p) ≡ orZero k s p
-unfolding fixedAt orZero
-zero-or k s p = go (leb (p + k) (length s))
+-- where the bytes are there, the field is
+pub never-ended : {v : ℕ} (k : ℕ) (s : List ℕ) (p : ℕ) → p + k ≤ length s → fixedAt k s p ≡ ended → 0 ≡ v
+never-ended {v = v} k s p h e = ap (value-or v) e′
   where
-    go : (t : Bool) → or-zero (pick t (got (littleAt k s p) (p + k)) ended) ≡ pick t (littleAt k s p) 0
-    go true = refl
-    go false = refl
+    value-or : ℕ → Read ℕ → ℕ
+    value-or v (answered g) = 0
+    value-or v (refused n d) = v
 
-pub or-zero-got : (k : ℕ) (s : List ℕ) (p v q : ℕ) → fixedAt k s p ≡ got v q → v ≡ orZero k s p
-or-zero-got k s p v q e = sym (ap or-zero e) ∙ zero-or k s p
-
-pub or-zero-ended : (k : ℕ) (s : List ℕ) (p : ℕ) → fixedAt k s p ≡ ended → 0 ≡ orZero k s p
-or-zero-ended k s p e = sym (ap or-zero e) ∙ zero-or k s p
-
--- where the number is there, it is the number
-pub or-zero-there : (k : ℕ) (s : List ℕ) (p : ℕ) → p + k ≤ length s → orZero k s p ≡ littleAt k s p
-unfolding orZero
-or-zero-there k s p h = rw (le-leb _ _ h)
+    e′ : got (littleAt k s p) (p + k) ≡ ended
+    e′ = field-there k s p (littleAt k s p) h refl ∙ e

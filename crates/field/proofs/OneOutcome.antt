@@ -3,10 +3,9 @@
 use Prim.Native.Nat.{ℕ}
 use mathlib.Core.Path.{_≡_, refl}
 use mathlib.Core.Option.{Option, none, some}
-use lib.IntN.{ℤ}
 use Rattle.answer.specs.Answer.{answered, refused, Read}
 use Rattle.answer.proofs.OneOutcome.{one-of}
-use Rattle.field.specs.Fields.{said8, said16, said32, said64, saidI8, saidI16, saidI32, saidI64}
+use Rattle.field.specs.Fields.{said8, said16, said32, said64}
 use Rattle.field.specs.Indices.{saidType, saidId, saidStringRef, typeOption, idOption, saidOptType, saidOptId}
 use Rattle.field.specs.declared.fixed.Read8.{Read8}
 use Rattle.field.specs.declared.fixed.Read8.the-variants as r8
@@ -16,14 +15,6 @@ use Rattle.field.specs.declared.fixed.Read32.{Read32}
 use Rattle.field.specs.declared.fixed.Read32.the-variants as r32
 use Rattle.field.specs.declared.fixed.Read64.{Read64}
 use Rattle.field.specs.declared.fixed.Read64.the-variants as r64
-use Rattle.field.specs.declared.fixed.ReadI8.{ReadI8}
-use Rattle.field.specs.declared.fixed.ReadI8.the-variants as i8
-use Rattle.field.specs.declared.fixed.ReadI16.{ReadI16}
-use Rattle.field.specs.declared.fixed.ReadI16.the-variants as i16
-use Rattle.field.specs.declared.fixed.ReadI32.{ReadI32}
-use Rattle.field.specs.declared.fixed.ReadI32.the-variants as i32
-use Rattle.field.specs.declared.fixed.ReadI64.{ReadI64}
-use Rattle.field.specs.declared.fixed.ReadI64.the-variants as i64
 use Rattle.field.specs.declared.index.ReadType.{ReadType}
 use Rattle.field.specs.declared.index.ReadType.the-variants as at-type
 use Rattle.field.specs.declared.index.ReadId.{ReadId}
@@ -84,50 +75,6 @@ back-u64 r64.Ended = refl
 
 pub one-u64 : (r q : Read64) → said64 r ≡ said64 q → r ≡ q
 one-u64 = one-of said64 hear-u64 back-u64
-
-abbrev hear-i8 : Read ℤ → ReadI8
-hear-i8 (answered g) = i8.Got (g .value) (g .next)
-hear-i8 (refused n d) = i8.Ended
-
-back-i8 : (r : ReadI8) → hear-i8 (saidI8 r) ≡ r
-back-i8 (i8.Got x p) = refl
-back-i8 i8.Ended = refl
-
-pub one-i8 : (r q : ReadI8) → saidI8 r ≡ saidI8 q → r ≡ q
-one-i8 = one-of saidI8 hear-i8 back-i8
-
-abbrev hear-i16 : Read ℤ → ReadI16
-hear-i16 (answered g) = i16.Got (g .value) (g .next)
-hear-i16 (refused n d) = i16.Ended
-
-back-i16 : (r : ReadI16) → hear-i16 (saidI16 r) ≡ r
-back-i16 (i16.Got x p) = refl
-back-i16 i16.Ended = refl
-
-pub one-i16 : (r q : ReadI16) → saidI16 r ≡ saidI16 q → r ≡ q
-one-i16 = one-of saidI16 hear-i16 back-i16
-
-abbrev hear-i32 : Read ℤ → ReadI32
-hear-i32 (answered g) = i32.Got (g .value) (g .next)
-hear-i32 (refused n d) = i32.Ended
-
-back-i32 : (r : ReadI32) → hear-i32 (saidI32 r) ≡ r
-back-i32 (i32.Got x p) = refl
-back-i32 i32.Ended = refl
-
-pub one-i32 : (r q : ReadI32) → saidI32 r ≡ saidI32 q → r ≡ q
-one-i32 = one-of saidI32 hear-i32 back-i32
-
-abbrev hear-i64 : Read ℤ → ReadI64
-hear-i64 (answered g) = i64.Got (g .value) (g .next)
-hear-i64 (refused n d) = i64.Ended
-
-back-i64 : (r : ReadI64) → hear-i64 (saidI64 r) ≡ r
-back-i64 (i64.Got x p) = refl
-back-i64 i64.Ended = refl
-
-pub one-i64 : (r q : ReadI64) → saidI64 r ≡ saidI64 q → r ≡ q
-one-i64 = one-of saidI64 hear-i64 back-i64
 
 -- indices
 

@@ -13,14 +13,6 @@ use Rattle.field.specs.declared.fixed.Read32.{Read32}
 use Rattle.field.specs.declared.fixed.Read32.the-variants as r32
 use Rattle.field.specs.declared.fixed.Read64.{Read64}
 use Rattle.field.specs.declared.fixed.Read64.the-variants as r64
-use Rattle.field.specs.declared.fixed.ReadI8.{ReadI8}
-use Rattle.field.specs.declared.fixed.ReadI8.the-variants as i8
-use Rattle.field.specs.declared.fixed.ReadI16.{ReadI16}
-use Rattle.field.specs.declared.fixed.ReadI16.the-variants as i16
-use Rattle.field.specs.declared.fixed.ReadI32.{ReadI32}
-use Rattle.field.specs.declared.fixed.ReadI32.the-variants as i32
-use Rattle.field.specs.declared.fixed.ReadI64.{ReadI64}
-use Rattle.field.specs.declared.fixed.ReadI64.the-variants as i64
 
 -- the number that k bytes at place p make, lowest byte first
 unfoldable pub littleAt : ℕ → List ℕ → ℕ → ℕ
@@ -39,10 +31,6 @@ twos k x = pick (ltb x (2 ^ (8 * k - 1))) (pos x) (negsuc (2 ^ (8 * k) - suc x))
 unfoldable pub signedAt : ℕ → List ℕ → ℕ → Read ℤ
 signedAt k s p = and-then (fixedAt k s p) (λ x q. got (twos k x) q)
 
--- the number of k bytes at place p, 0 where it passes the end
-unfoldable pub orZero : ℕ → List ℕ → ℕ → ℕ
-orZero k s p = pick (leb (p + k) (length s)) (littleAt k s p) 0
-
 -- what the answers say
 abbrev pub said8 : Read8 → Read ℕ
 said8 (r8.Got x p) = got x p
@@ -59,19 +47,3 @@ said32 r32.Ended = ended
 abbrev pub said64 : Read64 → Read ℕ
 said64 (r64.Got x p) = got x p
 said64 r64.Ended = ended
-
-abbrev pub saidI8 : ReadI8 → Read ℤ
-saidI8 (i8.Got x p) = got x p
-saidI8 i8.Ended = ended
-
-abbrev pub saidI16 : ReadI16 → Read ℤ
-saidI16 (i16.Got x p) = got x p
-saidI16 i16.Ended = ended
-
-abbrev pub saidI32 : ReadI32 → Read ℤ
-saidI32 (i32.Got x p) = got x p
-saidI32 i32.Ended = ended
-
-abbrev pub saidI64 : ReadI64 → Read ℤ
-saidI64 (i64.Got x p) = got x p
-saidI64 i64.Ended = ended

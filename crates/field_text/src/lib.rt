@@ -94,7 +94,7 @@ impl RawString {
 }
 
 // The string at place p that a length byte begins.
-pub fn counted_string_at(s: &[u8], p: usize) -> ReadString
+fn counted_string_at(s: &[u8], p: usize) -> ReadString
     ensures { λ r. ⌜ saidString r ≡ countedStringAt (now (s .entry)) p ⌝ }
 {
     let Read8::Got(n, q) = fixed::u8_at(s, p) else {

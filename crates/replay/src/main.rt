@@ -199,7 +199,7 @@ fn name_of(letters: &[u8; 16], n: usize) -> Name {
           prim:nn opttype:n optid:n maxindex:nnn word:wnnn \
           itemtype:na itemid:na string:na element:na idelement:na \
           next:ann create:at update:nnntnn findin:annntn view:abwnn marker:wn find:aun findids:aun \
-          signs:na count:a cross:n item:wnnn name:a membername:na idat:na ",
+          count:a cross:n item:wnnn name:a membername:na idat:na ",
     )
 }
 

@@ -1,13 +1,8 @@
-// The lines of small functions that no other command asks: the signs of signed fields, counts, cross-module indices, items and entries, names,
+// The lines of small functions that no other command asks: counts, cross-module indices, items and entries, names,
 // and elements of ids by the functions on bytes.
 use crate::input;
 use crate::lines;
 use crate::stream_lines;
-use field::fixed;
-use field::fixed::ReadI8;
-use field::fixed::ReadI16;
-use field::fixed::ReadI32;
-use field::fixed::ReadI64;
 use field::index::IdIndex;
 use field::index::TypeIndex;
 use field_text::OptString;
@@ -26,55 +21,6 @@ fn put_if(b: bool, text: &[u8]) {
     if b {
         lines::put(text);
     }
-}
-
-// `-`, `0` or `+`; `1` where the field passes the end.
-
-fn sign(negative: bool, zero: bool) {
-    if negative {
-        lines::put(b"-");
-        return;
-    }
-    if zero {
-        lines::put(b"0");
-        return;
-    }
-    lines::put(b"+");
-}
-
-fn sign8(s: &[u8], p: usize) {
-    match fixed::i8_at(s, p) {
-        ReadI8::Got(v, _) => sign(v < 0, v == 0),
-        ReadI8::Ended => lines::put(b"1"),
-    }
-}
-
-fn sign16(s: &[u8], p: usize) {
-    match fixed::i16_at(s, p) {
-        ReadI16::Got(v, _) => sign(v < 0, v == 0),
-        ReadI16::Ended => lines::put(b"1"),
-    }
-}
-
-fn sign32(s: &[u8], p: usize) {
-    match fixed::i32_at(s, p) {
-        ReadI32::Got(v, _) => sign(v < 0, v == 0),
-        ReadI32::Ended => lines::put(b"1"),
-    }
-}
-
-fn sign64(s: &[u8], p: usize) {
-    match fixed::i64_at(s, p) {
-        ReadI64::Got(v, _) => sign(v < 0, v == 0),
-        ReadI64::Ended => lines::put(b"1"),
-    }
-}
-
-fn signs(s: &[u8], p: usize) {
-    sign8(s, p);
-    sign16(s, p);
-    sign32(s, p);
-    sign64(s, p);
 }
 
 // A stream's count, and whether it is empty.
@@ -125,11 +71,11 @@ fn item(ids: bool, n: u32, place: usize, length: usize) {
         place: place,
         length: length,
     };
-    index(i.index());
-    lines::number(i.len() as u64);
-    put_if(i.is_empty(), b" empty");
+    index(i.index);
+    lines::number(i.length as u64);
+    put_if(i.length == 0, b" empty");
     entry(Entry::Record(i));
-    entry(Entry::Marker(i.index()));
+    entry(Entry::Marker(i.index));
 }
 
 // Names.
@@ -198,7 +144,7 @@ fn id_at(s: &[u8], k: u32) {
 }
 
 fn on_numbers(command: u8, n: &[u64; 8]) {
-    if command == 30 {
+    if command == 29 {
         cross(input::low32(n[0]));
         return;
     }
@@ -212,16 +158,15 @@ fn on_numbers(command: u8, n: &[u64; 8]) {
 
 fn on_bytes(command: u8, s: &[u8], n: u64) {
     match command {
-        28 => signs(s, n as usize),
-        29 => count(s),
-        32 => name(s),
-        33 => member_name(s, input::low32(n)),
+        28 => count(s),
+        31 => name(s),
+        32 => member_name(s, input::low32(n)),
         _ => id_at(s, input::low32(n)),
     }
 }
 
 pub fn answer(command: u8, s: &[u8], n: &[u64; 8]) {
-    if command == 30 || command == 31 {
+    if command == 29 || command == 30 {
         on_numbers(command, n);
     } else {
         on_bytes(command, s, n[0]);

@@ -2,6 +2,7 @@
 // its functions are proved safe, and what they print is tested and not proved.
 use crate::lines;
 use answer::Refusal;
+use field::fixed::Read32;
 use field::index::IdIndex;
 use field::index::TypeIndex;
 use libc::STDOUT_FILENO;
@@ -42,7 +43,10 @@ fn stream_of(ids: bool) -> Stream {
 // The header. Its offsets are read once more as numbers without a sign, which is what a form takes.
 
 fn bits(s: &[u8], p: usize) -> u64 {
-    field::fixed::u32_or_zero(s, p) as u64
+    match field::fixed::u32_at(s, p) {
+        Read32::Got(x, _) => x as u64,
+        Read32::Ended => 0,
+    }
 }
 
 fn slices(s: &[u8], n1: u32, n2: u32, n3: u32, count: u32) {

@@ -2,10 +2,14 @@
 ghost use mathlib.Core.Path.{_≡_};
 ghost use Prim.Native.Nat.{_+_, _-_, _≤_};
 ghost use lib.ListN.{length};
+ghost use mir.Syntax.{w32};
+ghost use mir.Val.{toZ};
 ghost use Rattle.field.specs.Fields.{littleAt, twos};
 ghost use Rattle.stream_header.specs.Header.{sliceOf, fieldsOf, empty, headerOf, saidHeader};
 use answer::Refusal;
 use field::fixed;
+use field::fixed::Read16;
+use field::fixed::Read32;
 
 // The longest stream: each of its places, and the place after it, is a u32 below the largest.
 pub const LONGEST: usize = 4294967294;
@@ -85,27 +89,43 @@ impl Header {
     }
 }
 
-// The number at place p of a header that is all there.
+// The number at place p of a header that is all there. The caller has tested the length, so that the test for the end goes away.
 
 fn half_at(s: &[u8], p: usize) -> u16
     requires { ⌜ p + 2 ≤ length (now s) ⌝ }
     ensures { λ r. ⌜ r ≡ littleAt 2 (now (s .entry)) p ⌝ }
 {
-    fixed::u16_or_zero(s, p)
+    let Read16::Got(x, _) = fixed::u16_at(s, p) else {
+        return 0;
+    };
+    x
 }
 
 fn word_at(s: &[u8], p: usize) -> u32
     requires { ⌜ p + 4 ≤ length (now s) ⌝ }
     ensures { λ r. ⌜ r ≡ littleAt 4 (now (s .entry)) p ⌝ }
 {
-    fixed::u32_or_zero(s, p)
+    let Read32::Got(x, _) = fixed::u32_at(s, p) else {
+        return 0;
+    };
+    x
+}
+
+// The bits x as two's complement. Compiles to nothing.
+fn signed(x: u32) -> i32
+    ensures { λ r. ⌜ r ≡ toZ w32 x ⌝ }
+{
+    if x < 0x8000_0000 {
+        return x as i32;
+    }
+    -1 - ((0xffff_ffff - x) as i32)
 }
 
 fn signed_at(s: &[u8], p: usize) -> i32
     requires { ⌜ p + 4 ≤ length (now s) ⌝ }
     ensures { λ r. ⌜ r ≡ twos 4 (littleAt 4 (now (s .entry)) p) ⌝ }
 {
-    fixed::i32_or_zero(s, p)
+    signed(word_at(s, p))
 }
 
 // The offset and the size at place p of a header that is all there.

@@ -75,27 +75,6 @@ impl ItemIndex {
     }
 }
 
-impl Item {
-    pub fn index(self) -> ItemIndex
-        ensures { λ r. ⌜ r ≡ self .index ⌝ }
-    {
-        self.index
-    }
-
-    // The payload's length, without the two bytes of the length itself.
-    pub fn len(self) -> usize
-        ensures { λ r. ⌜ r ≡ self .length ⌝ }
-    {
-        self.length
-    }
-
-    pub fn is_empty(self) -> bool
-        ensures { λ r. ⌜ r ≡ eqb (self .length) 0 ⌝ }
-    {
-        self.length == 0
-    }
-}
-
 impl Entry {
     // The index that the entry was named by.
     pub fn index(self) -> ItemIndex

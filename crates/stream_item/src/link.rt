@@ -20,7 +20,7 @@ pub enum Hit {
 }
 
 // The link at place p.
-pub fn link_at(s: &[u8], p: usize) -> Link
+fn link_at(s: &[u8], p: usize) -> Link
     ensures { λ r. ⌜ r ≡ linkAt (now (s .entry)) p ⌝ }
 {
     if p > s.len() {

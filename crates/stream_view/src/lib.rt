@@ -3,6 +3,7 @@ ghost use mathlib.Core.Path.{_≡_};
 ghost use Rattle.stream_view.specs.Views.{partOf, viewOf, saidView, viewBytes, kindAt, rawKindOf, saidRawKind};
 use answer::Refusal;
 use field::fixed;
+use field::fixed::Read16;
 use stream_header::LONGEST;
 use stream_item::Entry;
 use stream_item::ItemIndex;
@@ -50,7 +51,10 @@ fn kind_at(s: &[u8], place: usize, length: usize) -> RawKindAnswer
     if length < 2 {
         return RawKindAnswer::Refused(Refusal::Ended);
     }
-    RawKindAnswer::Answered(fixed::u16_or_zero(s, place))
+    match fixed::u16_at(s, place) {
+        Read16::Got(kind, _) => RawKindAnswer::Answered(kind),
+        Read16::Ended => RawKindAnswer::Refused(Refusal::Ended),
+    }
 }
 
 // Where the payload of an entry lies.

@@ -1,17 +1,13 @@
--- `stream_header::signed_at` meets its contract: where the number is there, it is the number. Assumes nothing.
+-- `stream_header::signed_at` meets its contract: the bits as two's complement. Assumes nothing.
 use borrow.Author.Needs.{needs}
-use mathlib.Core.Path.{_≡_, _∙_, ap}
+use native.Mathlib.Omega.{arith}
 use mir.Syntax.{w32}
-use mir.Val.{toZ, ofZ}
-use Rattle.field.specs.Fields.{twos}
-use Rattle.field.proofs.FieldLaws.{or-zero-there}
+use Rattle.stream_header.proofs.SignLaws.{bits-back}
 use Rattle.stream_header.proofs.signed_at.Statement.{statement}
 use Rattle.stream_header.proofs.signed_at.Tie as tie
 
 returns : tie.Need-returns
-returns c =
-    let e : toZ w32 (ofZ w32 (c .i32-or-zero .result)) ≡ c .i32-or-zero .result = search needs in
-    e ∙ c .i32-or-zero .ensures ∙ ap (twos 4) (or-zero-there 4 _ _ (search needs))
+returns c = rw (c .signed .ensures) (rw (bits-back w32 (c .before .word-at .result) (omega arith), c .before .word-at .ensures))
 
 pub signed-at-spec : {M : Type 1} → statement M
-signed-at-spec = tie.close (tie.spec (λ c κs. search needs) returns)
+signed-at-spec = tie.close (tie.spec (λ c κs. search needs) (λ c κs. search needs) returns)

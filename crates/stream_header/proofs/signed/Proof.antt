@@ -1,11 +1,11 @@
--- `field::fixed::signed32` meets its contract. Assumes nothing.
+-- `stream_header::signed` meets its contract. Assumes nothing.
 use borrow.Author.Needs.{needs}
 use native.Mathlib.Omega.{arith}
 use Prim.Native.Nat.{_-_}
 use mir.Syntax.{w32}
-use Rattle.field.proofs.SignLaws.{high-fits, high-is}
-use Rattle.field.proofs.fixed.signed32.Statement.{statement}
-use Rattle.field.proofs.fixed.signed32.Tie as tie
+use Rattle.stream_header.proofs.SignLaws.{high-fits, high-is}
+use Rattle.stream_header.proofs.signed.Statement.{statement}
+use Rattle.stream_header.proofs.signed.Tie as tie
 
 sub-result-2 : tie.Need-sub-result-2
 sub-result-2 c = high-fits w32 (4294967295 - c .before .args .x) (omega arith) (omega arith)
@@ -13,7 +13,7 @@ sub-result-2 c = high-fits w32 (4294967295 - c .before .args .x) (omega arith) (
 returns-2 : tie.Need-returns-2
 returns-2 c = high-is w32 (4294967295 - c .before .args .x) (omega arith) (omega arith) (c .before .args .x) (omega arith) (omega arith)
 
-pub signed32-spec : {M : Type 1} → statement M
-signed32-spec =
+pub signed-spec : {M : Type 1} → statement M
+signed-spec =
     tie.close (tie.spec
     (λ c. search needs) (λ c. search needs) (λ c. search needs) (λ c. search needs) sub-result-2 returns-2)
