@@ -2,16 +2,17 @@
 use Prim.Native.Nat.{ℕ}
 use mathlib.Core.Path.{_≡_, refl}
 use mathlib.Core.List.{List, [], _∷_, map}
-use Rattle.answer.specs.Answer.{Answer, answered, refused}
+use lib.IntN.{negsuc}
+use Rattle.answer.specs.Answer.{Answer, answered, refused, got}
 use Rattle.answer.specs.Tables.{find, among}
-use Rattle.field.specs.Fields.{littleAt, fixedAt}
+use Rattle.field.specs.Fields.{littleAt, fixedAt, signedAt}
 use Rattle.field.specs.Indices.{optionalOf, optionalAt}
 use Rattle.field.specs.Runs.{bytesAfter}
 use Rattle.field_text.specs.Texts.{Part, toZero, stringAt}
 use Rattle.field_number.specs.Numbers.{prefixes, numericAt, sizeAt, unsignedAt}
 use Rattle.word_attributes.specs.Pointers.{pointerKinds, pointerModes, kindOf, modeOf, toMemberOf}
-use Rattle.record_layout.specs.Fields.{Value, number, absent, many, readField, readFields}
-use Rattle.record_layout.specs.Layouts.{typeLeaves, idLeaves, readLeaf, leafOf, recordOf}
+use Rattle.record_layout.specs.Fields.{Value, number, integer, absent, many, readField, readFields}
+use Rattle.record_layout.specs.Layouts.{typeLeaves, memberLeaves, idLeaves, readLeaf, readRecord, leafOf, recordOf}
 
 -- data.rs, test kind_1609
 abbrev pub kind-1609 : List ℕ
@@ -90,3 +91,14 @@ pub reads-build-info : recordOf idLeaves (0x03 ∷ 0x16 ∷ 1 ∷ 0 ∷ 0x00 ∷
     ≡ answered (number 0x1603 ∷ number 1 ∷ many (record { place = 4; length = 4 }) ∷ [])
 unfolding recordOf leafOf readLeaf littleAt fixedAt find bytesAfter readField readFields idLeaves
 reads-build-info = refl
+
+-- a member's leaf is none of the type reader's
+pub refuses-member : recordOf typeLeaves (0x00 ∷ 0x14 ∷ []) ≡ refused 10 (0x1400 ∷ [])
+unfolding recordOf leafOf readLeaf littleAt fixedAt find typeLeaves
+refuses-member = refl
+
+-- an enumerator of -1, behind 0x8000, named "a"
+pub reads-enumerator : readRecord memberLeaves (0x02 ∷ 0x15 ∷ 0x03 ∷ 0x00 ∷ 0x00 ∷ 0x80 ∷ 0xff ∷ 0x61 ∷ 0x00 ∷ []) 0
+    ≡ got (number 0x1502 ∷ number 3 ∷ integer (negsuc 0) ∷ many (record { place = 7; length = 1 }) ∷ []) 9
+unfolding readRecord readLeaf littleAt fixedAt signedAt toZero stringAt find prefixes numericAt sizeAt readField readFields memberLeaves
+reads-enumerator = refl
