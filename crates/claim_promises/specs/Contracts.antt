@@ -33,7 +33,7 @@ use Rattle.field_text.specs.Texts.{paddingAfter, saidString, stringAt, stringOf
 use Rattle.field_text.specs.declared.OptString.{OptString}
 use Rattle.field_text.specs.declared.RawString.{RawString}
 use Rattle.field_text.specs.declared.ReadString.{ReadString}
-use Rattle.record_data.specs.Said.{saidTypeData, stringValue, typeName}
+use Rattle.record_data.specs.Said.{saidTypeData, stringValue, typeName, typeValues}
 use Rattle.record_data.specs.declared.TypeAnswer.{TypeAnswer}
 use Rattle.record_data.specs.declared.TypeData.{TypeData}
 use Rattle.record_id.specs.Said.{saidIdData}
@@ -197,7 +197,7 @@ field-text-after-padding s p r = saidAfter r ≡ paddingAfter s p
 
 -- record_data::TypeData::name
 abbrev pub record-data-type-data-name : (self : TypeData) → OptString → Type 0
-record-data-type-data-name self r = stringValue r ≡ typeName self
+record-data-type-data-name self r = stringValue r ≡ typeName (typeValues self)
 
 -- record_data::type_data
 abbrev pub record-data-type-data : (s : List ℕ) → TypeAnswer → Type 0

@@ -1,15 +1,16 @@
 -- What a type record says: its leaf, and the values of its layout in the layout's order. To be read against the table typeLeaves of
 -- record_layout/specs/Layouts.antt.
-use Prim.Native.Nat.{ℕ, _+_, _*_, _/_}
+use Prim.Native.Nat.{ℕ, zero, suc, _+_, _*_, _/_}
 use mathlib.Core.List.{List, [], _∷_}
 use mathlib.Core.Option.{Option, none, some}
 use Rattle.answer.specs.Answer.{Answer, answered, Read, got, ended}
 use Rattle.answer.specs.Refusals.{no}
+use Rattle.answer.specs.Tables.{Line, _is_, find}
 use Rattle.field_text.specs.Texts.{Part, part}
 use Rattle.field.specs.Indices.{typeOption}
 use Rattle.field.specs.declared.index.ReadOptType.{ReadOptType}
 use Rattle.field.specs.declared.index.ReadOptType.the-variants as rtype
-use Rattle.record_layout.specs.Fields.{Value, number, absent, many, orAbsent}
+use Rattle.record_layout.specs.Fields.{Value, number, absent, many, numberOr, orAbsent}
 use Rattle.record_data.specs.declared.ClassKind.{ClassKind}
 use Rattle.record_data.specs.declared.ClassKind.the-variants as kind
 use Rattle.field_text.specs.declared.OptString.{OptString}
@@ -107,18 +108,24 @@ abbrev pub saidTypeData : TypeAnswer → Answer (List (Value Part))
 saidTypeData (answer.Answered d) = answered (typeValues d)
 saidTypeData (answer.Refused e) = no e
 
--- the name of a type's data, as the crate gives it
-abbrev pub typeName : TypeData → Value Part
-typeName (type.Class r) = many (part (r .name))
-typeName (type.MemberFunction r) = absent
-typeName (type.Procedure r) = absent
-typeName (type.Pointer r) = absent
-typeName (type.Modifier r) = absent
-typeName (type.Enumeration r) = many (part (r .name))
-typeName (type.Array r) = absent
-typeName (type.Union r) = many (part (r .name))
-typeName (type.Bitfield r) = absent
-typeName (type.VirtualTableShape r) = absent
-typeName type.FieldList = absent
-typeName (type.ArgumentList r) = absent
-typeName type.MethodList = absent
+-- Names ------------------------------------------------------------------------------------------------------------------------
+
+-- the leaves whose name the crate's `name` gives, and at which place of its line in typeLeaves it stands, counted from 0; 0x1503 has one, and it
+-- does not give it
+unfoldable pub namePlaces : List (Line ℕ)
+namePlaces = (0x1504 is 6) ∷ (0x1505 is 6) ∷ (0x1519 is 6) ∷ (0x1506 is 4) ∷ (0x1507 is 4) ∷ (0x1609 is 7) ∷ []
+
+-- the value at place k of a layout
+unfoldable pub valueAt : ℕ → List (Value Part) → Value Part
+valueAt k [] = absent
+valueAt zero (v ∷ vs) = v
+valueAt (suc k) (v ∷ vs) = valueAt k vs
+
+abbrev pub nameBy : Option ℕ → List (Value Part) → Value Part
+nameBy none vs = absent
+nameBy (some k) vs = valueAt k vs
+
+-- the name of a type, by the leaf that its values begin with
+unfoldable pub typeName : List (Value Part) → Value Part
+typeName [] = absent
+typeName (leaf ∷ vs) = nameBy (find (numberOr leaf 0) namePlaces) vs

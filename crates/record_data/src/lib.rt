@@ -4,7 +4,7 @@ ghost use mathlib.Core.Path.{_≡_};
 ghost use Rattle.field_text.specs.Texts.{Part};
 ghost use Rattle.record_layout.specs.Fields.{readField, readFields};
 ghost use Rattle.record_layout.specs.Layouts.{class, S2, memberO, leafOf, recordOf, typeLeaves};
-ghost use Rattle.record_data.specs.Said.{classFrom, typeName, stringValue, saidOptString, saidContaining, saidClassFields, saidTypeData};
+ghost use Rattle.record_data.specs.Said.{classFrom, typeName, typeValues, stringValue, saidOptString, saidContaining, saidClassFields, saidTypeData};
 use answer::Refusal;
 use field::fixed;
 use field::fixed::Read8;
@@ -177,7 +177,7 @@ pub enum TypeAnswer {
 impl TypeData {
     // The name of a class, enumeration or union, as the crate gives it: that of an array is its record's own.
     pub fn name(self) -> OptString
-        ensures { λ r. ⌜ stringValue r ≡ typeName self ⌝ }
+        ensures { λ r. ⌜ stringValue r ≡ typeName (typeValues self) ⌝ }
     {
         match self {
             TypeData::Class(r) => {

@@ -27,7 +27,7 @@ use Rattle.stream_item.specs.declared.link.Hit.{Hit}
 use Rattle.stream_item.specs.declared.link.Hit.the-variants.{Landed, Missed}
 use Rattle.stream_finder.specs.Finder.{State, state, holding, begunBy, createBy, due, updateBy, after, Found, maxIndexBy, findBy}
 use Rattle.stream_finder.specs.Places.{Placed, Ready}
-use Rattle.stream_finder.specs.Demand.{Walked, none, more, gives, looked, Demand3By, Demand3, refusalIn, NotIndexedBy, NotIndexed}
+use Rattle.stream_finder.specs.Demand.{Walked, none, more, gives, looked, Demand3By, Demand3, numberGiven, NotIndexedBy, NotIndexed}
 use Rattle.stream_finder.specs.declared.ItemFinder.{ItemFinder}
 use Rattle.stream_finder.proofs.FinderLaws.{begun-full, begun-some, create-is, Open, update-keeps, update-full, update-stores, due-yes, due-mod}
 use Rattle.stream_finder.proofs.Accepted.{Accepted, accepted}
@@ -217,18 +217,18 @@ unfolding Demand3
 demand3 = demand3-by 8 3 (omega arith)
 
 -- ---- "not indexed" exactly if
-gives-number : (i : ItemIndex) (k from : ℕ) (x : Hit) → eqb (refusalIn (gives i k from x)) 9 ≡ false
+gives-number : (i : ItemIndex) (k from : ℕ) (x : Hit) → eqb (numberGiven (gives i k from x)) 9 ≡ false
 gives-number i k from (Landed p n) = refl
 gives-number i k from (Missed j) = refl
 
-looked-number : (x : Bool) (n m : ℕ) (i : ItemIndex) (k from : ℕ) (y : Hit) → eqb (refusalIn (pick x (refused 9 (n ∷ m ∷ [])) (gives i k from y))) 9 ≡ x
+looked-number : (x : Bool) (n m : ℕ) (i : ItemIndex) (k from : ℕ) (y : Hit) → eqb (numberGiven (pick x (refused 9 (n ∷ m ∷ [])) (gives i k from y))) 9 ≡ x
 looked-number true n m i k from y = refl
 looked-number false n m i k from y = gives-number i k from y
 
 pub not-indexed-by : (b shift : ℕ) → 0 < b → NotIndexedBy b shift
 unfolding NotIndexedBy Demand3By
 not-indexed-by b shift z tag s h t N τ d p =
-    ap (λ (a : Answer Found). eqb (refusalIn a) 9) (demand3-by b shift z tag s h t N τ d p)
+    ap (λ (a : Answer Found). eqb (numberGiven a) 9) (demand3-by b shift z tag s h t N τ d p)
     ∙ looked-number (leb (1 + N / b) (d / b)) (h .«minimum_index» + d) (maxIndexBy b (holding h shift (1 + N / b))) (indexIn tag (h .«minimum_index» + d)) (d % b) (d / b * b) (linkOf s (h .«header_size») d)
     ∙ ap (λ (x : ℕ). leb x (d / b)) (one-add (N / b))
 

@@ -65,17 +65,17 @@ Demand3By b shift =
 unfoldable pub Demand3 : Type 0
 Demand3 = Demand3By 8 3
 
--- the number of an answer, 0 where it is answered
-abbrev pub refusalIn : Answer Found → ℕ
-refusalIn (answered a) = 0
-refusalIn (refused n d) = n
+-- the number that a lookup gives back: 0 where it is answered, else the one it is refused by
+abbrev pub numberGiven : Answer Found → ℕ
+numberGiven (answered a) = 0
+numberGiven (refused n d) = n
 
 -- "not indexed" exactly if d / b exceeds N / b
 unfoldable pub NotIndexedBy : ℕ → ℕ → Type 0
 NotIndexedBy b shift =
     (tag : Stream) (s : List ℕ) (h : Header) (t : List ℕ) (N : ℕ) (τ : State) (d : ℕ)
     → Premises b shift tag s h t N τ d
-    → eqb (refusalIn (findBy b s τ (indexIn tag (h .«minimum_index» + d)))) 9 ≡ ltb (N / b) (d / b)
+    → eqb (numberGiven (findBy b s τ (indexIn tag (h .«minimum_index» + d)))) 9 ≡ ltb (N / b) (d / b)
 
 unfoldable pub NotIndexed : Type 0
 NotIndexed = NotIndexedBy 8 3
