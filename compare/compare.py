@@ -4,13 +4,14 @@
     compare.py ORACLE PORT [FILE...]      commands from the files, or from standard input
         ORACLE      the program built by build.sh
         PORT        the port's program `replay`, or the word 01: then the answers of layouts.py stand in for the port's
-                    type records and numbers, which holds the list of known differences to the crate without a port
+                    type records, numbers and words, which holds the list of known differences to the crate without a port
         --debug     PORT is oracle-debug: the known differences are those of the crate's two builds
         --examples N  how many examples to print for each group (3)
         --jobs N    how many batches at a time (the machine's processors)
 
 A difference is excused only where (a) a rule of REASONS names it, each rule being a line of docs/DIFFERENCES.md under the same name, and
-(b) the port's answer is the one that document 01 wants: for type records and numbers as layouts.py works it out, else as the rule tests it.
+(b) the port's answer is the one that document 01 or 02 wants: for type records, numbers and words as layouts.py works it out, else as the rule
+tests it.
 Prints the count of equal answers, of excused ones by rule, and every other difference by group. Exit status 0 where nothing is left over.
 """
 import os
@@ -31,7 +32,7 @@ BATCH_COMMANDS, BATCH_BYTES = 5000, 8_000_000
 REASONS = [
     "byte-number", "signed-size", "continuation", "array-name", "array-size", "array-after", "pointer-kind", "pointer-mode", "pointer-class",
     "base-offset", "nested-word", "vtable-shape", "member-outside", "leaf-in-list", "newer-leaf", "length-byte-leaf", "count-memory", "list-depth",
-    "short-kind", "primitive-from-4096", "index-used-up", "max-held",
+    "short-kind", "primitive-from-4096", "index-used-up", "max-held", "intrinsic-bit", "mocom-bits", "pointer-mocom",
 ]
 DEBUG_REASONS = ["debug-number", "debug-kind", "debug-overflow", "debug-stack"]
 
@@ -239,7 +240,10 @@ def differences(command, o, p, debug):
         for k in range(max(len(o), len(p))):
             a = o[k] if k < len(o) else "(no line)"
             b = p[k] if k < len(p) else "(no line)"
-            if a != b:
+            if a != b and kind == "word":
+                line, why = layouts.word_line(a)
+                found.append((sorted(why) if b == line else [], a, b))
+            elif a != b:
                 i = a.split()[0]
                 above = kind == "prim" and i.isdigit() and int(i) >= 4096 and " panic " in a and b == f"{i} 8 {i}"
                 found.append((["primitive-from-4096"] if above else [], a, b))
@@ -254,6 +258,8 @@ def stand_in(command, o):
         return [layouts.type_record(blob(words[-1]))[0]]
     if kind in ("unsigned", "signed"):
         return [layouts.number_line(blob(words[1]), kind == "signed")[0]]
+    if kind == "word":
+        return [layouts.word_line(line)[0] for line in o]
     if kind == "parse" and o != ["abort"]:
         stream, out, part = blob(words[1]), [], None
         for line in o:

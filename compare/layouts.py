@@ -1,4 +1,4 @@
-"""Type records by the layouts of document 01, as lines of PROTOCOL.md, with the known reasons why the crate may differ.
+"""Type records by the layouts of document 01 and attribute words by cvinfo.h, as lines of PROTOCOL.md, with the known reasons why the crate may differ.
 
 compare.py uses this to excuse a difference: the port's answer must be the line worked out here, and at least one reason must have been met on
 the way. A reason is the name of a line of docs/DIFFERENCES.md. This is a second reading of 01, written apart from the Rattle sources and from
@@ -49,6 +49,13 @@ LISTS = (0x1201, 0x1203, 0x1206)
 # Leaves that the crate takes and 01 does not, or takes elsewhere.
 NEWER = (0x1512, 0x151a, 0x1516)
 LENGTH_BYTE = (0x0403, 0x1003, 0x1004, 0x1005, 0x1006, 0x1007, 0x1405, 0x1406, 0x1407, 0x1408, 0x140b, 0x140d)
+
+# The answers of attribute words in which the port follows cvinfo.h (document 02, R-2): the reason, the field of the word's line, then the unit and
+# the count by which the crate's mask and shift take it out of the word, and those of cvinfo.h.
+WORDS = {
+    "props": (("intrinsic-bit", "intrinsic", (0x1000, 2), (0x2000, 2)), ("mocom-bits", "mocom", (0x4000, 2), (0x4000, 4))),
+    "ptr": (("pointer-mocom", "mocom", (0x40000, 2), (0x80000, 2)),),
+}
 
 NUMBERS = {0x8000: (1, True), 0x8001: (2, True), 0x8002: (2, False), 0x8003: (4, True), 0x8004: (4, False), 0x8009: (8, True), 0x800a: (8, False)}
 
@@ -260,3 +267,15 @@ def number_line(data, may_be_negative):
         return f"0 {value} next={r.at}", r.why
     except Refused as e:
         return refusal(e), r.why
+
+
+def word_line(line):
+    """(line, reasons) of an attribute word, from the crate's line: the answers of WORDS by cvinfo.h's bits, where the crate's are the bits that
+    WORDS has for it, and all else as it is."""
+    parts, why = line.split(" "), set()
+    for reason, field, crate, cvinfo in WORDS.get(parts[0], ()):
+        theirs, ours = (f"{field}={int(parts[1]) // unit % count}" for unit, count in (crate, cvinfo))
+        if theirs != ours and theirs in parts:
+            parts[parts.index(theirs)] = ours
+            why.add(reason)
+    return " ".join(parts), why

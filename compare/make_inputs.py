@@ -125,6 +125,12 @@ def words_part(scale):
     for at in range(0, 2 ** 20, 2 ** 14):
         yield f"word ptr {at} {at + 2 ** 14} 1"
     yield f"word ptr 0 {2 ** 32} 65521"
+    # Each one and each two of the upper bits, over three low parts: none, a 64-bit pointer with every flag, a bad kind with a bad mode.
+    for a in range(13, 32):
+        for b in range(13, a + 1):
+            for low in (0, 0x1f0c, 0x00ad):
+                w = 2 ** a | 2 ** b | low
+                yield f"word ptr {w} {w + 1} 1"
     for n in [0, 1, 4095, 4096, 65534, 65535, 65536, 2 ** 31, TOP]:
         yield f"opttype {n}"
         yield f"optid {n}"

@@ -11,11 +11,11 @@ Where an expected line comes from:
 - A command that the crate can be asked: the crate's own line, as ORACLE prints it. The crate does not report links passed, so ` links=K` and the
   links of a 1 are worked out by lengths alone, as compare.py does. A list that the crate refuses whole ends with that refusal (PROTOCOL.md, "Lists"),
   and an array shows its size and its name, where the crate shows dimensions: both lines are layouts.py's, held to the crate's answer by same_record.
-- A known difference: document 01's line, worked out by layouts.py or written out below, with the name of its line in docs/DIFFERENCES.md.
+- A known difference: document 01's or 02's line, worked out by layouts.py or written out below, with the name of its line in docs/DIFFERENCES.md.
 - A command that the crate cannot be asked (next, create, update, findin, maxindex, view, marker, element, idelement): 01's rule, written again
   below beside 01's sentence, in Python, apart from the Rattle sources.
 - A command whose BYTES are none: `? bytes`, by PROTOCOL.md's sentence, written again below.
-- 01's examples: 01's lines, written out below. They must be what the rules above give too.
+- 01's examples and 02's words: their lines, written out below. They must be what the rules above give too.
 
 No expected line is taken from REPLAY. It is run at the end, and must answer every line. The exit status is 1, and nothing is written, if an answer
 of the crate is not explained, if an example fails, if REPLAY answers otherwise or has no call of some public function, or if the list lacks one of:
@@ -380,6 +380,10 @@ def by_crate(words, o, why):
         return [name]
     if kind in ("unsigned", "signed"):
         return [number_line(o[0], blob(words[1]), kind == "signed", why)]
+    if kind == "word":
+        for line in o:
+            why.update(layouts.word_line(line)[1])
+        return [layouts.word_line(line)[0] for line in o]
     if kind in ("walk", "parse", "parseids"):
         return walk_lines(words, o, why)
     if kind in ("find", "findids"):
@@ -473,6 +477,15 @@ EXAMPLES = [
     ("type 011200000040", ["1"]),
     (f"type {CRATE_1609.hex()}", ["0 1609 kind=Struct count=2 props=512 fields=4118 derived=- shape=- size=6 name=22+6 unique=29+12"]),
 ]
+
+# 02's R-2: "two bits of hfa at 11 and 12, intrinsic at 13 and mocom at 14 and 15; in the pointer word ismocom is bit 19"; its size stays bits 13 to 18.
+CVINFO = [(f"word props {w} {w + 1} 1", [f"props {w} 00000000000 hfa={hfa} intrinsic={intrinsic} mocom={mocom}"]) for w, hfa, intrinsic, mocom in (
+    (0x0800, 1, 0, 0), (0x1000, 2, 0, 0), (0x1800, 3, 0, 0), (0x2000, 0, 1, 0), (0x3000, 2, 1, 0), (0x4000, 0, 0, 1), (0x6000, 0, 1, 1),
+    (0x8000, 0, 0, 2), (0xa000, 0, 1, 2), (0xc000, 0, 0, 3), (0xf800, 3, 1, 3))]
+CVINFO += [(f"word ptr {w} {w + 1} 1", [f"ptr {w} kind=10 mode=0 {POINTER} size={size} mocom={mocom}"]) for w, size, mocom in (
+    (0x2000a, 16, 0), (0x4000a, 32, 0), (0x7e00a, 63, 0), (0x8000a, 4, 1), (0xc000a, 32, 1), (0x10000a, 4, 0))]
+CVINFO += [(f"word ptr {w} {w + 1} 1", [f"ptr {w} kind=0 mode=0 {POINTER} size={size} mocom={mocom}"]) for w, size, mocom in (
+    (0x40000, 32, 0), (0x80000, 0, 1), (0xc0000, 32, 1))]
 
 
 def prefixes():
@@ -794,6 +807,7 @@ def main():
     make_inputs.rng.seed(seed)
     rng = make_inputs.rng
     commands = [c for c, _ in EXAMPLES] + NO_COMMANDS + NO_BYTES + [MOST] + list(small_commands()) + list(record_commands(rng)) + list(word_commands(rng)) + list(stream_commands(rng))
+    commands += [c for c, _ in CVINFO]
     commands = list(dict.fromkeys(commands))
     problems = compare.listed()
     crate = [c for c in commands if c.split()[0] not in PORT_ONLY and (c in NO_COMMANDS or not no_bytes(c.split()))]
@@ -821,7 +835,7 @@ def main():
                 problems.append(f"{c[:80]}: {name} is no line of docs/DIFFERENCES.md")
         vectors.append((c, lines))
     answer = dict(vectors)
-    problems += [f"01's example {c[:80]}: {answer.get(c)}" for c, said in EXAMPLES if answer.get(c) != said]
+    problems += [f"an example {c[:80]}: {answer.get(c)}" for c, said in EXAMPLES + CVINFO if answer.get(c) != said]
     problems += [f"lacks {what}" for what in lacking(vectors)]
     got = compare.answers(replay, [c for c, _ in vectors])
     problems += [f"{c[:200]}\n  expected {said[:3]}\n  replay   {had[:3]}" for (c, said), had in zip(vectors, got) if said != had]

@@ -8,7 +8,7 @@ use Rattle.claim_model.proofs.RunStays.{run-same}
 use Rattle.claim_model.proofs.CourseEqual.{course-equal}
 use Rattle.claim_model.proofs.ItemsEqual.{start-same, creation-same, len-same, is-empty-same, item-len-is, item-is-empty-is, raw-kind-equal}
 use Rattle.claim_model.proofs.PrimitiveEqual.{primitive-same, primitive-equal}
-use Rattle.claim_model.proofs.WordsEqual.{properties, hfa-is, mocom-is, access-is, method-properties-is, methods, calling-convention-is, functions, pointers, kind-is, mode-is, to-member-is, reference-is, size-is}
+use Rattle.claim_model.proofs.WordsEqual.{properties, intrinsic-is, hfa-is, mocom-is, access-is, method-properties-is, methods, calling-convention-is, functions, pointers, is-mocom-is, kind-is, mode-is, to-member-is, reference-is, size-is}
 use Rattle.claim_model.proofs.HelpersEqual.{optional-type, optional-id, string, padding, cross-module}
 use Rattle.claim_model.proofs.IdEqual.{id-same, id-answers}
 use Rattle.claim_model.proofs.ListEqual.{build-elements, string-elements}
@@ -38,14 +38,16 @@ demand2 = record {
   optional-ids = optional-id;
   cross-modules = cross-module;
   type-flags = properties;
+  intrinsic-excepted = intrinsic-is;
   hfas = hfa-is;
-  mocoms = mocom-is;
+  mocom-excepted = mocom-is;
   accesses = access-is;
   method-fields = method-properties-is;
   method-kinds = methods;
   conventions = calling-convention-is;
   function-flags = functions;
   pointer-flags = pointers;
+  is-mocom-excepted = is-mocom-is;
   pointer-kinds = kind-is;
   pointer-modes = mode-is;
   members = to-member-is;

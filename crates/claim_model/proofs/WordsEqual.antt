@@ -1,5 +1,5 @@
 -- Attribute words: every method of the four words, for every word. `self.0 & mask != 0` is a bit and `(self.0 & mask) >> k` a field of bits, each
--- law once over the mask. Assumes nothing.
+-- law once over the mask. Where R-2 excepts an answer, the crate's bits are shown, and where they part from the port's. Assumes nothing.
 use Prim.Native.Nat.{ℕ, zero, suc, _+_, _-_, _*_, _/_, _%_, _^_, _≤_, _<_}
 use mathlib.Core.Path.{_≡_, refl, sym, ap, _∙_}
 use mathlib.Core.List.{[], _∷_, map}
@@ -15,7 +15,7 @@ use borrow.Author.Tests.{lt-ltb, ne-eqb}
 use Rattle.answer.specs.Answer.{Answer, answered, pick, then}
 use Rattle.answer.specs.Tables.{find, among}
 use Rattle.word_attributes.specs.Bits.{bit, bits}
-use Rattle.word_attributes.specs.Words.{mocomOf, methodProperty, introducing}
+use Rattle.word_attributes.specs.Words.{methodProperty, introducing}
 use Rattle.word_attributes.specs.Pointers.{pointerKinds, pointerModes, good, kindOf, modeOf, toMember, isReference, toMemberOf, referenceOf, kindSize, sizeOf}
 use Rattle.word_attributes.specs.declared.PointerKind.{PointerKind}
 use Rattle.word_attributes.specs.declared.PointerKind.the-variants.{Near16, Far16, Huge16, BaseSeg, BaseVal, BaseSegVal, BaseAddr, BaseSegAddr, BaseType, BaseSelf, Near32, Far32, Ptr64}
@@ -23,7 +23,7 @@ use Rattle.word_attributes.specs.declared.PointerMode.{PointerMode}
 use Rattle.word_attributes.specs.declared.PointerMode.the-variants.{Pointer, LValueReference, Member, MemberFunction, RValueReference}
 use Rattle.claim_model.specs.Rust.{Rust, gives, errs, panics, wraps, _>>=_, if, not, or, match, as-u8}
 use Rattle.claim_model.specs.TpiWords.{set, packed, constructors, overloaded-operators, is-nested-type, contains-nested-types, overloaded-assignment, overloaded-casting, forward-reference, scoped-definition, has-unique-name, sealed, intrinsic-type, hfa, mocom, access, method-properties, is-static, is-virtual, is-pure-virtual, is-intro-virtual, calling-convention, cxx-return-udt, is-constructor, is-constructor-with-virtual-bases, kind-arms, pointer-kind, mode-arms, pointer-mode, of-member, pointer-to-member, is-flat-32, is-volatile, is-const, is-unaligned, is-restrict, is-mocom, of-reference, is-reference, size-by-kind, pointer-size}
-use Rattle.claim_model.specs.Equal.{Replaced}
+use Rattle.claim_model.specs.Equal.{Replaced, Excepted}
 use Rattle.claim_model.proofs.Agree.{agree}
 
 -- ---- a flag
@@ -62,20 +62,48 @@ field-of j k w h = ap (λ (n : ℕ). as-u8 (n / 2 ^ k)) (and-high w j k) ∙ ap 
 pub low-field : (j w : ℕ) → 2 ^ j ≤ 256 → as-u8 (bitAnd w (2 ^ j - 1)) ≡ w % 2 ^ j
 low-field j w h = ap as-u8 (and-mask w j) ∙ small w j h
 
+-- ---- an excepted answer
+excepted : {A : Type 0} (crate instead port : ℕ → A) (smallest : ℕ) → ((w : ℕ) → crate w ≡ instead w) → ((w : ℕ) → w < smallest → instead w ≡ port w)
+    → (instead smallest ≡ port smallest → ⊥) → Excepted crate instead port smallest
+excepted crate instead port smallest c b d = record {
+  gives-instead = c;
+  alike-below = λ w h. c w ∙ b w h;
+  differs = λ e. d (sym (c smallest) ∙ e);
+}
+
+true-or-false : true ≡ false → ⊥
+true-or-false e = let z : _≡_ {A = ℕ} 1 0 = ap number e in omega arith
+  where
+    number : Bool → ℕ
+    number true = 1
+    number false = 0
+
 -- ---- TypeProperties
 pub properties : (w : ℕ)
-    → map (λ (f : ℕ → Bool). f w) (packed ∷ constructors ∷ overloaded-operators ∷ is-nested-type ∷ contains-nested-types ∷ overloaded-assignment ∷ overloaded-casting ∷ forward-reference ∷ scoped-definition ∷ has-unique-name ∷ sealed ∷ intrinsic-type ∷ [])
-    ≡ map (λ k. bit k w) (0 ∷ 1 ∷ 2 ∷ 3 ∷ 4 ∷ 5 ∷ 6 ∷ 7 ∷ 8 ∷ 9 ∷ 10 ∷ 12 ∷ [])
-properties w = cc (flag 0 w, flag 1 w, flag 2 w, flag 3 w, flag 4 w, flag 5 w, flag 6 w, flag 7 w, flag 8 w, flag 9 w, flag 10 w, flag 12 w)
+    → map (λ (f : ℕ → Bool). f w) (packed ∷ constructors ∷ overloaded-operators ∷ is-nested-type ∷ contains-nested-types ∷ overloaded-assignment ∷ overloaded-casting ∷ forward-reference ∷ scoped-definition ∷ has-unique-name ∷ sealed ∷ [])
+    ≡ map (λ k. bit k w) (0 ∷ 1 ∷ 2 ∷ 3 ∷ 4 ∷ 5 ∷ 6 ∷ 7 ∷ 8 ∷ 9 ∷ 10 ∷ [])
+properties w = cc (flag 0 w, flag 1 w, flag 2 w, flag 3 w, flag 4 w, flag 5 w, flag 6 w, flag 7 w, flag 8 w, flag 9 w, flag 10 w)
+
+pub intrinsic-is : Excepted intrinsic-type (bit 12) (bit 13) 0x1000
+intrinsic-is = excepted intrinsic-type (bit 12) (bit 13) 0x1000 (flag 12) below true-or-false
+  where
+    below : (w : ℕ) → w < 0x1000 → bit 12 w ≡ bit 13 w
+    below w h =
+        let e : w / 2 ^ 12 % 2 ≡ w / 2 ^ 13 % 2 = omega arith in
+        ap (λ (n : ℕ). eqb n 1) e
 
 pub hfa-is : (w : ℕ) → hfa w ≡ bits 11 12 w
 hfa-is w = field-of 2 11 w (omega arith)
 
--- mask 0x6000 and shift 14, as the crate has them
-pub mocom-is : (w : ℕ) → mocom w ≡ mocomOf w
-mocom-is w =
-    let b : bits 13 14 w * 2 ^ 13 / 2 ^ 14 < 256 = omega arith in
-    ap (λ (n : ℕ). as-u8 (n / 2 ^ 14)) (and-high w 2 13) ∙ mod-eq-of-lt b
+-- the mask 0x6000 leaves bits 13 and 14 where they are, and the shift by 14 drops the lower one
+pub mocom-is : Excepted mocom (bits 14 14) (bits 14 15) 0x8000
+mocom-is = excepted mocom (bits 14 14) (bits 14 15) 0x8000 left (λ w h. omega arith) (λ e. omega arith)
+  where
+    left : (w : ℕ) → mocom w ≡ bits 14 14 w
+    left w =
+        let b : bits 13 14 w * 2 ^ 13 / 2 ^ 14 < 256 = omega arith in
+        let e : bits 13 14 w * 2 ^ 13 / 2 ^ 14 ≡ bits 14 14 w = omega arith in
+        ap (λ (n : ℕ). as-u8 (n / 2 ^ 14)) (and-high w 2 13) ∙ mod-eq-of-lt b ∙ e
 
 -- ---- FieldAttributes
 pub access-is : (w : ℕ) → access w ≡ bits 0 1 w
@@ -105,8 +133,16 @@ functions w = cc (above 8 w, above 9 w, above 10 w)
 
 -- ---- PointerAttributes
 pub pointers : (w : ℕ)
-    → map (λ (f : ℕ → Bool). f w) (is-flat-32 ∷ is-volatile ∷ is-const ∷ is-unaligned ∷ is-restrict ∷ is-mocom ∷ []) ≡ map (λ k. bit k w) (8 ∷ 9 ∷ 10 ∷ 11 ∷ 12 ∷ 18 ∷ [])
-pointers w = cc (flag 8 w, flag 9 w, flag 10 w, flag 11 w, flag 12 w, flag 18 w)
+    → map (λ (f : ℕ → Bool). f w) (is-flat-32 ∷ is-volatile ∷ is-const ∷ is-unaligned ∷ is-restrict ∷ []) ≡ map (λ k. bit k w) (8 ∷ 9 ∷ 10 ∷ 11 ∷ 12 ∷ [])
+pointers w = cc (flag 8 w, flag 9 w, flag 10 w, flag 11 w, flag 12 w)
+
+pub is-mocom-is : Excepted is-mocom (bit 18) (bit 19) 0x40000
+is-mocom-is = excepted is-mocom (bit 18) (bit 19) 0x40000 (flag 18) below true-or-false
+  where
+    below : (w : ℕ) → w < 0x40000 → bit 18 w ≡ bit 19 w
+    below w h =
+        let e : w / 2 ^ 18 % 2 ≡ w / 2 ^ 19 % 2 = omega arith in
+        ap (λ (n : ℕ). eqb n 1) e
 
 -- what the port's lists have, in the crate's words
 abbrev found : {A : Type 0} → Option A → Rust A

@@ -17,7 +17,7 @@ use Rattle.field.specs.Indices.{noType, noId, optionalAt}
 use Rattle.field_text.specs.Texts.{stringOf, paddingAfter}
 use Rattle.word_primitive.specs.Primitive.{primitiveOf}
 use Rattle.word_attributes.specs.Bits.{bit, bits}
-use Rattle.word_attributes.specs.Words.{mocomOf, methodProperty, introducing}
+use Rattle.word_attributes.specs.Words.{methodProperty, introducing}
 use Rattle.word_attributes.specs.Pointers.{kindOf, modeOf, toMemberOf, referenceOf, sizeOf}
 use Rattle.stream_header.specs.Header.{longest, headerOf}
 use Rattle.stream_item.specs.Items.{numberIn, indexOf, lengthOf}
@@ -45,7 +45,7 @@ use Rattle.claim_model.specs.TpiPrimitive.{type-data-for-primitive}
 use Rattle.claim_model.specs.TpiWords.{packed, constructors, overloaded-operators, is-nested-type, contains-nested-types, overloaded-assignment, overloaded-casting, forward-reference, scoped-definition, has-unique-name, sealed, intrinsic-type, hfa, mocom, access, method-properties, is-static, is-virtual, is-pure-virtual, is-intro-virtual, calling-convention, cxx-return-udt, is-constructor, is-constructor-with-virtual-bases, is-flat-32, is-volatile, is-const, is-unaligned, is-restrict, is-mocom, pointer-kind, pointer-mode, pointer-to-member, is-reference, pointer-size}
 use Rattle.claim_model.specs.TpiHelpers.{parse-optional-type-index, parse-optional-id-index, parse-string, parse-padding, is-cross-module}
 use Rattle.claim_model.specs.TpiId.{parse-id}
-use Rattle.claim_model.specs.Equal.{Equal, Same, Replaced, Stepwise, shownBy}
+use Rattle.claim_model.specs.Equal.{Equal, Same, Replaced, Excepted, Stepwise, shownBy}
 use Rattle.claim_model.specs.Shown.{information, iterShown, nextShown, finderShown, entryShown, unlinked, Roomy, CanStand, readShown, textShown, primitiveShown, idShown, idAnswerShown, Within}
 use Rattle.claim_model.specs.EntryShown.{listed, asElement, asId, asPrimitive}
 use Rattle.claim_model.specs.Run.{Lent, RunsEqual, RunsSame}
@@ -90,12 +90,16 @@ pub record Demand2 : Type 0 where
   pub optional-types : (s : List ℕ) (p : ℕ) → Same (parse-optional-type-index (at s p)) (shownBy (readShown s) (optionalAt noType s p))
   pub optional-ids : (s : List ℕ) (p : ℕ) → Same (parse-optional-id-index (at s p)) (shownBy (readShown s) (optionalAt noId s p))
   pub cross-modules : (i : ℕ) → i < 4294967296 → is-cross-module i ≡ leb 0x80000000 i
-  -- "Attribute words": every method of the four words, for every word; "12 replaces `unreachable!()`"
+  -- "Attribute words": every method of the four words, for every word; "12 replaces `unreachable!()`". Document 02's R-2 excepts three answers, in
+  -- which the port follows cvinfo.h and the crate's masks do not: `intrinsic_type` is bit 13, where the crate gives bit 12, the high one of hfa;
+  -- `mocom` is bits 14 and 15, where the crate gives bit 14 alone; a pointer's `is_mocom` is bit 19, where the crate gives bit 18, the high one of
+  -- its size
   pub type-flags : Flags
-      (packed ∷ constructors ∷ overloaded-operators ∷ is-nested-type ∷ contains-nested-types ∷ overloaded-assignment ∷ overloaded-casting ∷ forward-reference ∷ scoped-definition ∷ has-unique-name ∷ sealed ∷ intrinsic-type ∷ [])
-      (0 ∷ 1 ∷ 2 ∷ 3 ∷ 4 ∷ 5 ∷ 6 ∷ 7 ∷ 8 ∷ 9 ∷ 10 ∷ 12 ∷ [])
+      (packed ∷ constructors ∷ overloaded-operators ∷ is-nested-type ∷ contains-nested-types ∷ overloaded-assignment ∷ overloaded-casting ∷ forward-reference ∷ scoped-definition ∷ has-unique-name ∷ sealed ∷ [])
+      (0 ∷ 1 ∷ 2 ∷ 3 ∷ 4 ∷ 5 ∷ 6 ∷ 7 ∷ 8 ∷ 9 ∷ 10 ∷ [])
+  pub intrinsic-excepted : Excepted intrinsic-type (bit 12) (bit 13) 0x1000
   pub hfas : (w : ℕ) → hfa w ≡ bits 11 12 w
-  pub mocoms : (w : ℕ) → mocom w ≡ mocomOf w
+  pub mocom-excepted : Excepted mocom (bits 14 14) (bits 14 15) 0x8000
   pub accesses : (w : ℕ) → access w ≡ bits 0 1 w
   pub method-fields : (w : ℕ) → method-properties w ≡ methodProperty w
   pub method-kinds : (w : ℕ)
@@ -103,7 +107,8 @@ pub record Demand2 : Type 0 where
       ≡ eqb (methodProperty w) 2 ∷ eqb (methodProperty w) 1 ∷ eqb (methodProperty w) 5 ∷ introducing w ∷ []
   pub conventions : (w : ℕ) → calling-convention w ≡ bits 0 7 w
   pub function-flags : Flags (cxx-return-udt ∷ is-constructor ∷ is-constructor-with-virtual-bases ∷ []) (8 ∷ 9 ∷ 10 ∷ [])
-  pub pointer-flags : Flags (is-flat-32 ∷ is-volatile ∷ is-const ∷ is-unaligned ∷ is-restrict ∷ is-mocom ∷ []) (8 ∷ 9 ∷ 10 ∷ 11 ∷ 12 ∷ 18 ∷ [])
+  pub pointer-flags : Flags (is-flat-32 ∷ is-volatile ∷ is-const ∷ is-unaligned ∷ is-restrict ∷ []) (8 ∷ 9 ∷ 10 ∷ 11 ∷ 12 ∷ [])
+  pub is-mocom-excepted : Excepted is-mocom (bit 18) (bit 19) 0x40000
   pub pointer-kinds : (w : ℕ) → Replaced (pointer-kind w) (kindOf w)
   pub pointer-modes : (w : ℕ) → Replaced (pointer-mode w) (modeOf w)
   pub members : (w : ℕ) → Replaced (pointer-to-member w) (toMemberOf w)

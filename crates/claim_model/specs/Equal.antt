@@ -1,5 +1,5 @@
 -- Demand 2's word "equal": the crate's outcome and the port's answer to the same question. What panics or wraps is outside the domain.
-use Prim.Native.Nat.{ℕ}
+use Prim.Native.Nat.{ℕ, _<_}
 use mathlib.Core.Path.{_≡_}
 use mathlib.Core.List.{List, [], _∷_}
 use Rattle.answer.specs.Answer.{Answer, answered, refused}
@@ -59,6 +59,13 @@ Replaced (gives v) a = a ≡ answered v
 Replaced (errs e) a = ⊥
 Replaced panics a = a ≡ refused 12 []
 Replaced wraps a = ⊥
+
+-- a method of a word that a later request excepts: what the crate gives instead of the port's answer, for every word; the two are one below the
+-- smallest word that shows it, and not at that word
+pub record Excepted {A : Type 0} (crate instead port : ℕ → A) (smallest : ℕ) : Type 0 where
+  pub gives-instead : (w : ℕ) → crate w ≡ instead w
+  pub alike-below : (w : ℕ) → w < smallest → crate w ≡ port w
+  pub differs : crate smallest ≡ port smallest → ⊥
 
 -- a step of an iterator, the crate's r and the port's a: the same, or the crate's index wraps and the port gives 7
 pub data Stepwise {A B : Type 0} (f : B → A) (r : Rust A) (a : Answer B) : Type 0 where

@@ -90,7 +90,7 @@ use Rattle.stream_view.specs.declared.ViewAnswer.{ViewAnswer}
 use Rattle.word_attributes.specs.Bits.{bit, bits}
 use Rattle.word_attributes.specs.Pointers.{kindOf, modeOf, referenceOf, sizeOf, toMemberOf}
 use Rattle.word_attributes.specs.Said.{saidFlag, saidKind, saidMode, saidSize as saidSize-of-word-attributes}
-use Rattle.word_attributes.specs.Words.{introducing, methodProperty, mocomOf}
+use Rattle.word_attributes.specs.Words.{introducing, methodProperty}
 use Rattle.word_attributes.specs.declared.FieldAttributes.{FieldAttributes}
 use Rattle.word_attributes.specs.declared.FlagAnswer.{FlagAnswer}
 use Rattle.word_attributes.specs.declared.FunctionAttributes.{FunctionAttributes}
@@ -413,7 +413,7 @@ word-attributes-type-properties-sealed self r = r ≡ bit 10 (self .0)
 
 -- word_attributes::TypeProperties::intrinsic_type
 abbrev pub word-attributes-type-properties-intrinsic-type : (self : TypeProperties) → Bool → Type 0
-word-attributes-type-properties-intrinsic-type self r = r ≡ bit 12 (self .0)
+word-attributes-type-properties-intrinsic-type self r = r ≡ bit 13 (self .0)
 
 -- word_attributes::TypeProperties::hfa
 abbrev pub word-attributes-type-properties-hfa : (self : TypeProperties) → ℕ → Type 0
@@ -421,7 +421,7 @@ word-attributes-type-properties-hfa self r = r ≡ bits 11 12 (self .0)
 
 -- word_attributes::TypeProperties::mocom
 abbrev pub word-attributes-type-properties-mocom : (self : TypeProperties) → ℕ → Type 0
-word-attributes-type-properties-mocom self r = r ≡ mocomOf (self .0)
+word-attributes-type-properties-mocom self r = r ≡ bits 14 15 (self .0)
 
 -- word_attributes::FieldAttributes::access
 abbrev pub word-attributes-field-attributes-access : (self : FieldAttributes) → ℕ → Type 0
@@ -517,7 +517,7 @@ word-attributes-pointer-attributes-size self r = saidSize-of-word-attributes r �
 
 -- word_attributes::PointerAttributes::is_mocom
 abbrev pub word-attributes-pointer-attributes-is-mocom : (self : PointerAttributes) → Bool → Type 0
-word-attributes-pointer-attributes-is-mocom self r = r ≡ bit 18 (self .0)
+word-attributes-pointer-attributes-is-mocom self r = r ≡ bit 19 (self .0)
 
 -- word_primitive::primitive
 abbrev pub word-primitive-primitive : (index : TypeIndex) → PrimitiveAnswer → Type 0

@@ -1,9 +1,11 @@
 // The attribute words of document 01 (the crate's data.rs): each flag is a named constant of its word with the crate's mask, and a method says
-// whether it is set. specs/Bits.antt has what a bit and a field of bits are, specs/Pointers.antt what a pointer word answers.
+// whether it is set. Three answers follow cvinfo.h where the crate does not (document 02, R-2; docs/DIFFERENCES.md): `intrinsic_type`, `mocom` and a
+// pointer's `is_mocom`.
+// specs/Bits.antt has what a bit and a field of bits are, specs/Pointers.antt what a pointer word answers.
 ghost use mathlib.Core.Path.{_≡_};
 ghost use lib.Dec.{eqb};
 ghost use Rattle.word_attributes.specs.Bits.{bit, bits};
-ghost use Rattle.word_attributes.specs.Words.{mocomOf, methodProperty, introducing};
+ghost use Rattle.word_attributes.specs.Words.{methodProperty, introducing};
 ghost use Rattle.word_attributes.specs.Pointers.{kindOf, modeOf, toMember, isReference, toMemberOf, referenceOf, kindSize, sizeOf};
 ghost use Rattle.word_attributes.specs.Said.{saidKind, saidMode, saidFlag, saidSize};
 use answer::Refusal;
@@ -34,18 +36,18 @@ impl TypeProperties {
 
     pub const SEALED: u16 = 0x0400;
 
-    // Bit 12: kept from the crate; cvinfo.h differs; docs/DIFFERENCES.md.
-    pub const INTRINSIC_TYPE: u16 = 0x1000;
+    // cvinfo.h has bit 13; data.rs has 0x1000, the high bit of `hfa`.
+    pub const INTRINSIC_TYPE: u16 = 0x2000;
 
     // data.rs has mask 0x1800, shift 11.
     pub const HFA_UNIT: u16 = 0x0800;
 
     pub const HFA_COUNT: u16 = 4;
 
-    // data.rs has mask 0x6000, shift 14, so that bit 14 alone is left: kept from the crate; cvinfo.h differs; docs/DIFFERENCES.md.
+    // cvinfo.h has bits 14 and 15, mask 0xc000, shift 14; data.rs has mask 0x6000, so that bit 14 alone is left.
     pub const MOCOM_UNIT: u16 = 0x4000;
 
-    pub const MOCOM_COUNT: u16 = 2;
+    pub const MOCOM_COUNT: u16 = 4;
 
     // Is the type packed, via `#pragma pack` or similar?
     pub fn packed(self) -> bool
@@ -124,9 +126,9 @@ impl TypeProperties {
         self.0 / Self::SEALED % 2 == 1
     }
 
-    // Is the class an intrinsic type, by the crate's mask?
+    // Is the class an intrinsic type?
     pub fn intrinsic_type(self) -> bool
-        ensures { λ r. ⌜ r ≡ bit 12 (self .0) ⌝ }
+        ensures { λ r. ⌜ r ≡ bit 13 (self .0) ⌝ }
     {
         self.0 / Self::INTRINSIC_TYPE % 2 == 1
     }
@@ -138,9 +140,9 @@ impl TypeProperties {
         (self.0 / Self::HFA_UNIT % Self::HFA_COUNT) as u8
     }
 
-    // The kind of MoCOM type, by the crate's mask and shift.
+    // The kind of MoCOM type.
     pub fn mocom(self) -> u8
-        ensures { λ r. ⌜ r ≡ mocomOf (self .0) ⌝ }
+        ensures { λ r. ⌜ r ≡ bits 14 15 (self .0) ⌝ }
     {
         (self.0 / Self::MOCOM_UNIT % Self::MOCOM_COUNT) as u8
     }
@@ -437,8 +439,8 @@ impl PointerAttributes {
 
     pub const IS_RESTRICT: u32 = 0x1000;
 
-    // Bit 18: kept from the crate; cvinfo.h differs; docs/DIFFERENCES.md.
-    pub const IS_MOCOM: u32 = 0x40000;
+    // cvinfo.h has bit 19; data.rs has 0x40000, the high bit of the size.
+    pub const IS_MOCOM: u32 = 0x80000;
 
     // data.rs has mask 0x1f.
     pub const KIND_UNIT: u32 = 0x0001;
@@ -562,9 +564,9 @@ impl PointerAttributes {
         }
     }
 
-    // Is this a MoCOM pointer (`^` or `%`), by the crate's mask?
+    // Is this a MoCOM pointer (`^` or `%`)?
     pub fn is_mocom(self) -> bool
-        ensures { λ r. ⌜ r ≡ bit 18 (self .0) ⌝ }
+        ensures { λ r. ⌜ r ≡ bit 19 (self .0) ⌝ }
     {
         self.0 / Self::IS_MOCOM % 2 == 1
     }
