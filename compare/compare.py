@@ -32,7 +32,7 @@ BATCH_COMMANDS, BATCH_BYTES = 5000, 8_000_000
 REASONS = [
     "byte-number", "signed-size", "continuation", "array-name", "array-size", "array-after", "pointer-kind", "pointer-mode", "pointer-class",
     "base-offset", "nested-word", "vtable-shape", "member-outside", "leaf-in-list", "newer-leaf", "length-byte-leaf", "count-memory", "list-depth",
-    "short-kind", "primitive-from-4096", "index-used-up", "max-held", "intrinsic-bit", "mocom-bits", "pointer-mocom",
+    "short-kind", "primitive-from-4096", "index-used-up", "max-held", "structure-kind", "intrinsic-bit", "mocom-bits", "pointer-mocom",
 ]
 DEBUG_REASONS = ["debug-number", "debug-kind", "debug-overflow", "debug-stack"]
 
@@ -87,11 +87,18 @@ def same_record(o, p):
     return bool(a and b and a.groups() == b.groups())
 
 
+def record_reasons(o, line, why):
+    """Why the crate's line of a type record may be other than 01's: the reasons that layouts.py met on the way; or, where the two differ in
+    nothing but the kind of a 0x1609 record, that alone."""
+    kind, crates = "0 1609 kind=Struct19 ", "0 1609 kind=Struct "
+    return ["structure-kind"] if line.startswith(kind) and o == crates + line[len(kind):] else sorted(why)
+
+
 def record(o, p, data, found):
     """Compare the lines of a type record with these bytes."""
     if not same_record(o, p):
         line, why = layouts.type_record(data)
-        found.append((sorted(why) if p == line else [], o, p))
+        found.append((record_reasons(o, line, why) if p == line else [], o, p))
 
 
 def debug_reason(o, p):

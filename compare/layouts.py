@@ -42,7 +42,7 @@ MEMBERS = {
     0x1511: "a:A t:T voff:M name:S",
 }
 METHOD = "a:A _pad:u16 t:T voff:M"
-KINDS = {0x1504: "Class", 0x1505: "Struct", 0x1609: "Struct", 0x1519: "Interface"}
+KINDS = {0x1504: "Class", 0x1505: "Struct", 0x1609: "Struct19", 0x1519: "Interface"}
 SHOWN = {0x1609: "count props fields derived shape size name unique".split()}
 LISTS = (0x1201, 0x1203, 0x1206)
 

@@ -303,6 +303,7 @@ def record_line(o, data, why):
     """A type record: the crate's line where it is 01's, else 01's where a line of docs/DIFFERENCES.md says why."""
     line, reasons = layouts.type_record(data)
     if not compare.same_record(o, line):
+        reasons = compare.record_reasons(o, line, reasons)
         if not reasons:
             raise Unexplained(f"type {hexed(data)}: the crate {o}, layouts.py {line}")
         why.update(reasons)
@@ -475,7 +476,7 @@ EXAMPLES = [
     (f"find {header().hex()}0100410200ffff 0 4096,4097,4098", ["places [56]", "max 4103", "4096 0 58+1 links=0", "4097 0 61+2 links=1", "4098 1 2"]),
     ("type 0312021503000180ffff6100", ["0 1203 ; 1502 a=3 v=-1 name=10+1 ; end 15"]),
     ("type 011200000040", ["1"]),
-    (f"type {CRATE_1609.hex()}", ["0 1609 kind=Struct count=2 props=512 fields=4118 derived=- shape=- size=6 name=22+6 unique=29+12"]),
+    (f"type {CRATE_1609.hex()}", ["0 1609 kind=Struct19 count=2 props=512 fields=4118 derived=- shape=- size=6 name=22+6 unique=29+12"]),
 ]
 
 # 02's R-2: "two bits of hfa at 11 and 12, intrinsic at 13 and mocom at 14 and 15; in the pointer word ismocom is bit 19"; its size stays bits 13 to 18.

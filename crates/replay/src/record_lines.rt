@@ -68,7 +68,7 @@ fn class_head(k: ClassKind) {
         ClassKind::Class => lines::put(b"0 1504 kind=Class"),
         ClassKind::Struct => lines::put(b"0 1505 kind=Struct"),
         ClassKind::Interface => lines::put(b"0 1519 kind=Interface"),
-        ClassKind::Struct19 => lines::put(b"0 1609 kind=Struct"),
+        ClassKind::Struct19 => lines::put(b"0 1609 kind=Struct19"),
     }
 }
 
