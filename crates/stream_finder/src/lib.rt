@@ -28,7 +28,7 @@ use stream_item::iter::ItemIter;
 use stream_item::link::Hit;
 
 // The shift of a finder whose creation names none: blocks of 8 links.
-const SHIFT: u32 = 3;
+pub const SHIFT: u32 = 3;
 
 // The largest shift: blocks of 64 links.
 const LARGEST_SHIFT: u32 = 6;
