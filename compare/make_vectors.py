@@ -12,14 +12,14 @@ Where an expected line comes from:
   links of a 1 are worked out by lengths alone, as compare.py does. A list that the crate refuses whole ends with that refusal (PROTOCOL.md, "Lists"),
   and an array shows its size and its name, where the crate shows dimensions: both lines are layouts.py's, held to the crate's answer by same_record.
 - A known difference: document 01's or 02's line, worked out by layouts.py or written out below, with the name of its line in docs/DIFFERENCES.md.
-- A command that the crate cannot be asked (next, create, update, findin, maxindex, view, marker, element, idelement): 01's rule, written again
-  below beside 01's sentence, in Python, apart from the Rattle sources.
+- A command that the crate cannot be asked (next, create, update, findin, maxindex, view, marker, element, idelement, and all that end in `by`): 01's
+  rule, with 02's R-7 for a shift, written again below beside its sentence, in Python, apart from the Rattle sources.
 - A command whose BYTES are none: `? bytes`, by PROTOCOL.md's sentence, written again below.
 - 01's examples and 02's words: their lines, written out below. They must be what the rules above give too.
 
 No expected line is taken from REPLAY. It is run at the end, and must answer every line. The exit status is 1, and nothing is written, if an answer
 of the crate is not explained, if an example fails, if REPLAY answers otherwise or has no call of some public function, or if the list lacks one of:
-a command of PROTOCOL.md; a number 0 to 16; a leaf of 01; every prefix of a good record of every leaf; a record of the crate's tests; the largest
+a command of PROTOCOL.md; a number 0 to 16, or 26; every shift 0 to 7; a leaf of 01; every prefix of a good record of every leaf; a record of the crate's tests; the largest
 counts; a table exactly full and one short; bytes that are none, in every way, and as many bytes as there may be.
 """
 import os
@@ -41,6 +41,8 @@ ID_LEAVES = list(range(0x1601, 0x1608))
 LONGEST = 4294967294
 # More records than 65,536 bytes can have: `find` walks the whole stream.
 WHOLE = 65536
+# R-7: the shifts 0 to 6 are taken, those above are 26.
+SHIFTS = [0, 1, 2, 3, 4, 5, 6, 7, 255]
 
 
 class Unexplained(Exception):
@@ -102,48 +104,61 @@ def table_text(t):
     return " ".join(str(n) for n in t) or "-"
 
 
-def create_line(s, t):
-    """"Creation stores header_size in place 0 if the count is positive (13 if there is no room), else none.\""""
-    number = refused_header(s)
+def create_line(s, t, shift=3):
+    """"Creation stores header_size in place 0 if the count is positive (13 if there is no room), else none." R-7: "26 shift above 6, right before
+    the first 13 at creation, `update`, `find`."""
+    number = refused_header(s) or (26 if shift > 6 else None)
     if number:
         return f"{number} ; {table_text(t)}"
     _, size, low, high = struct.unpack_from("<4I", s) if s else (0, 0, 0, 0)
     if high == low:
-        return f"0 {low} {high} held=0 shift=3 ; {table_text(t)}"
+        return f"0 {low} {high} held=0 shift={shift} ; {table_text(t)}"
     if not t:
         return "13 ; -"
-    return f"0 {low} {high} held=1 shift=3 ; {table_text([size] + t[1:])}"
+    return f"0 {low} {high} held=1 shift={shift} ; {table_text([size] + t[1:])}"
 
 
-def update_line(low, held, t, at, index):
+def updated(low, held, t, at, index, shift=3):
     """"With d the cursor's index minus the minimum, it stores the cursor's position as a new last place exactly if d mod 8 is 0 and d/8 equals
     the number of places held. Order: 16, 14, then 13. Otherwise it answers 0 and changes nothing. A finder that claims more places than its
-    table has gets 13 from `update` and `find`, right after 16.\""""
-    number, after = 0, t
+    table has gets 13 from `update` and `find`, right after 16." R-7: 2^shift for 8, and 26 right before the first 13. Answers the number, the
+    places held and the table."""
+    number, after, block = 0, t, 1 << shift
     d = index - low
     if at > LONGEST:
         number = 16
+    elif shift > 6:
+        number = 26
     elif held > len(t):
         number = 13
     elif index < low:
         number = 14
-    elif d % 8 == 0 and d // 8 == held:
+    elif d % block == 0 and d // block == held:
         if held == len(t):
             number = 13
         else:
             after = t[:held] + [at] + t[held + 1:]
             held += 1
+    return number, held, after
+
+
+def update_line(low, held, t, at, index, shift=3):
+    number, held, after = updated(low, held, t, at, index, shift)
     return f"{number} held={held} ; {table_text(after)}"
 
 
-def highest(low, held):
-    """"`max_index` is 0 with no place, else 8 × places + minimum − 1, held at 4,294,967,295.\""""
-    return min(TOP, 8 * held + low - 1) if held else 0
+def highest(low, held, shift=3):
+    """"`max_index` is 0 with no place, else 8 × places + minimum − 1, held at 4,294,967,295." R-7: 2^shift for 8, and 0 with a shift above 6."""
+    return min(TOP, (held << shift) + low - 1) if held and shift <= 6 else 0
 
 
-def find_line(s, low, high, held, t, i):
+def find_line(s, low, high, held, t, i, shift=3):
     """"`find` of i: below the minimum, the marker; above the maximum, 8. With d = i minus the minimum: 9 if d/8 rounded down is no held place;
-    else start at that place, pass d mod 8 links, and give the next one's item, or 1 if a link breaks. It reports links passed.\""""
+    else start at that place, pass d mod 8 links, and give the next one's item, or 1 if a link breaks. It reports links passed." R-7: 2^shift for 8,
+    and 26 right before the first 13."""
+    block = 1 << shift
+    if shift > 6:
+        return "26"
     if held > len(t):
         return "13"
     if i < low:
@@ -151,15 +166,38 @@ def find_line(s, low, high, held, t, i):
     if i > high:
         return f"8 {i}"
     d = i - low
-    if d // 8 >= held:
-        return f"9 {i} {highest(low, held)}"
-    p = t[d // 8]
-    for passed in range(d % 8 + 1):
+    if d // block >= held:
+        return f"9 {i} {highest(low, held, shift)}"
+    p = t[d // block]
+    for passed in range(d % block + 1):
         at = link(s, p)
         if at is None:
             return f"1 {passed}"
         p = sum(at)
-    return f"0 {at[0]}+{at[1]} links={d % 8}"
+    return f"0 {at[0]}+{at[1]} links={d % block}"
+
+
+def find_by_lines(s, shift, n, asked):
+    """The lines of `find` for a finder of any shift, all by the rules above: a fresh finder and a fresh iterator, the early update that a `u` asks
+    for, as many records as there are up to n with an update after each, then each lookup. A refused creation is the only line."""
+    room = [0] * (len(s) + 1)
+    made = create_line(s, room, shift)
+    if not made.startswith("0 "):
+        return [made.split(" ; ")[0]]
+    _, size, low, high = struct.unpack_from("<4I", s) if s else (0, 0, 0, 0)
+    held = int(made.split(" held=")[1].split()[0])
+    t = [size] + room[1:] if held else room
+    at, index = size, low
+    if n.startswith("u"):
+        _, held, t = updated(low, held, t, at, index, shift)
+    for _ in range(int(n.lstrip("u"))):
+        line = next_line(s, at, index)
+        if " then " not in line:
+            break
+        at, index = (int(x) for x in line.split(" then ")[1].split())
+        _, held, t = updated(low, held, t, at, index, shift)
+    lines = [f"places [{', '.join(str(p) for p in t[:held])}]", f"max {highest(low, held, shift)}"]
+    return lines + [f"{i} {find_line(s, low, high, held, t, int(i), shift)}" for i in asked.split(",")]
 
 
 def view_line(s, place, length):
@@ -260,6 +298,16 @@ def by_rule(words, primitive):
         return find_line(blob(n[0]), int(n[1]), int(n[2]), int(n[3]), table_of(n[4]), int(n[5]))
     if kind == "maxindex":
         return str(highest(int(n[0]), int(n[2])))
+    if kind == "createby":
+        return create_line(blob(n[1]), table_of(n[2]), int(n[0]))
+    if kind == "updateby":
+        return update_line(int(n[1]), int(n[3]), table_of(n[4]), int(n[5]), int(n[6]), int(n[0]))
+    if kind == "findinby":
+        return find_line(blob(n[1]), int(n[2]), int(n[3]), int(n[4]), table_of(n[5]), int(n[6]), int(n[0]))
+    if kind == "maxindexby":
+        return str(highest(int(n[1]), int(n[3]), int(n[0])))
+    if kind == "findby":
+        return find_by_lines(blob(n[1]), int(n[0]), n[2], n[3])
     if kind == "view":
         return view_line(blob(n[0] if n[2] == "t" else n[1]), int(n[3]), int(n[4]))
     if kind == "marker":
@@ -280,14 +328,14 @@ def by_rule(words, primitive):
 
 
 PORT_ONLY = ("next", "create", "update", "findin", "maxindex", "view", "marker", "element", "idelement", "count", "cross", "item",
-             "membername", "idat")
+             "membername", "idat", "createby", "updateby", "findinby", "maxindexby", "findby")
 
 
 # ---- words that should be BYTES ----
 
 # Where a command has its BYTES, the command itself being word 0; most have them as word 1.
-BYTES_AT = {**dict.fromkeys(("itemtype", "itemid", "string", "element", "idelement", "idat", "membername"), (2,)), "view": (1, 2),
-            **dict.fromkeys(("prim", "word", "opttype", "optid", "update", "maxindex", "marker", "cross", "item"), ())}
+BYTES_AT = {**dict.fromkeys(("itemtype", "itemid", "string", "element", "idelement", "idat", "membername", "createby", "findinby", "findby"), (2,)), "view": (1, 2),
+            **dict.fromkeys(("prim", "word", "opttype", "optid", "update", "maxindex", "updateby", "maxindexby", "marker", "cross", "item"), ())}
 MOST_BYTES = 65536
 
 
@@ -448,7 +496,7 @@ NO_COMMANDS = ["frobnicate", "antidisestablishmentarianism 12"]
 # Words that should be bytes and are not: another letter, upper case, half a byte, a minus too many, a file, none at all, one byte too many.
 NO_BYTES = [f"{kind} {word}" for kind in ("header", "kind", "type") for word in
             ("zz", "0g", "011", "0", "01z", "0B", "0110AA", "--", "-00", "00-", "@e.tpi", "01,02", "")]
-NO_BYTES += ["find zz 0 0,1", "find 0 3 4096", "next 001 0 0", "create 0 7", "findin zz 4096 4120 0 - 4096", "view 0 01 t 0 0", "view 01 0 t 0 0",
+NO_BYTES += ["createby 3 0 7", "findby 3 0g 0 0", "findinby 3 zz 4096 4120 0 - 4096", "find zz 0 0,1", "find 0 3 4096", "next 001 0 0", "create 0 7", "findin zz 4096 4120 0 - 4096", "view 0 01 t 0 0", "view 01 0 t 0 0",
              "view zz zz i 0 0", "view 01", "string 4611 4", "element 0 031", "itemtype 4096 0X10", "membername 0 0", "count 5",
              "padding " + "00" * (MOST_BYTES + 1)]
 MOST = "padding " + "f1" * MOST_BYTES
@@ -668,6 +716,47 @@ def stream_commands(rng):
     for low, held in ((0, 0), (4096, 0), (0, 1), (4096, 1), (4096, 2), (TOP - 8, 1), (TOP - 7, 1), (TOP - 6, 1), (TOP, 1), (4096, 2 ** 29),
                       (0, 2 ** 64 - 1)):
         yield f"maxindex {low} {TOP} {held}"
+    # The finder by its shift: every shift that is taken, and some that are not; creation also where there is no room and no record.
+    for shift in SHIFTS:
+        for s in (b"", header(), header(4096, 4096), header()[:55], header(size=55), header(4096, 4095), E):
+            for t in ("-", "7", "7,8"):
+                yield f"createby {shift} {hexed(s)} {t}"
+        block = 1 << min(shift, 7)
+        for low in (0, 4096):
+            for held, t in ((0, "-"), (0, "5"), (1, "5"), (1, "5,6"), (2, "5,6"), (3, "5,6"), (2 ** 58, "5,6"), (2 ** 64 - 1, "5,6")):
+                for d in sorted({0, 1, block - 1, block, block + 1, 2 * block, 3 * block}):
+                    yield f"updateby {shift} {low} {low + 300} {held} {t} 99 {low + d}"
+                yield f"updateby {shift} {low} {low + 300} {held} {t} {LONGEST + 1} {low}"
+                yield f"updateby {shift} 4096 4100 {held} {t} 99 4095"
+        count = 2 * block + 6
+        s = header(4096, 4100 + count) + make_inputs.links((2, 0, 1, 3) + (2,) * (count - 4))
+        starts = [56]
+        while link(s, starts[-1]) is not None:
+            starts.append(sum(link(s, starts[-1])))
+        places = starts[::block][:3]
+        for held, t in ((0, "-"), (1, "56"), (len(places), ",".join(str(p) for p in places)), (2, "56"), (2, f"56,{TOP}")):
+            for i in sorted({0, 4095, 4096, 4096 + block - 1, 4096 + block, 4096 + block + 1, 4096 + 2 * block, 4095 + count, 4096 + count,
+                              4100 + count, 4101 + count, TOP}):
+                yield f"findinby {shift} {s.hex()} 4096 {4100 + count} {held} {t} {i}"
+        # the highest index, around its bounds
+        most = TOP // block
+        for low, held in ((0, 0), (0, 1), (4096, 1), (4096, 2), (0, most), (0, most + 1), (1, most), (2, most), (TOP - block, 1), (TOP - block + 1, 1),
+                          (TOP - block + 2, 1), (TOP, 1), (TOP, 2 ** 32 - 1), (TOP, 2 ** 32), (0, 2 ** 58), (0, 2 ** 64 - 1)):
+            yield f"maxindexby {shift} {low} {TOP} {held}"
+        # a chain that `next` follows, so that every record is walked
+        s = header(4096, 4100 + count) + make_inputs.links((2, 3, 4) + (2,) * (count - 3))
+        for n in sorted({0, 1, block - 1, block, block + 1, 2 * block, count, WHOLE}):
+            yield (f"findby {shift} {s.hex()} {n} 0,4095,4096,4097,{4096 + block - 1},{4096 + block},{4096 + 2 * block},{4095 + count},{4096 + count},"
+                   f"{4100 + count},{4101 + count},{TOP}")
+        yield f"findby {shift} {s.hex()} u{block} 4096,{4096 + block},{4096 + 2 * block}"
+        yield f"findby {shift} {E.hex()} 2 4095,4096,4097,4098,4099"
+        yield f"findby {shift} - 0 0,1"
+        yield f"findby {shift} {header()[:40].hex()} 0 0"
+        yield f"findby {shift} {header(size=1025).hex()} 5 4096"
+    # as many records as 65,536 bytes can have: with a place for each, and with the fewest
+    s = header(4096, 4096 + 20000) + make_inputs.links((2,) * 16370)
+    for shift in (0, 6):
+        yield f"findby {shift} {s.hex()} {WHOLE} 4095,4096,4097,12288,20465,20466,24096,24097"
     # view: both streams.
     for which in "ti":
         for place in (0, 1, 2, 3, 4, 5, 2 ** 63, 2 ** 64 - 1):
@@ -702,10 +791,10 @@ def numbers_in(words, lines):
         if words[0] in ("walk", "parse", "parseids"):
             if parts[0] == "refused":
                 yield int(parts[1])
-        elif words[0] in ("find", "findids", "prim"):
+        elif words[0] in ("find", "findids", "findby", "prim"):
             if parts[0].isdigit() and len(parts) > 1:
                 yield int(parts[1])
-        elif words[0] not in ("word", "opttype", "optid", "maxindex", "cross", "item"):
+        elif words[0] not in ("word", "opttype", "optid", "maxindex", "maxindexby", "cross", "item"):
             yield int(parts[0])
         yield from (int(n) for n in re.findall(r" ; end (\d+)", line))
         yield from (12 for _ in re.findall(r"=r12", line))
@@ -762,8 +851,12 @@ def lacking(vectors):
         if not any(c.startswith(f"word {word} ") for c in asked):
             yield f"word {word}"
     numbers = {n for c, lines in vectors if c not in NO_COMMANDS + NO_BYTES for n in numbers_in(c.split(), lines)}
-    for n in set(range(17)) - numbers:
+    for n in (set(range(17)) | {26}) - numbers:
         yield f"number {n}"
+    for kind in ("createby", "updateby", "findinby", "maxindexby", "findby"):
+        for shift in SHIFTS:
+            if not any(c.startswith(f"{kind} {shift} ") for c in asked):
+                yield f"{kind} of shift {shift}"
     for leaf in list(layouts.RECORDS) + list(layouts.LISTS) + ID_LEAVES:
         if not re.search(rf"^(  )?0 {leaf:04x}\b", shown, re.M):
             yield f"leaf {leaf:04x}"
@@ -790,7 +883,11 @@ def lacking(vectors):
         if (lines == ["? bytes"]) != (command in NO_BYTES):
             yield f"bytes that are none, or that are some: {command[:80]}"
     for command, line in (("update 4096 4126 2 5,6 99 4112", "13 held=2 ; 5 6"), ("update 4096 4126 1 5,6 99 4104", "0 held=2 ; 5 99"),
-                          ("create " + header().hex() + " -", "13 ; -"), ("create " + header().hex() + " 7", "0 4096 4098 held=1 shift=3 ; 56")):
+                          ("create " + header().hex() + " -", "13 ; -"), ("create " + header().hex() + " 7", "0 4096 4098 held=1 shift=3 ; 56"),
+                          ("updateby 0 4096 4396 1 5 99 4097", "13 held=1 ; 5"), ("updateby 0 4096 4396 1 5,6 99 4097", "0 held=2 ; 5 99"),
+                          ("updateby 6 4096 4396 1 5 99 4160", "13 held=1 ; 5"), ("updateby 6 4096 4396 1 5,6 99 4160", "0 held=2 ; 5 99"),
+                          ("createby 6 " + header().hex() + " -", "13 ; -"), ("createby 7 " + header().hex() + " -", "26 ; -"),
+                          ("createby 7 - -", "26 ; -"), ("updateby 7 4096 4396 3 5,6 99 4096", "26 held=3 ; 5 6")):
         if answer.get(command) != [line]:
             yield f"a table exactly full or one short: {command}"
 
@@ -823,7 +920,8 @@ def main():
             elif c in lines_of:
                 lines = by_crate(c.split(), lines_of[c], why)
             else:
-                lines = [by_rule(c.split(), primitives.get(c.split()[2]) if c.startswith("marker") else None)]
+                lines = by_rule(c.split(), primitives.get(c.split()[2]) if c.startswith("marker") else None)
+                lines = lines if isinstance(lines, list) else [lines]
         except Unexplained as e:
             problems.append(str(e))
             continue

@@ -1,6 +1,6 @@
 -- Any use of a stream is equal: each iterator that goes stands where it can, the same ones go in the crate and in the port, the finder's places
 -- stay few enough, and each action keeps all that. Assumes nothing.
-use Prim.Native.Nat.{ℕ, zero, suc, _+_, _*_, _≤_, _<_}
+use Prim.Native.Nat.{ℕ, zero, suc, _+_, _-_, _*_, _≤_, _<_}
 use mathlib.Core.Path.{_≡_, refl, ap, subst}
 use mathlib.Core.List.{List, [], _∷_, map}
 use mathlib.Core.Option.{Option, none, some}
@@ -14,7 +14,7 @@ use Rattle.stream_item.specs.Iterator.{Next, done, yielded, nextOf}
 use Rattle.stream_item.specs.declared.Stream.{Stream}
 use Rattle.stream_item.specs.declared.iter.ItemIter.{ItemIter}
 use Rattle.stream_item.proofs.NextLaws.{iter-is}
-use Rattle.stream_finder.specs.Finder.{State, begunOf, createBy, updateOf, Found, findOf}
+use Rattle.stream_finder.specs.Finder.{State, begunBy, createBy, updateOf, Found, findOf}
 use Rattle.claim_model.specs.Rust.{Rust, gives, errs, panics, wraps, _>>=_}
 use Rattle.claim_model.specs.ParseBuffer.{if-some}
 use Rattle.claim_model.specs.TpiHeader.{parse-information}
@@ -28,7 +28,7 @@ use Rattle.claim_model.proofs.CreateEqual.{first, iter-equal, create-eq
 use Rattle.claim_model.proofs.UpdateEqual.{update-equal}
 use Rattle.claim_model.proofs.FindEqual.{find-equal}
 use Rattle.claim_model.specs.Run.{Lent}
-use Rattle.claim_model.proofs.RunEqual.{Accepted, accepted, created-ind, updated-ind, Stood, stood}
+use Rattle.claim_model.proofs.RunEqual.{Accepted, accepted, eighths, eightfold, created-ind, updated-ind, Stood, stood}
 use Rattle.claim_model.specs.Course.{Action, begins, steps, updates, crateBehind, crateUses, crateCourse, portBehind, portUses, portCourse, CoursesEqual}
 
 -- ---- lists of iterators, none for one that has stopped
@@ -67,6 +67,7 @@ record Sound (s : List ℕ) (m : ℕ) (c : ItemIter) : Type 0 where
 
 record Kept (m : ℕ) (σ : State) : Type 0 where
   pub minimum : σ .finder .«minimum_index» ≡ m
+  pub shift : σ .finder .shift ≡ 3
   pub held : σ .finder .held ≤ length (σ .table)
   pub few : σ .finder .held * 8 < 4294967296
 
@@ -87,8 +88,13 @@ module _ (tag : Stream) (s : List ℕ) (h : Header) (ok : Lent s) (e : headerOf 
 
   kept-update : (σ : State) (c : ItemIter) (τ : State) → Kept (h .«minimum_index») σ → Sound s (h .«minimum_index») c → c .at ≤ longest → updateOf σ c ≡ answered τ → Kept (h .«minimum_index») τ
   kept-update σ c τ k n l =
-      updated-ind σ c l (k .held) (Kept (h .«minimum_index»)) k
-      (λ g b r. record { minimum = k .minimum; held = rw length-set (omega arith); few = omega (arith, k .minimum, n .near) }) τ
+      updated-ind σ c l (omega (arith, k .shift)) (k .held) (Kept (h .«minimum_index»)) k
+      (λ g b r. record {
+        minimum = k .minimum;
+        shift = k .shift;
+        held = rw length-set (omega arith);
+        few = omega (arith, k .minimum, n .near, eighths (c .index - σ .finder .«minimum_index») σ (k .shift));
+      }) τ
 
   at-fits : (c : ItemIter) → Sound s (h .«minimum_index») c → c .at ≤ longest
   at-fits c n = omega (arith, n .stands .inside, n .stands .short)
@@ -115,17 +121,17 @@ module _ (tag : Stream) (s : List ℕ) (h : Header) (ok : Lent s) (e : headerOf 
       go wraps x q = tt
 
   abbrev Uses : List Action → List (Option ItemIter) → State → Type 0
-  Uses acts cs σ = Equal (crateUses (information s h) i acts (map shown cs) (finderShown 3 s σ)) (unlinked s (portUses tag s i acts cs σ))
+  Uses acts cs σ = Equal (crateUses (information s h) i acts (map shown cs) (finderShown s σ)) (unlinked s (portUses tag s i acts cs σ))
 
   uses : (acts : List Action) (cs : List (Option ItemIter)) (σ : State) → All (Sound s (h .«minimum_index»)) cs → Kept (h .«minimum_index») σ → Roomy (portUses tag s i acts cs σ) → Uses acts cs σ
   unfolding crateUses portUses
   uses [] cs σ n k roomy =
-      subst (λ (x : ℕ). Equal (find (finderShown 3 s σ) x) (unlinked s (findOf s σ (indexIn tag i)))) (number-in tag i)
-      (find-equal 3 s σ (record { short = ok .short; held = k .held }) (k .few) (indexIn tag i))
+      subst (λ (x : ℕ). Equal (find (finderShown s σ) x) (unlinked s (findOf s σ (indexIn tag i)))) (number-in tag i)
+      (find-equal s σ (record { short = ok .short; shift = omega (arith, k .shift); held = k .held }) (omega (arith, eightfold σ (k .shift), k .few)) (indexIn tag i))
   uses (begins ∷ acts) cs σ n k roomy =
       let r = subst (λ (x : Answer ItemIter). Roomy (then x λ c. portUses tag s i acts (some c ∷ cs) σ)) (iter-is tag s h e) roomy in
       rw (iter-is tag s h e)
-      (bind-equal (iter (information s h)) (answered (first tag h)) (iterShown s) (λ it. crateUses (information s h) i acts (some it ∷ map shown cs) (finderShown 3 s σ))
+      (bind-equal (iter (information s h)) (answered (first tag h)) (iterShown s) (λ it. crateUses (information s h) i acts (some it ∷ map shown cs) (finderShown s σ))
       (λ c. portUses tag s i acts (some c ∷ cs) σ) (unlinked s) (unlinked-numbered s) (iter-equal tag s h (ok .short))
       λ c q.
       let w : first tag h ≡ c = cc in
@@ -135,12 +141,12 @@ module _ (tag : Stream) (s : List ℕ) (h : Header) (ok : Lent s) (e : headerOf 
       go : (o : Option ItemIter) → getD cs j none ≡ o
           → Roomy (if-some o (λ c. portUses tag s i acts (set cs j (portBehind c (nextOf s c))) σ) (portUses tag s i acts cs σ))
           → ((ds : List (Option ItemIter)) → All (Sound s (h .«minimum_index»)) ds → Roomy (portUses tag s i acts ds σ) → Uses acts ds σ)
-          → Equal (if-some (shown o) (λ it. _>>=_ (crateBehind (next it)) λ b. crateUses (information s h) i acts (set (map shown cs) j b) (finderShown 3 s σ)) (crateUses (information s h) i acts (map shown cs) (finderShown 3 s σ)))
+          → Equal (if-some (shown o) (λ it. _>>=_ (crateBehind (next it)) λ b. crateUses (information s h) i acts (set (map shown cs) j b) (finderShown s σ)) (crateUses (information s h) i acts (map shown cs) (finderShown s σ)))
           (unlinked s (if-some o (λ c. portUses tag s i acts (set cs j (portBehind c (nextOf s c))) σ) (portUses tag s i acts cs σ)))
       go none q r ih = ih cs n r
       go (some c) q r ih =
           let f : Sound s (h .«minimum_index») c = all-get n j c q in
-          bind-equal (crateBehind (next (iterShown s c))) (answered (portBehind c (nextOf s c))) shown (λ b. crateUses (information s h) i acts (set (map shown cs) j b) (finderShown 3 s σ))
+          bind-equal (crateBehind (next (iterShown s c))) (answered (portBehind c (nextOf s c))) shown (λ b. crateUses (information s h) i acts (set (map shown cs) j b) (finderShown s σ))
           (λ b. portUses tag s i acts (set cs j b) σ) (unlinked s) (unlinked-numbered s) (step-equal c (f .stands))
           λ b u.
           let w : portBehind c (nextOf s c) ≡ b = cc in
@@ -152,22 +158,22 @@ module _ (tag : Stream) (s : List ℕ) (h : Header) (ok : Lent s) (e : headerOf 
       go : (o : Option ItemIter) → getD cs j none ≡ o
           → Roomy (if-some o (λ c. then (updateOf σ c) λ τ. portUses tag s i acts cs τ) (portUses tag s i acts cs σ))
           → ((τ : State) → Kept (h .«minimum_index») τ → Roomy (portUses tag s i acts cs τ) → Uses acts cs τ)
-          → Equal (if-some (shown o) (λ it. _>>=_ (update (finderShown 3 s σ) it) λ f. crateUses (information s h) i acts (map shown cs) f) (crateUses (information s h) i acts (map shown cs) (finderShown 3 s σ)))
+          → Equal (if-some (shown o) (λ it. _>>=_ (update (finderShown s σ) it) λ f. crateUses (information s h) i acts (map shown cs) f) (crateUses (information s h) i acts (map shown cs) (finderShown s σ)))
           (unlinked s (if-some o (λ c. then (updateOf σ c) λ τ. portUses tag s i acts cs τ) (portUses tag s i acts cs σ)))
       go none q r ih = ih σ k r
       go (some c) q r ih =
           let f : Sound s (h .«minimum_index») c = all-get n j c q in
-          bind-equal (update (finderShown 3 s σ) (iterShown s c)) (updateOf σ c) (finderShown 3 s) (λ f. crateUses (information s h) i acts (map shown cs) f)
+          bind-equal (update (finderShown s σ) (iterShown s c)) (updateOf σ c) (finderShown s) (λ f. crateUses (information s h) i acts (map shown cs) f)
           (λ τ. portUses tag s i acts cs τ) (unlinked s) (unlinked-numbered s)
-          (update-equal 3 s σ c (at-fits c f) (k .held) (roomy-first (updateOf σ c) (λ τ. portUses tag s i acts cs τ) r))
+          (update-equal s σ c (at-fits c f) (omega (arith, k .shift)) (k .held) (roomy-first (updateOf σ c) (λ τ. portUses tag s i acts cs τ) r))
           λ τ u. ih τ (kept-update σ c τ k f (at-fits c f) u) (roomy-then (updateOf σ c) (λ τ. portUses tag s i acts cs τ) τ u r)
 
 -- ---- the course, its header read once for the finder
-course-once : (tag : Stream) (s t : List ℕ) (acts : List Action) (i : ℕ) → portCourse tag s t acts i ≡ then (headerOf s) (λ h. then (begunOf t h) λ σ. portUses tag s i acts [] σ)
+course-once : (tag : Stream) (s t : List ℕ) (acts : List Action) (i : ℕ) → portCourse tag s t acts i ≡ then (headerOf s) (λ h. then (begunBy 3 t h) λ σ. portUses tag s i acts [] σ)
 unfolding portCourse createBy
 course-once tag s t acts i = go (headerOf s)
   where
-    go : (a : Answer Header) → then (then a (begunOf t)) (λ σ. portUses tag s i acts [] σ) ≡ then a (λ h. then (begunOf t h) λ σ. portUses tag s i acts [] σ)
+    go : (a : Answer Header) → then (then a (begunBy 3 t)) (λ σ. portUses tag s i acts [] σ) ≡ then a (λ h. then (begunBy 3 t h) λ σ. portUses tag s i acts [] σ)
     go (answered h) = refl
     go (refused n d) = refl
 
@@ -176,13 +182,13 @@ unfolding CoursesEqual crateCourse
 course-equal tag s t acts i ok roomy′ =
     let roomy = subst (λ (x : Answer Found). Roomy x) (course-once tag s t acts i) roomy′ in
     rw (course-once tag s t acts i)
-    (bind-equal (parse-information s) (headerOf s) (information s) _ (λ h. then (begunOf t h) λ σ. portUses tag s i acts [] σ) (unlinked s) (unlinked-numbered s) (header s (ok .short) .equal)
+    (bind-equal (parse-information s) (headerOf s) (information s) _ (λ h. then (begunBy 3 t h) λ σ. portUses tag s i acts [] σ) (unlinked s) (unlinked-numbered s) (header s (ok .short) .equal)
     λ h e.
-    let r = roomy-then (headerOf s) (λ h. then (begunOf t h) λ σ. portUses tag s i acts [] σ) h e roomy in
-    bind-equal (finder (information s h)) (begunOf t h) (finderShown 3 s) _ (λ σ. portUses tag s i acts [] σ) (unlinked s) (unlinked-numbered s)
-    (create-equal s t h (roomy-first (begunOf t h) _ r))
+    let r = roomy-then (headerOf s) (λ h. then (begunBy 3 t h) λ σ. portUses tag s i acts [] σ) h e roomy in
+    bind-equal (finder (information s h)) (begunBy 3 t h) (finderShown s) _ (λ σ. portUses tag s i acts [] σ) (unlinked s) (unlinked-numbered s)
+    (create-equal s t h (roomy-first (begunBy 3 t h) _ r))
     λ σ u.
     let k : Kept (h .«minimum_index») σ =
-    created-ind t h (Kept (h .«minimum_index»)) (record { minimum = refl; held = omega arith; few = omega arith })
-    (λ r. record { minimum = refl; held = rw length-set r; few = omega arith }) σ u in
-    uses tag s h ok e i acts [] σ no-one k (roomy-then (begunOf t h) (λ σ. portUses tag s i acts [] σ) σ u r))
+    created-ind t h (Kept (h .«minimum_index»)) (record { minimum = refl; shift = refl; held = omega arith; few = omega arith })
+    (λ r. record { minimum = refl; shift = refl; held = rw length-set r; few = omega arith }) σ u in
+    uses tag s h ok e i acts [] σ no-one k (roomy-then (begunBy 3 t h) (λ σ. portUses tag s i acts [] σ) σ u r))

@@ -14,7 +14,7 @@ use Rattle.stream_header.specs.Header.{longest}
 use Rattle.stream_header.specs.declared.Header.{Header}
 use Rattle.stream_item.specs.declared.Stream.{Stream}
 use Rattle.stream_item.specs.declared.iter.ItemIter.{ItemIter}
-use Rattle.stream_finder.specs.Finder.{state, holding, begunOf}
+use Rattle.stream_finder.specs.Finder.{state, holding, begunBy}
 use Rattle.stream_finder.proofs.FinderLaws.{begun-none, begun-full, begun-some}
 use Rattle.claim_model.specs.TpiItems.{iter, new, finder}
 use Rattle.claim_model.specs.Equal.{Equal, Same, shownBy}
@@ -48,30 +48,30 @@ rounded n b =
 
 module _ (s t : List ℕ) (h : Header) where
   abbrev Made : Type 0
-  Made = Same (finder (information s h)) (shownBy (finderShown 3 s) (begunOf t h))
+  Made = Same (finder (information s h)) (shownBy (finderShown s) (begunBy 3 t h))
 
   module _ (a : h .«minimum_index» ≤ h .«maximum_index») (b : h .«maximum_index» - h .«minimum_index» + 7 < 4294967296) where
     empty-finder : h .«maximum_index» ≤ h .«minimum_index» → Made
     unfolding new
     empty-finder c =
         let z : h .«maximum_index» - h .«minimum_index» ≡ 0 = omega arith in
-        same-gives (new (information s h) 3) (finderShown 3 s (state (holding h 3 0) t)) _
+        same-gives (new (information s h) 3) (finderShown s (state (holding h 3 0) t)) _
         (simp (le-leb _ _ a, z))
-        (simp (begun-none 3 t h c))
+        (simp (begun-none 3 t h (omega arith) c))
 
-    some-finder : h .«minimum_index» < h .«maximum_index» → Roomy (begunOf t h) → Made
+    some-finder : h .«minimum_index» < h .«maximum_index» → Roomy (begunBy 3 t h) → Made
     unfolding new
     some-finder c roomy =
-        by-order (length t) 0 (λ full. absurd (roomy [] (begun-full 3 t h c full))) λ room.
+        by-order (length t) 0 (λ full. absurd (roomy [] (begun-full 3 t h (omega arith) c full))) λ room.
         let z : 1 ≤ (h .«maximum_index» - h .«minimum_index» + 7) / 8 = shr-mono {a = 8} {b = h .«maximum_index» - h .«minimum_index» + 7} 3 (omega arith) in
-        same-gives (new (information s h) 3) (finderShown 3 s (state (holding h 3 1) (set t 0 (h .«header_size»)))) _
+        same-gives (new (information s h) 3) (finderShown s (state (holding h 3 1) (set t 0 (h .«header_size»)))) _
         (simp (le-leb _ _ a, lt-ltb _ _ b, rounded _ b, lt-ltb _ _ z, take-suc-set t 0 (h .«header_size») room))
-        (simp (begun-some 3 t h c room))
+        (simp (begun-some 3 t h (omega arith) c room))
 
-    pub create-same : Roomy (begunOf t h) → Made
+    pub create-same : Roomy (begunBy 3 t h) → Made
     create-same roomy = by-order (h .«maximum_index») (h .«minimum_index») empty-finder λ c. some-finder c roomy
 
-  pub create-equal : Roomy (begunOf t h) → Equal (finder (information s h)) (shownBy (finderShown 3 s) (begunOf t h))
+  pub create-equal : Roomy (begunBy 3 t h) → Equal (finder (information s h)) (shownBy (finderShown s) (begunBy 3 t h))
   unfolding new
   create-equal roomy =
       by-order (h .«minimum_index») (h .«maximum_index»)

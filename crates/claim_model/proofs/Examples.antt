@@ -13,7 +13,7 @@ use Rattle.stream_item.specs.Links.{linkAt, chain, linkOf}
 use Rattle.stream_item.specs.Iterator.{iterOf, itemAt, nextOf}
 use Rattle.stream_item.specs.declared.Stream.the-variants as stream
 use Rattle.stream_item.specs.declared.Entry.the-variants.{Record, Marker}
-use Rattle.stream_finder.specs.Finder.{begunBy, createBy, updateBy, maxIndexBy, Found, lookBy}
+use Rattle.stream_finder.specs.Finder.{begunBy, createBy, updateOf, maxIndexOf, Found, lookOf}
 use Rattle.word_primitive.specs.declared.PrimitiveKind.the-variants as kind
 use Rattle.word_primitive.specs.declared.Indirection.the-variants as indirection
 use Rattle.word_attributes.specs.declared.PointerKind.the-variants as pointer
@@ -55,7 +55,7 @@ pub port-finds : map (portRun stream.Types streamE (0 ∷ []) 2) (4096 ∷ 4097 
     ∷ refused 8 (4099 ∷ [])
     ∷ answered (record { entry = Marker (indexIn stream.Types 4095); passed = 0 })
     ∷ []
-unfolding portRun createBy begunBy iterOf headerOf turns nextOf updateBy lookBy linkOf chain linkAt maxIndexBy littleAt
+unfolding portRun createBy begunBy iterOf headerOf turns nextOf updateOf lookOf linkOf chain linkAt maxIndexOf littleAt
 port-finds = refl
 
 -- a header of that size, minimum and maximum, then bytes
@@ -125,7 +125,7 @@ unfolding crateCourse crateUses parse-information parse-header fields iter new r
 crate-stops = refl
 
 pub port-stops : map (λ acts. portCourse stream.Types short-ninth (0 ∷ 0 ∷ []) acts 4104) uses ≡ answered (port 4104 90 1 0) ∷ refused 9 (4104 ∷ 4103 ∷ []) ∷ answered (port 4104 90 1 0) ∷ []
-unfolding portCourse portUses createBy begunBy iterOf headerOf nextOf updateBy lookBy linkOf chain linkAt maxIndexBy littleAt
+unfolding portCourse portUses createBy begunBy iterOf headerOf nextOf updateOf lookOf linkOf chain linkAt maxIndexOf littleAt
 port-stops = refl
 
 -- "0x0674 is I32 by Near64; 0x0874 and 0x0004 give 8"; 0x1000 is outside the domain

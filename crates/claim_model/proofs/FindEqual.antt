@@ -1,4 +1,4 @@
--- A lookup, and the highest index, for the crate's shift k and the port's blocks of 2 ^ k. The places held fit a u32 when multiplied by the
+-- A lookup, and the highest index, for any shift from 0 to 6 that both have. The places held fit a u32 when multiplied by the
 -- block, as they do in every finder that can be reached (RunEqual.antt). Assumes nothing.
 use Prim.Native.Nat.{ℕ, zero, suc, _+_, _-_, _*_, _/_, _%_, _^_, _≤_, _<_}
 use mathlib.Core.Path.{_≡_, refl, sym, ap, _∙_, subst}
@@ -17,7 +17,7 @@ use Rattle.stream_item.specs.Links.{linkOf, chain, Walk, reached, broke}
 use Rattle.stream_item.specs.declared.ItemIndex.{ItemIndex}
 use Rattle.stream_item.specs.declared.link.Hit.the-variants.{Missed}
 use Rattle.stream_item.proofs.LinkLaws.{link-whole, link-broken, chain-none, linkOf-landed, linkOf-missed, linkOf-broke, linkOf-cut}
-use Rattle.stream_finder.specs.Finder.{State, maxIndexBy, landed, findBy}
+use Rattle.stream_finder.specs.Finder.{State, blockOf, maxIndexOf, landed, findOf}
 use Rattle.stream_finder.specs.Places.{Ready}
 use Rattle.stream_finder.proofs.FinderLaws.{find-marker, find-above, find-unheld, find-held, max-none, max-top}
 use Rattle.claim_model.specs.Rust.{Rust, gives, errs, wraps, _>>=_, as-u32, usize, UnexpectedEof, TypeNotFound, TypeNotIndexed}
@@ -47,37 +47,37 @@ past s p zero h = linkOf-missed s p 0 p (chain-none s p) (link-broken s p (omega
 past s p (suc k) h = linkOf-cut s p 0 (suc k) p (chain-none s p) (link-broken s p (omega arith)) (omega arith)
 
 -- ---- the highest index
-module _ (k : ℕ) (s : List ℕ) (σ : State) (claim : σ .finder .held ≤ length (σ .table)) (few : σ .finder .held * 2 ^ k < 4294967296) where
+module _ (s : List ℕ) (σ : State) (small : σ .finder .shift ≤ 6) (claim : σ .finder .held ≤ length (σ .table)) (few : σ .finder .held * blockOf (σ .finder) < 4294967296) where
   counted : length (front (σ .finder .held) (σ .table)) ≡ σ .finder .held
   counted = length-take-le (σ .finder .held) (σ .table) claim
 
   abbrev total : ℕ
-  total = σ .finder .held * 2 ^ k + σ .finder .«minimum_index»
+  total = σ .finder .held * blockOf (σ .finder) + σ .finder .«minimum_index»
 
   abbrev Highest : Type 0
-  Highest = Same (max-index (finderShown k s σ)) (answered (maxIndexBy (2 ^ k) (σ .finder)))
+  Highest = Same (max-index (finderShown s σ)) (answered (maxIndexOf (σ .finder)))
 
   max-empty : σ .finder .held ≡ 0 → Highest
   unfolding max-index
-  max-empty z = same-gives (max-index (finderShown k s σ)) 0 _ (simp (counted, eq-eqb _ _ z)) (ap answered (max-none (2 ^ k) (σ .finder) z))
+  max-empty z = same-gives (max-index (finderShown s σ)) 0 _ (simp (counted, eq-eqb _ _ z)) (ap answered (max-none (σ .finder) small z))
 
   module _ (z : 0 < σ .finder .held) where
     nz : σ .finder .held ≡ 0 → ⊥
     nz e = omega arith
 
-    whole : as-u32 (σ .finder .held * 2 ^ k) ≡ σ .finder .held * 2 ^ k
+    whole : as-u32 (σ .finder .held * blockOf (σ .finder)) ≡ σ .finder .held * blockOf (σ .finder)
     whole = mod-eq-of-lt few
 
     max-fits : total < 4294967296 → Highest
     unfolding max-index
     max-fits w =
-        let m : 2 ^ k * σ .finder .held ≡ σ .finder .held * 2 ^ k = mul-comm _ _ in
-        let o : 1 ≤ σ .finder .held * 2 ^ k + σ .finder .«minimum_index» = omega (arith, mul-le-mul z (pow-pos k)) in
-        same-gives (max-index (finderShown k s σ)) (total - 1) _
+        let m : blockOf (σ .finder) * σ .finder .held ≡ σ .finder .held * blockOf (σ .finder) = mul-comm _ _ in
+        let o : 1 ≤ σ .finder .held * blockOf (σ .finder) + σ .finder .«minimum_index» = omega (arith, mul-le-mul z (pow-pos (σ .finder .shift))) in
+        same-gives (max-index (finderShown s σ)) (total - 1) _
         (simp (counted, ne-eqb _ _ nz, whole, lt-ltb _ _ w, le-leb _ _ o))
-        (ap answered (max-top (2 ^ k) (σ .finder) z (omega arith) ∙ ap (λ (n : ℕ). n + σ .finder .«minimum_index» - 1) m))
+        (ap answered (max-top (σ .finder) small z (omega arith) ∙ ap (λ (n : ℕ). n + σ .finder .«minimum_index» - 1) m))
 
-    max-over : 4294967296 ≤ total → max-index (finderShown k s σ) ≡ wraps
+    max-over : 4294967296 ≤ total → max-index (finderShown s σ) ≡ wraps
     unfolding max-index
     max-over w = simp (counted, ne-eqb _ _ nz, whole, le-ltb _ _ w)
 
@@ -85,21 +85,21 @@ module _ (k : ℕ) (s : List ℕ) (σ : State) (claim : σ .finder .held ≤ len
   pub max-same : total < 4294967296 → Highest
   max-same w = by-order (σ .finder .held) 0 (λ z. max-empty (omega arith)) λ z. max-fits z w
 
-  pub max-equal : Equal (max-index (finderShown k s σ)) (answered (maxIndexBy (2 ^ k) (σ .finder)))
+  pub max-equal : Equal (max-index (finderShown s σ)) (answered (maxIndexOf (σ .finder)))
   max-equal =
       by-order (σ .finder .held) 0 (λ z. max-empty (omega arith) .equal)
       λ z. by-order 4294967296 total (λ w. equal-wraps _ _ (max-over z w)) λ w. max-fits z w .equal
 
 -- ---- find
-module _ (k : ℕ) (s : List ℕ) (σ : State) (ok : Ready s σ) (few : σ .finder .held * 2 ^ k < 4294967296) (i : ItemIndex) where
+module _ (s : List ℕ) (σ : State) (ok : Ready s σ) (few : σ .finder .held * blockOf (σ .finder) < 4294967296) (i : ItemIndex) where
   abbrev n : ℕ
   n = numberIn i
 
   abbrev f : ItemFinder
-  f = finderShown k s σ
+  f = finderShown s σ
 
   abbrev Finds : Rust Item → Type 0
-  Finds r = Same r (unlinked s (findBy (2 ^ k) s σ i))
+  Finds r = Same r (unlinked s (findOf s σ i))
 
   held-places : length (front (σ .finder .held) (σ .table)) ≡ σ .finder .held
   held-places = length-take-le (σ .finder .held) (σ .table) (ok .held)
@@ -109,19 +109,19 @@ module _ (k : ℕ) (s : List ℕ) (σ : State) (ok : Ready s σ) (few : σ .find
 
   below : n < σ .finder .«minimum_index» → Finds (find f n)
   unfolding find
-  below h = same-gives (find f n) (record { index = n; bytes = PRIMITIVE-TYPE }) _ (simp (lt-ltb _ _ h)) (simp (find-marker (2 ^ k) s σ i n ok h))
+  below h = same-gives (find f n) (record { index = n; bytes = PRIMITIVE-TYPE }) _ (simp (lt-ltb _ _ h)) (simp (find-marker s σ i n ok h))
 
   module _ (a : σ .finder .«minimum_index» ≤ n) where
     above : σ .finder .«maximum_index» < n → Finds (find f n)
     unfolding find
-    above h = same-errs (find f n) (TypeNotFound n) _ (simp (le-ltb _ _ a, lt-ltb _ _ h)) (simp (find-above (2 ^ k) s σ i n ok a h))
+    above h = same-errs (find f n) (TypeNotFound n) _ (simp (le-ltb _ _ a, lt-ltb _ _ h)) (simp (find-above s σ i n ok a h))
 
     module _ (u : n ≤ σ .finder .«maximum_index») where
       abbrev q : ℕ
-      q = (n - σ .finder .«minimum_index») / 2 ^ k
+      q = (n - σ .finder .«minimum_index») / blockOf (σ .finder)
 
       abbrev r : ℕ
-      r = (n - σ .finder .«minimum_index») % 2 ^ k
+      r = (n - σ .finder .«minimum_index») % blockOf (σ .finder)
 
       to : find f n ≡ if-some (getElem? (front (σ .finder .held) (σ .table)) q) (hit f n r) (miss f n)
       unfolding find
@@ -134,15 +134,15 @@ module _ (k : ℕ) (s : List ℕ) (σ : State) (ok : Ready s σ) (few : σ .find
         missed = to ∙ ap (λ o. if-some o (hit f n r) (miss f n)) (get-out (front (σ .finder .held) (σ .table)) q (rw held-places h))
 
         -- where the crate's highest index wraps, so does its answer
-        miss-equal : Equal (find f n) (unlinked s (findBy (2 ^ k) s σ i))
+        miss-equal : Equal (find f n) (unlinked s (findOf s σ i))
         miss-equal =
-            subst (λ (x : Rust Item). Equal x (unlinked s (findBy (2 ^ k) s σ i))) (sym missed)
-            (rw (find-unheld (2 ^ k) s σ i n ok a u h)
-            (bind-equal (max-index f) (answered (maxIndexBy (2 ^ k) (σ .finder))) (λ m. m) (λ top. errs (TypeNotIndexed n top)) (λ m. refused 9 (n ∷ m ∷ []))
-            (unlinked s) (unlinked-numbered s) (max-equal k s σ (ok .held) few) (λ m e. refl)))
+            subst (λ (x : Rust Item). Equal x (unlinked s (findOf s σ i))) (sym missed)
+            (rw (find-unheld s σ i n ok a u h)
+            (bind-equal (max-index f) (answered (maxIndexOf (σ .finder))) (λ m. m) (λ top. errs (TypeNotIndexed n top)) (λ m. refused 9 (n ∷ m ∷ []))
+            (unlinked s) (unlinked-numbered s) (max-equal s σ (ok .shift) (ok .held) few) (λ m e. refl)))
 
-        miss-same : σ .finder .held * 2 ^ k + σ .finder .«minimum_index» < 4294967296 → Finds (find f n)
-        miss-same w = record { stays = subst (λ (x : Rust Item). Stays x) (sym missed) (stays-bind (max-index f) _ (max-same k s σ (ok .held) few w .stays) (λ m. tt)); equal = miss-equal }
+        miss-same : σ .finder .held * blockOf (σ .finder) + σ .finder .«minimum_index» < 4294967296 → Finds (find f n)
+        miss-same w = record { stays = subst (λ (x : Rust Item). Stays x) (sym missed) (stays-bind (max-index f) _ (max-same s σ (ok .shift) (ok .held) few w .stays) (λ m. tt)); equal = miss-equal }
 
       -- a held place
       module _ (h : q < σ .finder .held) where
@@ -157,8 +157,8 @@ module _ (k : ℕ) (s : List ℕ) (σ : State) (ok : Ready s σ) (few : σ .find
         goes : find f n ≡ hit f n r p
         goes = to ∙ ap (λ o. if-some o (hit f n r) (miss f n)) place
 
-        found : findBy (2 ^ k) s σ i ≡ landed i r (linkOf s p r)
-        found = find-held (2 ^ k) s σ i n ok a u h
+        found : findOf s σ i ≡ landed i r (linkOf s p r)
+        found = find-held s σ i n _ refl ok a u h
 
         outside : length s < p → Finds (find f n)
         unfolding hit
@@ -199,7 +199,7 @@ module _ (k : ℕ) (s : List ℕ) (σ : State) (ok : Ready s σ) (few : σ .find
         held : Finds (find f n)
         held = by-order p (length s) (λ g. along g (chain s p r) refl) outside
 
-  pub find-equal : Equal (find f n) (unlinked s (findBy (2 ^ k) s σ i))
+  pub find-equal : Equal (find f n) (unlinked s (findOf s σ i))
   find-equal =
       by-order (σ .finder .«minimum_index») n
       (λ a. by-order n (σ .finder .«maximum_index»)
@@ -207,7 +207,7 @@ module _ (k : ℕ) (s : List ℕ) (σ : State) (ok : Ready s σ) (few : σ .find
       (λ u. above a u .equal)) λ a. below a .equal
 
   -- the crate neither panics nor wraps where its highest index fits
-  pub find-same : σ .finder .held * 2 ^ k + σ .finder .«minimum_index» < 4294967296 → Same (find f n) (unlinked s (findBy (2 ^ k) s σ i))
+  pub find-same : σ .finder .held * blockOf (σ .finder) + σ .finder .«minimum_index» < 4294967296 → Same (find f n) (unlinked s (findOf s σ i))
   find-same w =
       by-order (σ .finder .«minimum_index») n
       (λ a. by-order n (σ .finder .«maximum_index»)

@@ -23,7 +23,7 @@ use Rattle.stream_item.specs.declared.Entry.{Entry}
 use Rattle.stream_item.specs.declared.Entry.the-variants.{Record, Marker}
 use Rattle.stream_item.specs.declared.ItemIndex.{ItemIndex}
 use Rattle.stream_item.specs.declared.ItemIndex.the-variants.{Types, Ids}
-use Rattle.stream_finder.specs.Finder.{begunOf, createOf, createBy}
+use Rattle.stream_finder.specs.Finder.{begunBy, createOf, createBy}
 use Rattle.claim_model.specs.Rust.{gives, _>>=_}
 use Rattle.claim_model.specs.TpiHeader.{parse-information}
 use Rattle.claim_model.specs.TpiItems.{iter, finder, item-len, item-is-empty, raw-kind, information-len, information-is-empty}
@@ -43,13 +43,13 @@ start-same tag s ok =
     bind-same (parse-information s) (headerOf s) (information s) iter (λ h. answered (first tag h)) (shownBy (iterShown s)) (shown-numbered (iterShown s)) (header s (ok .short))
     λ h e. iter-same tag s h (ok .short) (accepted s h ok e .inside)
 
-pub creation-same : (s t : List ℕ) → Lent s → Roomy (createOf s t) → Same (_>>=_ (parse-information s) finder) (shownBy (finderShown 3 s) (createOf s t))
+pub creation-same : (s t : List ℕ) → Lent s → Roomy (createOf s t) → Same (_>>=_ (parse-information s) finder) (shownBy (finderShown s) (createOf s t))
 unfolding createBy
 creation-same s t ok roomy =
-    bind-same (parse-information s) (headerOf s) (information s) finder (begunOf t) (shownBy (finderShown 3 s)) (shown-numbered (finderShown 3 s)) (header s (ok .short))
+    bind-same (parse-information s) (headerOf s) (information s) finder (begunBy 3 t) (shownBy (finderShown s)) (shown-numbered (finderShown s)) (header s (ok .short))
     λ h e.
     let a : Accepted s h = accepted s h ok e in
-    create-same s t h (a .counted) (a .round) (roomy-then (headerOf s) (begunOf t) h e roomy)
+    create-same s t h (a .counted) (a .round) (roomy-then (headerOf s) (begunBy 3 t) h e roomy)
 
 module _ (s : List ℕ) (ok : Lent s) where
   pub len-same : Same (_>>=_ (parse-information s) information-len) (lenOf s)

@@ -1,6 +1,6 @@
 -- A whole run is equal: its parts are, and each leaves what the next part's equality asks for. Assumes nothing.
-use Prim.Native.Nat.{ℕ, zero, suc, _+_, _-_, _*_, _/_, _%_, _≤_, _<_}
-use mathlib.Core.Path.{_≡_, refl, subst}
+use Prim.Native.Nat.{ℕ, zero, suc, _+_, _-_, _*_, _/_, _%_, _^_, _≤_, _<_}
+use mathlib.Core.Path.{_≡_, refl, ap, subst}
 use mathlib.Core.List.{List}
 use mathlib.Core.Bool.{Bool, true, false}
 use native.Mathlib.Omega.{arith}
@@ -17,7 +17,7 @@ use Rattle.stream_item.specs.declared.Stream.{Stream}
 use Rattle.stream_item.specs.declared.Item.{Item}
 use Rattle.stream_item.specs.declared.iter.ItemIter.{ItemIter}
 use Rattle.stream_item.proofs.NextLaws.{passed, Yields, yields}
-use Rattle.stream_finder.specs.Finder.{State, state, holding, begunOf, createBy, due, stored, updateOf, Found, findOf}
+use Rattle.stream_finder.specs.Finder.{State, state, blockOf, holding, begunBy, createBy, due, stored, updateOf, Found, findOf}
 use Rattle.stream_finder.proofs.FinderLaws.{begun-none, begun-full, begun-some, update-foreign, update-keeps, update-full, update-stores}
 use Rattle.claim_model.specs.Rust.{gives, _>>=_}
 use Rattle.claim_model.specs.ParseBuffer.{if-some}
@@ -83,27 +83,36 @@ accepted s h ok e =
         })
 
 -- ---- what a creation and an update leave
+
+-- a finder of shift 3 has blocks of eight
+pub eighths : (n : ℕ) (σ : State) → σ .finder .shift ≡ 3 → n / blockOf (σ .finder) ≡ n / 8
+eighths n σ e = ap (λ (x : ℕ). n / 2 ^ x) e
+
+pub eightfold : (σ : State) → σ .finder .shift ≡ 3 → σ .finder .held * blockOf (σ .finder) ≡ σ .finder .held * 8
+eightfold σ e = ap (λ (x : ℕ). σ .finder .held * 2 ^ x) e
+
 pub record Fit (s : List ℕ) (σ : State) : Type 0 where
+  pub shift : σ .finder .shift ≡ 3
   pub held : σ .finder .held ≤ length (σ .table)
   pub few : σ .finder .held * 8 < 4294967296
   pub low : 0 < length s → 4096 ≤ σ .finder .«minimum_index»
 
 -- a creation answers with one of two finders
 pub created-ind : (t : List ℕ) (h : Header) (P : State → Type 0) → P (state (holding h 3 0) t) → (0 < length t → P (state (holding h 3 1) (set t 0 (h .«header_size»))))
-    → (σ : State) → begunOf t h ≡ answered σ → P σ
+    → (σ : State) → begunBy 3 t h ≡ answered σ → P σ
 created-ind t h P p q σ e =
     by-order (h .«maximum_index») (h .«minimum_index»)
     (λ c.
-    let w : state (holding h 3 0) t ≡ σ = cc (begun-none 3 t h c) in
+    let w : state (holding h 3 0) t ≡ σ = cc (begun-none 3 t h (omega arith) c) in
     subst P w p)
     λ c.
     by-order (length t) 0
     (λ f.
-    let y = begun-full 3 t h c f in
+    let y = begun-full 3 t h (omega arith) c f in
     let z : _≡_ {A = ℕ} 0 1 = cc in
     absurd (omega arith))
     λ r.
-    let w : state (holding h 3 1) (set t 0 (h .«header_size»)) ≡ σ = cc (begun-some 3 t h c r) in
+    let w : state (holding h 3 1) (set t 0 (h .«header_size»)) ≡ σ = cc (begun-some 3 t h (omega arith) c r) in
     subst P w (q r)
 
 both-snd : (x y : Bool) → both x y ≡ true → y ≡ true
@@ -111,43 +120,48 @@ both-snd true y e = e
 both-snd false y e = let z : _≡_ {A = ℕ} 0 1 = cc in absurd (omega arith)
 
 -- an update answers with the finder as it was, or with one place more, whose number is the block's
-pub updated-ind : (σ : State) (c : ItemIter) → c .at ≤ longest → σ .finder .held ≤ length (σ .table) → (P : State → Type 0) → P σ
-    → (σ .finder .«minimum_index» ≤ c .index → (c .index - σ .finder .«minimum_index») / 8 ≡ σ .finder .held → σ .finder .held < length (σ .table) → P (stored σ (c .at)))
+pub updated-ind : (σ : State) (c : ItemIter) → c .at ≤ longest → σ .finder .shift ≤ 6 → σ .finder .held ≤ length (σ .table) → (P : State → Type 0) → P σ
+    → (σ .finder .«minimum_index» ≤ c .index → (c .index - σ .finder .«minimum_index») / blockOf (σ .finder) ≡ σ .finder .held → σ .finder .held < length (σ .table) → P (stored σ (c .at)))
     → (τ : State) → updateOf σ c ≡ answered τ → P τ
-updated-ind σ c a f P p q τ e =
-    by-order (σ .finder .«minimum_index») (c .index) (λ h. go h (due 8 (σ .finder) (c .index)) refl)
+updated-ind σ c a small f P p q τ e =
+    by-order (σ .finder .«minimum_index») (c .index) (λ h. go h (due (σ .finder) (c .index)) refl)
     λ h.
-    let y = update-foreign 8 σ c a f h in
+    let y = update-foreign σ c a small f h in
     let z : _≡_ {A = ℕ} 0 1 = cc in
     absurd (omega arith)
   where
-    go : σ .finder .«minimum_index» ≤ c .index → (b : Bool) → due 8 (σ .finder) (c .index) ≡ b → P τ
+    go : σ .finder .«minimum_index» ≤ c .index → (b : Bool) → due (σ .finder) (c .index) ≡ b → P τ
     go h false d =
-        let w : σ ≡ τ = cc (update-keeps 8 σ c (record { at = a; held = f; index = h }) d) in
+        let w : σ ≡ τ = cc (update-keeps σ c (record { at = a; shift = small; held = f; index = h }) d) in
         subst P w p
     go h true d =
         by-order (length (σ .table)) (σ .finder .held)
         (λ u.
-        let y = update-full 8 σ c (record { at = a; held = f; index = h }) d u in
+        let y = update-full σ c (record { at = a; shift = small; held = f; index = h }) d u in
         let z : _≡_ {A = ℕ} 0 1 = cc in
         absurd (omega arith))
         λ r.
-        let w : stored σ (c .at) ≡ τ = cc (update-stores 8 σ c (record { at = a; held = f; index = h }) d r) in
-        let b : (c .index - σ .finder .«minimum_index») / 8 ≡ σ .finder .held =
-        eqb-true _ _ (both-snd (eqb ((c .index - σ .finder .«minimum_index») % 8) 0) (eqb ((c .index - σ .finder .«minimum_index») / 8) (σ .finder .held)) d) in
+        let w : stored σ (c .at) ≡ τ = cc (update-stores σ c (record { at = a; shift = small; held = f; index = h }) d r) in
+        let b : (c .index - σ .finder .«minimum_index») / blockOf (σ .finder) ≡ σ .finder .held =
+        eqb-true _ _ (both-snd (eqb ((c .index - σ .finder .«minimum_index») % blockOf (σ .finder)) 0) (eqb ((c .index - σ .finder .«minimum_index») / blockOf (σ .finder)) (σ .finder .held)) d) in
         subst P w (q h b r)
 
-fit-created : (s t : List ℕ) (h : Header) (σ : State) → Accepted s h → begunOf t h ≡ answered σ → Fit s σ
+fit-created : (s t : List ℕ) (h : Header) (σ : State) → Accepted s h → begunBy 3 t h ≡ answered σ → Fit s σ
 fit-created s t h σ a =
-    created-ind t h (Fit s) (record { held = omega arith; few = omega arith; low = a .low })
-    (λ r. record { held = rw length-set r; few = omega arith; low = a .low }) σ
+    created-ind t h (Fit s) (record { shift = refl; held = omega arith; few = omega arith; low = a .low })
+    (λ r. record { shift = refl; held = rw length-set r; few = omega arith; low = a .low }) σ
 
 fit-updated : (s : List ℕ) (σ : State) (d : ItemIter) (τ : State) → d .at ≤ longest → d .index ≤ 4294967295 → 0 < length s → Fit s σ → updateOf σ d ≡ answered τ → Fit s τ
 fit-updated s σ d τ a i z f =
-    updated-ind σ d a (f .held) (Fit s) f
+    updated-ind σ d a (omega (arith, f .shift)) (f .held) (Fit s) f
     (λ h b r.
     let m : 4096 ≤ σ .finder .«minimum_index» = f .low z in
-    record { held = rw length-set (omega arith); few = omega arith; low = f .low }) τ
+    record {
+      shift = f .shift;
+      held = rw length-set (omega arith);
+      few = omega (arith, eighths (d .index - σ .finder .«minimum_index») σ (f .shift));
+      low = f .low;
+    }) τ
 
 -- ---- where a step leaves the iterator
 pub record Stood (s : List ℕ) (d : ItemIter) : Type 0 where
@@ -166,7 +180,7 @@ stood s c i d e =
 
 -- ---- the turns
 abbrev pub standing : List ℕ → ItemIter × State → CrateIter × CrateFinder
-standing s (c, σ) = (iterShown s c, finderShown 3 s σ)
+standing s (c, σ) = (iterShown s c, finderShown s σ)
 
 module _ (s : List ℕ) where
   fit-turns : (n : ℕ) (c : ItemIter) (σ : State) (d : ItemIter) (τ : State) → Fit s σ → turns s n c σ ≡ answered (d, τ) → Fit s τ
@@ -190,37 +204,37 @@ module _ (s : List ℕ) where
       step (refused m x) u q ih = let z : _≡_ {A = ℕ} 0 1 = cc in absurd (omega arith)
 
   pub tour-equal : (n : ℕ) (c : ItemIter) (σ : State) → CanStand s c → Fit s σ → Roomy (turns s n c σ)
-      → Equal (tour n (iterShown s c) (finderShown 3 s σ)) (shownBy (standing s) (turns s n c σ))
+      → Equal (tour n (iterShown s c) (finderShown s σ)) (shownBy (standing s) (turns s n c σ))
   unfolding tour turns
   tour-equal zero c σ ok f roomy = refl
   tour-equal (suc n) c σ ok f roomy =
-      bind-equal (next (iterShown s c)) (nextOf s c) (nextShown s c) (λ (typ, it). if-some typ (λ _. _>>=_ (update (finderShown 3 s σ) it) (λ g. tour n it g)) (gives (it, finderShown 3 s σ)))
+      bind-equal (next (iterShown s c)) (nextOf s c) (nextShown s c) (λ (typ, it). if-some typ (λ _. _>>=_ (update (finderShown s σ) it) (λ g. tour n it g)) (gives (it, finderShown s σ)))
       (followed c σ (λ d τ. turns s n d τ)) (shownBy (standing s)) (shown-numbered (standing s)) (next-equal s c ok)
       (λ x e. step x e (roomy-then (nextOf s c) (followed c σ (λ d τ. turns s n d τ)) x e roomy) (λ d τ. tour-equal n d τ))
     where
       step : (x : Next) → nextOf s c ≡ answered x → Roomy (followed c σ (λ d τ. turns s n d τ) x)
-          → ((d : ItemIter) (τ : State) → CanStand s d → Fit s τ → Roomy (turns s n d τ) → Equal (tour n (iterShown s d) (finderShown 3 s τ)) (shownBy (standing s) (turns s n d τ)))
-          → Equal (if-some (nextShown s c x .0) (λ _. _>>=_ (update (finderShown 3 s σ) (nextShown s c x .1)) (λ g. tour n (nextShown s c x .1) g)) (gives (nextShown s c x .1, finderShown 3 s σ)))
+          → ((d : ItemIter) (τ : State) → CanStand s d → Fit s τ → Roomy (turns s n d τ) → Equal (tour n (iterShown s d) (finderShown s τ)) (shownBy (standing s) (turns s n d τ)))
+          → Equal (if-some (nextShown s c x .0) (λ _. _>>=_ (update (finderShown s σ) (nextShown s c x .1)) (λ g. tour n (nextShown s c x .1) g)) (gives (nextShown s c x .1, finderShown s σ)))
           (shownBy (standing s) (followed c σ (λ d τ. turns s n d τ) x))
       step done e r ih = refl
       step (yielded i d) e r ih =
           let y : Stood s d = stood s c i d e in
-          bind-equal (update (finderShown 3 s σ) (iterShown s d)) (updateOf σ d) (finderShown 3 s) (λ g. tour n (iterShown s d) g)
+          bind-equal (update (finderShown s σ) (iterShown s d)) (updateOf σ d) (finderShown s) (λ g. tour n (iterShown s d) g)
           (λ τ. turns s n d τ) (shownBy (standing s)) (shown-numbered (standing s))
-          (update-equal 3 s σ d (y .at) (f .held) (roomy-first (updateOf σ d) (λ τ. turns s n d τ) r))
+          (update-equal s σ d (y .at) (omega (arith, f .shift)) (f .held) (roomy-first (updateOf σ d) (λ τ. turns s n d τ) r))
           λ τ u. ih d τ (y .stands) (fit-updated s σ d τ (y .at) (y .stands .index) (y .some) f u) (roomy-then (updateOf σ d) (λ τ. turns s n d τ) τ u r)
 
 -- ---- the run
 -- the port's run, its header read once
 unfoldable pub once : Stream → List ℕ → List ℕ → ℕ → ℕ → Header → Answer Found
-once tag s t n i h = then (begunOf t h) λ σ. then (turns s n (first tag h) σ) λ (d, τ). findOf s τ (indexIn tag i)
+once tag s t n i h = then (begunBy 3 t h) λ σ. then (turns s n (first tag h) σ) λ (d, τ). findOf s τ (indexIn tag i)
 
 pub run-once : (tag : Stream) (s t : List ℕ) (n i : ℕ) → portRun tag s t n i ≡ then (headerOf s) (once tag s t n i)
 unfolding portRun createBy iterOf once
 run-once tag s t n i = go (headerOf s)
   where
     go : (a : Answer Header)
-        → then (then a (begunOf t)) (λ σ. then (then a (λ h. answered (first tag h))) λ c. then (turns s n c σ) λ (d, τ). findOf s τ (indexIn tag i))
+        → then (then a (begunBy 3 t)) (λ σ. then (then a (λ h. answered (first tag h))) λ c. then (turns s n c σ) λ (d, τ). findOf s τ (indexIn tag i))
         ≡ then a (once tag s t n i)
     go (answered h) = refl
     go (refused m d) = refl
@@ -234,21 +248,21 @@ run-equal tag s t n i ok roomy′ =
     λ h e.
     let a : Accepted s h = accepted s h ok e in
     let r₁ = roomy-then (headerOf s) (once tag s t n i) h e roomy in
-    bind-equal (finder (information s h)) (begunOf t h) (finderShown 3 s) _ (λ σ. then (turns s n (first tag h) σ) λ (d, τ). findOf s τ (indexIn tag i)) (unlinked s) (unlinked-numbered s)
-    (create-equal s t h (roomy-first (begunOf t h) _ r₁))
+    bind-equal (finder (information s h)) (begunBy 3 t h) (finderShown s) _ (λ σ. then (turns s n (first tag h) σ) λ (d, τ). findOf s τ (indexIn tag i)) (unlinked s) (unlinked-numbered s)
+    (create-equal s t h (roomy-first (begunBy 3 t h) _ r₁))
     λ σ e₂.
     let f : Fit s σ = fit-created s t h σ a e₂ in
-    let r₂ = roomy-then (begunOf t h) (λ σ. then (turns s n (first tag h) σ) λ (d, τ). findOf s τ (indexIn tag i)) σ e₂ r₁ in
+    let r₂ = roomy-then (begunBy 3 t h) (λ σ. then (turns s n (first tag h) σ) λ (d, τ). findOf s τ (indexIn tag i)) σ e₂ r₁ in
     let stand : CanStand s (first tag h) = record { short = ok .short; inside = a .inside; index = a .index } in
     bind-equal (iter (information s h)) (answered (first tag h)) (iterShown s) _ (λ c. then (turns s n c σ) λ (d, τ). findOf s τ (indexIn tag i)) (unlinked s) (unlinked-numbered s)
     (iter-equal tag s h (ok .short))
     λ c e₃.
     let w : first tag h ≡ c = cc in
-    subst (λ (x : ItemIter). Equal (_>>=_ (tour n (iterShown s x) (finderShown 3 s σ)) (λ (it, g). find g i)) (unlinked s (then (turns s n x σ) λ (d, τ). findOf s τ (indexIn tag i)))) w
-    (bind-equal (tour n (iterShown s (first tag h)) (finderShown 3 s σ)) (turns s n (first tag h) σ) (standing s) (λ (it, g). find g i) (λ (d, τ). findOf s τ (indexIn tag i))
+    subst (λ (x : ItemIter). Equal (_>>=_ (tour n (iterShown s x) (finderShown s σ)) (λ (it, g). find g i)) (unlinked s (then (turns s n x σ) λ (d, τ). findOf s τ (indexIn tag i)))) w
+    (bind-equal (tour n (iterShown s (first tag h)) (finderShown s σ)) (turns s n (first tag h) σ) (standing s) (λ (it, g). find g i) (λ (d, τ). findOf s τ (indexIn tag i))
     (unlinked s) (unlinked-numbered s)
     (tour-equal s n (first tag h) σ stand f (roomy-first (turns s n (first tag h) σ) _ r₂))
     λ x e₄.
     let g : Fit s (x .1) = fit-turns s n (first tag h) σ (x .0) (x .1) f e₄ in
-    subst (λ (m : ℕ). Equal (find (finderShown 3 s (x .1)) m) (unlinked s (findOf s (x .1) (indexIn tag i)))) (number-in tag i)
-    (find-equal 3 s (x .1) (record { short = ok .short; held = g .held }) (g .few) (indexIn tag i))))
+    subst (λ (m : ℕ). Equal (find (finderShown s (x .1)) m) (unlinked s (findOf s (x .1) (indexIn tag i)))) (number-in tag i)
+    (find-equal s (x .1) (record { short = ok .short; shift = omega (arith, g .shift); held = g .held }) (omega (arith, eightfold (x .1) (g .shift), g .few)) (indexIn tag i))))

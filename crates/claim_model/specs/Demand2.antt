@@ -30,7 +30,7 @@ use Rattle.stream_item.specs.declared.ItemIndex.{ItemIndex}
 use Rattle.stream_item.specs.declared.ItemIndex.the-variants as index
 use Rattle.stream_item.specs.declared.Entry.{Entry}
 use Rattle.stream_item.specs.declared.iter.ItemIter.{ItemIter}
-use Rattle.stream_finder.specs.Finder.{State, createOf, updateOf, maxIndexOf, findOf}
+use Rattle.stream_finder.specs.Finder.{State, blockOf, createOf, updateOf, maxIndexOf, findOf}
 use Rattle.stream_finder.specs.Places.{Ready}
 use Rattle.record_layout.specs.Layouts.{idLeaves, recordOf}
 use Rattle.record_id.specs.Said.{saidIdData}
@@ -69,15 +69,15 @@ pub record Demand2 : Type 0 where
   pub none-long : (s : List ℕ) (e : Entry) → Within s e → item-is-empty (entryShown s e) ≡ eqb (lengthOf e) 0
   pub raw-kinds : (t p : List ℕ) → Lent t → Lent p → (e : Entry) → Within (named t p (indexOf e)) e
       → Equal (raw-kind (entryShown (named t p (indexOf e)) e)) (rawKindOf t p e)
-  -- "Finder": a fresh finder of a stream, and `update`, `find` and `max_index` for any places held in a table that does not lack room; the places
-  -- fit a u32 times 8
-  pub creations : (s t : List ℕ) → Lent s → Roomy (createOf s t) → Same (_>>=_ (parse-information s) finder) (shownBy (finderShown 3 s) (createOf s t))
-  pub updates : (s : List ℕ) (σ : State) (c : ItemIter) → c .at ≤ longest → σ .finder .held ≤ length (σ .table) → Roomy (updateOf σ c)
-      → Equal (update (finderShown 3 s σ) (iterShown s c)) (shownBy (finderShown 3 s) (updateOf σ c))
-  pub lookups : (s : List ℕ) (σ : State) → Ready s σ → σ .finder .held * 8 < 4294967296 → (i : ItemIndex)
-      → Equal (find (finderShown 3 s σ) (numberIn i)) (unlinked s (findOf s σ i))
-  pub highest : (s : List ℕ) (σ : State) → σ .finder .held ≤ length (σ .table) → σ .finder .held * 8 < 4294967296
-      → Equal (max-index (finderShown 3 s σ)) (answered (maxIndexOf (σ .finder)))
+  -- "Finder": a fresh finder of a stream, whose shift is 3 in both; and `update`, `find` and `max_index` for any places held in a table that does not
+  -- lack room, the crate's finder having the port's shift, from 0 to 6; the places fit a u32 times the block
+  pub creations : (s t : List ℕ) → Lent s → Roomy (createOf s t) → Same (_>>=_ (parse-information s) finder) (shownBy (finderShown s) (createOf s t))
+  pub updates : (s : List ℕ) (σ : State) (c : ItemIter) → c .at ≤ longest → σ .finder .shift ≤ 6 → σ .finder .held ≤ length (σ .table) → Roomy (updateOf σ c)
+      → Equal (update (finderShown s σ) (iterShown s c)) (shownBy (finderShown s) (updateOf σ c))
+  pub lookups : (s : List ℕ) (σ : State) → Ready s σ → σ .finder .held * blockOf (σ .finder) < 4294967296 → (i : ItemIndex)
+      → Equal (find (finderShown s σ) (numberIn i)) (unlinked s (findOf s σ i))
+  pub highest : (s : List ℕ) (σ : State) → σ .finder .shift ≤ 6 → σ .finder .held ≤ length (σ .table) → σ .finder .held * blockOf (σ .finder) < 4294967296
+      → Equal (max-index (finderShown s σ)) (answered (maxIndexOf (σ .finder)))
   -- from the header to a lookup, n turns of `next` and `update` between; and how far the domain reaches: minimum + 8 (n + 1) below 2 ^ 32
   pub runs : RunsEqual
   pub reach : RunsSame

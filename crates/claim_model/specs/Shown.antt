@@ -85,14 +85,14 @@ abbrev pub nextShown : List ℕ → PortIter → Next → Option Item × ItemIte
 nextShown s c done = (none, iterShown s c)
 nextShown s c (yielded i d) = (some (itemShown s i), iterShown s d)
 
--- where the port lends a table and says how many of its places are held, the crate has a `Vec` of them; the port's blocks are the crate's of this shift
-abbrev pub finderShown : ℕ → List ℕ → State → ItemFinder
-finderShown shift s σ = record {
+-- where the port lends a table and says how many of its places are held, the crate has a `Vec` of them; both have a shift of their own
+abbrev pub finderShown : List ℕ → State → ItemFinder
+finderShown s σ = record {
   buffer = at s 0;
   minimum-index = σ .finder .«minimum_index»;
   maximum-index = σ .finder .«maximum_index»;
   positions = front (σ .finder .held) (σ .table);
-  shift = shift;
+  shift = σ .finder .shift;
 }
 
 -- what `find` answers, without the links passed, which the crate does not report

@@ -1,11 +1,11 @@
 -- Demand 1 is met: each field by its law. Assumes nothing.
 use Rattle.answer.proofs.OneOutcome.{in-table}
-use Rattle.stream_finder.specs.Finder.{state, createOf, updateOf}
+use Rattle.stream_finder.specs.Finder.{state, createBy, updateOf}
 use mathlib.Core.Path.{sym, ap, _∙_}
 use Rattle.stream_index.specs.Walk.{turnOf, saidEnd}
 use Rattle.record_list.specs.Lists.{stepOf}
 use Rattle.claim_promises.proofs.ReadingRefuses.{fixed-refuses, signed-refuses, optional-refuses, string-refuses, counted-refuses, string-of-refuses, bytes-refuses, padding-refuses, numeric-refuses, size-refuses}
-use Rattle.claim_promises.proofs.StreamRefuses.{primitive-refuses, kind-refuses, mode-refuses, to-member-refuses, reference-refuses, pointer-size-refuses, header-refuses, iter-refuses, len-refuses, is-empty-refuses, next-refuses, view-refuses, raw-kind-refuses, create-refuses, update-refuses, find-refuses, turn-refuses, type-refuses, id-refuses, member-refuses, method-refuses, start-refuses, step-refuses, element-by-refuses, element-refuses, element-ids-refuses, parse-refuses}
+use Rattle.claim_promises.proofs.StreamRefuses.{primitive-refuses, kind-refuses, mode-refuses, to-member-refuses, reference-refuses, pointer-size-refuses, header-refuses, iter-refuses, len-refuses, is-empty-refuses, next-refuses, view-refuses, raw-kind-refuses, create-refuses, create-by-refuses, update-refuses, find-refuses, turn-refuses, type-refuses, id-refuses, member-refuses, method-refuses, start-refuses, step-refuses, element-by-refuses, element-refuses, element-ids-refuses, parse-refuses}
 use Rattle.claim_promises.proofs.LeftAlone.{leaves-alone, changes-nothing, leads-nowhere, steps-nowhere}
 use Rattle.claim_promises.specs.Demand1.{Demand1}
 
@@ -36,6 +36,7 @@ demand1 = record {
   views = view-refuses;
   raw-kinds = raw-kind-refuses;
   creations = create-refuses;
+  creations-by = create-by-refuses;
   updates = update-refuses;
   finds = find-refuses;
   turns = turn-refuses;
@@ -49,10 +50,10 @@ demand1 = record {
   elements-on = element-by-refuses;
   elements = element-refuses;
   id-elements = element-ids-refuses;
-  create-keeps = λ s t. leaves-alone t (createOf s t);
+  create-keeps = λ shift s t. leaves-alone t (createBy shift s t);
   update-keeps = λ f t c. leaves-alone t (updateOf (state f t) c);
   turn-keeps = λ s f t c. leads-nowhere t (turnOf s (state f t) c);
-  index-all-keeps = λ tag s t e t′ h. h .1;
+  index-all-keeps = λ shift tag s t e t′ h. h .1;
   index-on-keeps = λ s f t c r t′ e w h. sym (w .ended) ∙ ap saidEnd h;
   lent-update-keeps = λ σ c. changes-nothing σ (updateOf σ c);
   step-keeps = λ s c. steps-nowhere c (stepOf s c);

@@ -16,7 +16,7 @@ use Rattle.stream_item.specs.declared.Item.{Item}
 use Rattle.stream_item.specs.declared.Entry.{Entry}
 use Rattle.stream_item.specs.declared.iter.ItemIter.{ItemIter}
 use Rattle.stream_finder.specs.Finder.{State, updateOf}
-use Rattle.stream_index.specs.Walk.{updating, turnBy, turnOf}
+use Rattle.stream_index.specs.Walk.{updating, turnOf}
 use Rattle.record_layout.specs.Fields.{Value, Field, wordAfter, readField, readFields}
 use Rattle.record_layout.specs.Layouts.{Layout, Table, readLeaf, leafOf, recordOf}
 use Rattle.record_list.specs.Lists.{stepOf, elementBy}
@@ -35,12 +35,12 @@ unfolding parseOf among
 entries-16 t p e = streams.view-long t p (parsedOf t p e) (not-by 16 refl (parsed-refuses t p e))
 
 turns-update : (s : List ℕ) (σ : State) (c : ItemIter) (i : Item) (c′ : ItemIter) → nextOf s c ≡ answered (yielded i c′) → refusalOf (turnOf s σ c) ≡ refusalOf (updateOf σ c′)
-unfolding turnBy
+unfolding turnOf
 turns-update s σ c i c′ e = rw e (carried _ (updateOf σ c′))
 
 turns-next : (s : List ℕ) (σ : State) (c : ItemIter) (n : ℕ) (d : List ℕ) → nextOf s c ≡ refused n d → turnOf s σ c ≡ refused n d
-unfolding turnBy
-turns-next s σ c n d e = ap (λ x. then x (updating 8 σ)) e
+unfolding turnOf
+turns-next s σ c n d e = ap (λ x. then x (updating σ)) e
 
 records-fields : (table : Table) (s : List ℕ) (fs : Layout) → 2 ≤ length s → find (littleAt 2 s 0) table ≡ some fs → refusalOf (recordOf table s) ≡ refusalOf (readFields fs 0 s 2)
 unfolding recordOf leafOf readLeaf
@@ -113,6 +113,9 @@ exactly-when = record {
   entries-16 = entries-16;
   updates-16 = streams.updates-16;
   finds-16 = streams.finds-16;
+  creations-26 = streams.creations-26;
+  updates-26 = streams.updates-26;
+  finds-26 = streams.finds-26;
   turns-next = turns-next;
   turns-update = turns-update;
   records-fields = records-fields;

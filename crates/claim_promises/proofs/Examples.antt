@@ -10,10 +10,10 @@ use Rattle.word_attributes.specs.Pointers.{pointerKinds, pointerModes, kindOf, 
 use Rattle.stream_header.specs.Header.{headerOf}
 use Rattle.stream_item.specs.Links.{linkAt, chain, linkOf}
 use Rattle.stream_item.specs.Iterator.{iterOf, nextOf}
-use Rattle.stream_finder.specs.Finder.{begunBy, createBy, maxIndexBy, lookBy}
+use Rattle.stream_finder.specs.Finder.{begunBy, createBy, maxIndexOf, lookOf}
 use Rattle.claim_promises.specs.Examples.{examples, asked, given}
 
 -- every line holds
 pub examples-hold : map asked examples ≡ map given examples
-unfolding examples iterOf headerOf nextOf littleAt createBy begunBy lookBy linkOf chain linkAt maxIndexBy kindOf modeOf sizeOf find pointerKinds pointerModes paddingAfter pad primitiveOf kinds indirections
+unfolding examples iterOf headerOf nextOf littleAt createBy begunBy lookOf linkOf chain linkAt maxIndexOf kindOf modeOf sizeOf find pointerKinds pointerModes paddingAfter pad primitiveOf kinds indirections
 examples-hold = refl

@@ -29,9 +29,9 @@ use Rattle.stream_item.specs.declared.link.Hit.{Hit}
 use Rattle.stream_item.specs.declared.link.Hit.the-variants.{Landed, Missed}
 use Rattle.stream_item.proofs.NextLaws.{next-long, next-past, next-length, next-short, next-payload, next-used}
 use Rattle.stream_view.specs.Views.{partOf, named, shortOf, entryOf, viewOf, kindAt, entryKind, rawKindOf}
-use Rattle.stream_finder.specs.Finder.{State, distance, begunBy, createOf, createBy, due, stored, updateBy, updateOf, landed, maxIndexBy, maxIndexOf, lookBy, Found, findOf}
+use Rattle.stream_finder.specs.Finder.{State, blockOf, distance, begunBy, createBy, due, stored, updateOf, landed, maxIndexOf, lookOf, Found, findOf}
 use Rattle.stream_finder.specs.Places.{Ready}
-use Rattle.stream_finder.proofs.FinderLaws.{begun-full, create-is, Open, update-long, update-claims, update-foreign, update-full, due-yes, find-long, find-claims, find-above, find-unheld, find-held}
+use Rattle.stream_finder.proofs.FinderLaws.{begun-shift, begun-full, create-is, Open, update-long, update-shift, update-claims, update-foreign, update-full, due-yes, find-long, find-shift, find-claims, find-above, find-unheld, find-held}
 use Rattle.record_parse.specs.Record.{Parsed, entryOf as parsedOf, parseOf}
 use Rattle.claim_promises.specs.Given.{by, Given, refusalOf}
 use Rattle.claim_promises.specs.ExactlyWhen.{lengthAt, Short, Good, Inside, block, skipped, walked, Breaks, brokeAfter, Due}
@@ -265,51 +265,74 @@ module _ (t p : List ℕ) where
 
 -- ---- the finder
 
-module _ (s t : List ℕ) where
-  pub creations : (n : ℕ) (d : List ℕ) → headerOf s ≡ refused n d → createOf s t ≡ refused n d
-  creations n d e = create-is 3 s t (refused n d) e
+module _ (shift : ℕ) (s t : List ℕ) where
+  pub creations : (n : ℕ) (d : List ℕ) → headerOf s ≡ refused n d → createBy shift s t ≡ refused n d
+  creations n d e = create-is shift s t (refused n d) e
 
-  full-only : (h : Header) → by 13 (begunBy 3 t h) ≡ true → (h .«minimum_index» < h .«maximum_index») × (length t ≡ 0)
+  -- the ways in which a creation refuses whose header is accepted
+  begun-ways : {P : Type 0} (n : ℕ) (h : Header)
+      → (6 < shift → eqb 26 n ≡ true → P)
+      → (shift ≤ 6 → h .«minimum_index» < h .«maximum_index» → length t ≤ 0 → eqb 13 n ≡ true → P)
+      → by n (begunBy shift t h) ≡ true → P
   unfolding begunBy
-  full-only h =
-      at-pick 13 (ltb (h .«minimum_index») (h .«maximum_index»)) _ _ (λ a.
-      at-stop 13 (leb (length t) 0) 13 _ (λ b _. (ltb-true _ _ a, (let z : length t ≤ 0 = leb-true _ _ b in omega arith))) (λ _. off)) (λ _. off)
+  begun-ways n h large full =
+      at-stop n (ltb 6 shift) 26 _ (λ a. large (ltb-true _ _ a)) (λ a.
+      at-pick n (ltb (h .«minimum_index») (h .«maximum_index»)) _ _ (λ b.
+      at-stop n (leb (length t) 0) 13 _ (λ c. full (ltb-false _ _ a) (ltb-true _ _ b) (leb-true _ _ c)) (λ _. off)) (λ _. off))
 
-  pub creations-13 : (h : Header) → headerOf s ≡ answered h → Given 13 [] (createOf s t) ((h .«minimum_index» < h .«maximum_index») × (length t ≡ 0))
-  creations-13 h e = record {
-    when = λ (a, b). create-is 3 s t (answered h) e ∙ begun-full 3 t h a (let w : length t ≤ 0 = omega arith in w);
-    only = λ y. full-only h (ap (by 13) (sym (create-is 3 s t (answered h) e)) ∙ y);
-  }
+  module _ (h : Header) (e : headerOf s ≡ answered h) where
+    begun-by : (n : ℕ) → by n (createBy shift s t) ≡ true → by n (begunBy shift t h) ≡ true
+    begun-by n y = ap (by n) (sym (create-is shift s t (answered h) e)) ∙ y
+
+    pub creations-13 : Given 13 [] (createBy shift s t) ((shift ≤ 6) × (h .«minimum_index» < h .«maximum_index») × (length t ≡ 0))
+    creations-13 = record {
+      when = λ (z, a, b). create-is shift s t (answered h) e ∙ begun-full shift t h z a (let w : length t ≤ 0 = omega arith in w);
+      only = λ y. begun-ways 13 h (λ _. off) (λ z a b _. let w : length t ≡ 0 = omega arith in (z, a, w)) (begun-by 13 y);
+    }
+
+    pub creations-26 : Given 26 [] (createBy shift s t) (6 < shift)
+    creations-26 = record {
+      when = λ a. create-is shift s t (answered h) e ∙ begun-shift shift t h a;
+      only = λ y. begun-ways 26 h (λ a _. a) (λ _ _ _. off) (begun-by 26 y);
+    }
 
 module _ (σ : State) (c : ItemIter) where
   update-ways : {P : Type 0} (n : ℕ)
       → (longest < c .at → eqb 16 n ≡ true → P)
-      → (c .at ≤ longest → length (σ .table) < σ .finder .held → eqb 13 n ≡ true → P)
-      → (c .at ≤ longest → σ .finder .held ≤ length (σ .table) → c .index < σ .finder .«minimum_index» → eqb 14 n ≡ true → P)
-      → (Open σ c → due 8 (σ .finder) (c .index) ≡ true → length (σ .table) ≤ σ .finder .held → eqb 13 n ≡ true → P)
+      → (c .at ≤ longest → 6 < σ .finder .shift → eqb 26 n ≡ true → P)
+      → (c .at ≤ longest → σ .finder .shift ≤ 6 → length (σ .table) < σ .finder .held → eqb 13 n ≡ true → P)
+      → (c .at ≤ longest → σ .finder .shift ≤ 6 → σ .finder .held ≤ length (σ .table) → c .index < σ .finder .«minimum_index» → eqb 14 n ≡ true → P)
+      → (Open σ c → due (σ .finder) (c .index) ≡ true → length (σ .table) ≤ σ .finder .held → eqb 13 n ≡ true → P)
       → by n (updateOf σ c) ≡ true → P
-  unfolding updateBy
-  update-ways n long claims foreign full =
+  unfolding updateOf
+  update-ways n long large claims foreign full =
       at-stop n (ltb longest (c .at)) 16 _ (λ a. long (ltb-true _ _ a)) (λ a.
-      at-stop n (ltb (length (σ .table)) (σ .finder .held)) 13 _ (λ b. claims (ltb-false _ _ a) (ltb-true _ _ b)) (λ b.
-      at-stop n (ltb (c .index) (σ .finder .«minimum_index»)) 14 _ (λ d. foreign (ltb-false _ _ a) (ltb-false _ _ b) (ltb-true _ _ d)) (λ d.
-      let free : Open σ c = record { at = ltb-false _ _ a; held = ltb-false _ _ b; index = ltb-false _ _ d } in
-      at-pick n (due 8 (σ .finder) (c .index)) _ _ (λ e.
-      at-stop n (leb (length (σ .table)) (σ .finder .held)) 13 _ (λ f. full free e (leb-true _ _ f)) (λ _. off)) (λ _. off))))
+      at-stop n (ltb 6 (σ .finder .shift)) 26 _ (λ z. large (ltb-false _ _ a) (ltb-true _ _ z)) (λ z.
+      at-stop n (ltb (length (σ .table)) (σ .finder .held)) 13 _ (λ b. claims (ltb-false _ _ a) (ltb-false _ _ z) (ltb-true _ _ b)) (λ b.
+      at-stop n (ltb (c .index) (σ .finder .«minimum_index»)) 14 _ (λ d. foreign (ltb-false _ _ a) (ltb-false _ _ z) (ltb-false _ _ b) (ltb-true _ _ d)) (λ d.
+      let free : Open σ c = record { at = ltb-false _ _ a; shift = ltb-false _ _ z; held = ltb-false _ _ b; index = ltb-false _ _ d } in
+      at-pick n (due (σ .finder) (c .index)) _ _ (λ e.
+      at-stop n (leb (length (σ .table)) (σ .finder .held)) 13 _ (λ f. full free e (leb-true _ _ f)) (λ _. off)) (λ _. off)))))
 
   pub updates-16 : Given 16 [] (updateOf σ c) (longest < c .at)
   updates-16 = record {
-    when = update-long 8 σ c;
-    only = update-ways 16 (λ h _. h) (λ _ _. off) (λ _ _ _. off) (λ _ _ _. off);
+    when = update-long σ c;
+    only = update-ways 16 (λ h _. h) (λ _ _. off) (λ _ _ _. off) (λ _ _ _ _. off) (λ _ _ _. off);
   }
 
-  pub updates-14 : Given 14 [] (updateOf σ c) ((c .at ≤ longest) × (σ .finder .held ≤ length (σ .table)) × (c .index < σ .finder .«minimum_index»))
+  pub updates-26 : Given 26 [] (updateOf σ c) ((c .at ≤ longest) × (6 < σ .finder .shift))
+  updates-26 = record {
+    when = λ (a, h). update-shift σ c a h;
+    only = update-ways 26 (λ _. off) (λ a h _. (a, h)) (λ _ _ _. off) (λ _ _ _ _. off) (λ _ _ _. off);
+  }
+
+  pub updates-14 : Given 14 [] (updateOf σ c) ((c .at ≤ longest) × (σ .finder .shift ≤ 6) × (σ .finder .held ≤ length (σ .table)) × (c .index < σ .finder .«minimum_index»))
   updates-14 = record {
-    when = λ (a, b, h). update-foreign 8 σ c a b h;
-    only = update-ways 14 (λ _. off) (λ _ _. off) (λ a b h _. (a, b, h)) (λ _ _ _. off);
+    when = λ (a, z, b, h). update-foreign σ c a z b h;
+    only = update-ways 14 (λ _. off) (λ _ _. off) (λ _ _ _. off) (λ a z b h _. (a, z, b, h)) (λ _ _ _. off);
   }
 
-  due-is : due 8 (σ .finder) (c .index) ≡ true → Due σ c
+  due-is : due (σ .finder) (c .index) ≡ true → Due σ c
   due-is = go (eqb (skipped σ (c .index)) 0) (eqb (block σ (c .index)) (σ .finder .held)) refl refl
     where
       go : (x y : Bool) → eqb (skipped σ (c .index)) 0 ≡ x → eqb (block σ (c .index)) (σ .finder .held) ≡ y → both x y ≡ true → Due σ c
@@ -321,38 +344,41 @@ module _ (σ : State) (c : ItemIter) where
   Full = (length (σ .table) < σ .finder .held)
       ⊎ ((σ .finder .held ≡ length (σ .table)) × (σ .finder .«minimum_index» ≤ c .index) × Due σ c)
 
-  update-fills : c .at ≤ longest → Full → updateOf σ c ≡ refused 13 []
-  update-fills a (inl h) = update-claims 8 σ c a h
-  update-fills a (inr (e, i, (d, q))) =
+  update-fills : c .at ≤ longest → σ .finder .shift ≤ 6 → Full → updateOf σ c ≡ refused 13 []
+  update-fills a z (inl h) = update-claims σ c a z h
+  update-fills a z (inr (e, i, (d, q))) =
       let l : σ .finder .held ≤ length (σ .table) = omega arith in
       let r : length (σ .table) ≤ σ .finder .held = omega arith in
-      update-full 8 σ c (record { at = a; held = l; index = i }) (due-yes 8 (σ .finder) (c .index) d q) r
+      update-full σ c (record { at = a; shift = z; held = l; index = i }) (due-yes (σ .finder) (c .index) _ refl d q) r
 
-  pub updates-13 : Given 13 [] (updateOf σ c) ((c .at ≤ longest) × Full)
+  pub updates-13 : Given 13 [] (updateOf σ c) ((c .at ≤ longest) × (σ .finder .shift ≤ 6) × Full)
   updates-13 = record {
-    when = λ (a, h). update-fills a h;
-    only = update-ways 13 (λ _. off) (λ a h _. (a, inl h)) (λ _ _ _. off) (λ o d r _.
+    when = λ (a, z, h). update-fills a z h;
+    only = update-ways 13 (λ _. off) (λ _ _. off) (λ a z h _. (a, z, inl h)) (λ _ _ _ _. off) (λ o d r _.
         let l = o .held in
         let e : σ .finder .held ≡ length (σ .table) = omega arith in
-        (o .at, inr (e, o .index, due-is d)));
+        (o .at, o .shift, inr (e, o .index, due-is d)));
   }
 
 module _ (s : List ℕ) (σ : State) (i : ItemIndex) where
   find-ways : {P : Type 0} (n : ℕ)
       → (longest < length s → eqb 16 n ≡ true → P)
-      → (length s ≤ longest → length (σ .table) < σ .finder .held → eqb 13 n ≡ true → P)
+      → (length s ≤ longest → 6 < σ .finder .shift → eqb 26 n ≡ true → P)
+      → (length s ≤ longest → σ .finder .shift ≤ 6 → length (σ .table) < σ .finder .held → eqb 13 n ≡ true → P)
       → (Good s σ → σ .finder .«minimum_index» ≤ numberIn i → σ .finder .«maximum_index» < numberIn i → eqb 8 n ≡ true → P)
       → (Good s σ → Inside σ (numberIn i) → σ .finder .held ≤ block σ (numberIn i) → eqb 9 n ≡ true → P)
       → (Good s σ → Inside σ (numberIn i) → block σ (numberIn i) < σ .finder .held → by n (landed i (skipped σ (numberIn i)) (walked s σ (numberIn i))) ≡ true → P)
       → by n (findOf s σ i) ≡ true → P
-  unfolding lookBy
-  find-ways n long claims above unheld walks =
+  unfolding lookOf
+  find-ways n long large claims above unheld walks =
       at-stop n (ltb longest (length s)) 16 _ (λ a. long (ltb-true _ _ a)) (λ a.
-      at-stop n (ltb (length (σ .table)) (σ .finder .held)) 13 _ (λ b. claims (ltb-false _ _ a) (ltb-true _ _ b)) (λ b.
+      at-stop n (ltb 6 (σ .finder .shift)) 26 _ (λ z. large (ltb-false _ _ a) (ltb-true _ _ z)) (λ z.
+      at-stop n (ltb (length (σ .table)) (σ .finder .held)) 13 _ (λ b. claims (ltb-false _ _ a) (ltb-false _ _ z) (ltb-true _ _ b)) (λ b.
+      let good : Good s σ = (ltb-false _ _ a, ltb-false _ _ z, ltb-false _ _ b) in
       at-pick n (ltb (numberIn i) (σ .finder .«minimum_index»)) _ _ (λ _. off) (λ c.
-      at-pick n (ltb (σ .finder .«maximum_index») (numberIn i)) _ _ (λ d. above (ltb-false _ _ a, ltb-false _ _ b) (ltb-false _ _ c) (ltb-true _ _ d)) (λ d.
-      at-pick n (leb (σ .finder .held) (block σ (numberIn i))) _ _ (λ e. unheld (ltb-false _ _ a, ltb-false _ _ b) (ltb-false _ _ c, ltb-false _ _ d) (leb-true _ _ e)) (λ e.
-      walks (ltb-false _ _ a, ltb-false _ _ b) (ltb-false _ _ c, ltb-false _ _ d) (leb-false _ _ e))))))
+      at-pick n (ltb (σ .finder .«maximum_index») (numberIn i)) _ _ (λ d. above good (ltb-false _ _ c) (ltb-true _ _ d)) (λ d.
+      at-pick n (leb (σ .finder .held) (block σ (numberIn i))) _ _ (λ e. unheld good (ltb-false _ _ c, ltb-false _ _ d) (leb-true _ _ e)) (λ e.
+      walks good (ltb-false _ _ c, ltb-false _ _ d) (leb-false _ _ e)))))))
 
   -- a walk along the links gives 1 alone
   landed-not : (n : ℕ) → eqb 1 n ≡ false → (h : Hit) → by n (landed i (skipped σ (numberIn i)) h) ≡ false
@@ -360,30 +386,36 @@ module _ (s : List ℕ) (σ : State) (i : ItemIndex) where
   landed-not n e (Missed j) = e
 
   ready : Good s σ → Ready s σ
-  ready (a, b) = record { short = a; held = b }
+  ready (a, z, b) = record { short = a; shift = z; held = b }
 
   pub finds-16 : Given 16 [] (findOf s σ i) (longest < length s)
   finds-16 = record {
-    when = find-long 8 s σ i (numberIn i);
-    only = find-ways 16 (λ h _. h) (λ _ _. off) (λ _ _ _. off) (λ _ _ _. off) (λ _ _ _ e. off (sym (landed-not 16 refl (walked s σ (numberIn i))) ∙ e));
+    when = find-long s σ i (numberIn i);
+    only = find-ways 16 (λ h _. h) (λ _ _. off) (λ _ _ _. off) (λ _ _ _. off) (λ _ _ _. off) (λ _ _ _ e. off (sym (landed-not 16 refl (walked s σ (numberIn i))) ∙ e));
   }
 
-  pub finds-13 : Given 13 [] (findOf s σ i) ((length s ≤ longest) × (length (σ .table) < σ .finder .held))
+  pub finds-26 : Given 26 [] (findOf s σ i) ((length s ≤ longest) × (6 < σ .finder .shift))
+  finds-26 = record {
+    when = λ (a, h). find-shift s σ i (numberIn i) a h;
+    only = find-ways 26 (λ _. off) (λ a h _. (a, h)) (λ _ _ _. off) (λ _ _ _. off) (λ _ _ _. off) (λ _ _ _ e. off (sym (landed-not 26 refl (walked s σ (numberIn i))) ∙ e));
+  }
+
+  pub finds-13 : Given 13 [] (findOf s σ i) ((length s ≤ longest) × (σ .finder .shift ≤ 6) × (length (σ .table) < σ .finder .held))
   finds-13 = record {
-    when = λ (a, h). find-claims 8 s σ i (numberIn i) a h;
-    only = find-ways 13 (λ _. off) (λ a h _. (a, h)) (λ _ _ _. off) (λ _ _ _. off) (λ _ _ _ e. off (sym (landed-not 13 refl (walked s σ (numberIn i))) ∙ e));
+    when = λ (a, z, h). find-claims s σ i (numberIn i) a z h;
+    only = find-ways 13 (λ _. off) (λ _ _. off) (λ a z h _. (a, z, h)) (λ _ _ _. off) (λ _ _ _. off) (λ _ _ _ e. off (sym (landed-not 13 refl (walked s σ (numberIn i))) ∙ e));
   }
 
   pub finds-8 : Given 8 (numberIn i ∷ []) (findOf s σ i) (Good s σ × (σ .finder .«minimum_index» ≤ numberIn i) × (σ .finder .«maximum_index» < numberIn i))
   finds-8 = record {
-    when = λ (g, l, h). find-above 8 s σ i (numberIn i) (ready g) l h;
-    only = find-ways 8 (λ _. off) (λ _ _. off) (λ g l h _. (g, l, h)) (λ _ _ _. off) (λ _ _ _ e. off (sym (landed-not 8 refl (walked s σ (numberIn i))) ∙ e));
+    when = λ (g, l, h). find-above s σ i (numberIn i) (ready g) l h;
+    only = find-ways 8 (λ _. off) (λ _ _. off) (λ _ _ _. off) (λ g l h _. (g, l, h)) (λ _ _ _. off) (λ _ _ _ e. off (sym (landed-not 8 refl (walked s σ (numberIn i))) ∙ e));
   }
 
   pub finds-9 : Given 9 (numberIn i ∷ maxIndexOf (σ .finder) ∷ []) (findOf s σ i) (Good s σ × Inside σ (numberIn i) × (σ .finder .held ≤ block σ (numberIn i)))
   finds-9 = record {
-    when = λ (g, (l, u), h). find-unheld 8 s σ i (numberIn i) (ready g) l u h;
-    only = find-ways 9 (λ _. off) (λ _ _. off) (λ _ _ _. off) (λ g n h _. (g, n, h)) (λ _ _ _ e. off (sym (landed-not 9 refl (walked s σ (numberIn i))) ∙ e));
+    when = λ (g, (l, u), h). find-unheld s σ i (numberIn i) (ready g) l u h;
+    only = find-ways 9 (λ _. off) (λ _ _. off) (λ _ _ _. off) (λ _ _ _. off) (λ g n h _. (g, n, h)) (λ _ _ _ e. off (sym (landed-not 9 refl (walked s σ (numberIn i))) ∙ e));
   }
 
   breaks : (h : Hit) → Breaks h → landed i (skipped σ (numberIn i)) h ≡ refused 1 (brokeAfter h ∷ [])
@@ -396,6 +428,6 @@ module _ (s : List ℕ) (σ : State) (i : ItemIndex) where
   pub finds-1 : Given 1 (brokeAfter (walked s σ (numberIn i)) ∷ []) (findOf s σ i)
       (Good s σ × Inside σ (numberIn i) × (block σ (numberIn i) < σ .finder .held) × Breaks (walked s σ (numberIn i)))
   finds-1 = record {
-    when = λ (g, (l, u), h, b). find-held 8 s σ i (numberIn i) (ready g) l u h ∙ breaks (walked s σ (numberIn i)) b;
-    only = find-ways 1 (λ _. off) (λ _ _. off) (λ _ _ _. off) (λ _ _ _. off) (λ g n h e. (g, n, h, broke (walked s σ (numberIn i)) e));
+    when = λ (g, (l, u), h, b). find-held s σ i (numberIn i) _ refl (ready g) l u h ∙ breaks (walked s σ (numberIn i)) b;
+    only = find-ways 1 (λ _. off) (λ _ _. off) (λ _ _ _. off) (λ _ _ _. off) (λ _ _ _. off) (λ g n h e. (g, n, h, broke (walked s σ (numberIn i)) e));
   }

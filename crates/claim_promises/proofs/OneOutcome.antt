@@ -23,7 +23,7 @@ use Rattle.record_list.proofs.OneOutcome.{one-start, one-step, one-element}
 use Rattle.record_reader.proofs.OneOutcome.{one-reader, one-steps}
 use Rattle.record_parse.proofs.OneOutcome.{one-parse}
 use Rattle.stream_item.specs.declared.iter.ItemIter.{ItemIter}
-use Rattle.stream_finder.specs.Finder.{State, state, createOf, updateOf}
+use Rattle.stream_finder.specs.Finder.{State, state, createOf, createBy, updateOf}
 use Rattle.stream_finder.specs.Lent.{Updates}
 use Rattle.stream_finder.specs.declared.ItemFinder.{ItemFinder}
 use Rattle.stream_finder.specs.declared.lent.UpdateStep.{UpdateStep}
@@ -95,6 +95,7 @@ one-outcome = record {
   record-reader-step-of = one-stepped;
   record-reader-nth = λ stream s k r q a b. one-element r q (a ∙ sym b);
   stream-finder-create = λ s t. one-fills t (createOf s t);
+  stream-finder-create-by = λ s t shift. one-fills t (createBy shift s t);
   stream-finder-update = λ f t c. one-fills t (updateOf (state f t) c);
   stream-finder-item-finder-max-type-index = λ self r q a b i. record { 0 = (a ∙ sym b) i };
   stream-finder-item-finder-max-id-index = λ self r q a b i. record { 0 = (a ∙ sym b) i };
@@ -106,7 +107,8 @@ one-outcome = record {
   stream-header-header-count = λ self r q a b. a ∙ sym b;
   stream-index-turn = λ s f t c. one-leads t (turnOf s (state f t) c);
   stream-index-index-on = λ s f t c. one-walks s c (state f t);
-  stream-index-index-all = λ stream s t. one-indexes stream s t;
+  stream-index-index-all = one-indexes 3;
+  stream-index-index-all-by = λ stream s t shift. one-indexes shift stream s t;
   stream-item-stream-index = λ self n r q a b. a ∙ sym b;
   stream-item-item-index-stream = λ self r q a b. a ∙ sym b;
   stream-item-item-index-number = λ self r q a b. a ∙ sym b;

@@ -32,8 +32,8 @@ use Rattle.stream_item.specs.declared.Entry.the-variants as entry
 use Rattle.stream_item.specs.declared.iter.ItemIter.{ItemIter}
 use Rattle.stream_item.specs.declared.link.Hit.{Hit}
 use Rattle.stream_item.specs.declared.link.Hit.the-variants.{Landed, Missed}
-use Rattle.stream_finder.specs.Finder.{State, distance, begunBy, createOf, createBy, due, updateBy, updateOf, landed, maxIndexBy, lookBy, findOf}
-use Rattle.stream_index.specs.Walk.{Turn, updating, turnBy, turnOf}
+use Rattle.stream_finder.specs.Finder.{State, blockOf, distance, begunBy, createOf, createBy, due, updateOf, landed, maxIndexOf, lookOf, findOf}
+use Rattle.stream_index.specs.Walk.{Turn, updating, turnOf}
 use Rattle.record_layout.specs.Fields.{Value, Field, id, run, types, ids, readFields}
 use Rattle.record_layout.specs.Values.{nth, numberIn as countIn, stringIn}
 use Rattle.record_layout.specs.Layouts.{T, count16, count32, Layout, typeLeaves, idLeaves, memberLeaves, method, readRecord, recordOf}
@@ -167,48 +167,63 @@ pub create-refuses : (s t : List ℕ) → Refuses ofCreation (createOf s t)
 unfolding createBy within among
 create-refuses s t = by-then (wider refl (header-refuses s)) (λ h. begun-refuses t h)
 
-pub update-refuses : (σ : State) (c : ItemIter) → Refuses (16 ∷ 13 ∷ 14 ∷ []) (updateOf σ c)
-unfolding updateBy fits among listed find inTable refusals
+abbrev pub ofCreationBy : List ℕ
+ofCreationBy = 16 ∷ 1 ∷ 2 ∷ 3 ∷ 4 ∷ 5 ∷ 26 ∷ 13 ∷ []
+
+begun-by-refuses : (shift : ℕ) (t : List ℕ) (h : Header) → Refuses ofCreationBy (begunBy shift t h)
+unfolding begunBy fits among listed find inTable refusals
+begun-by-refuses shift t h =
+    by-stop (ltb 6 shift) 26 refl
+    (by-pick (ltb (h .«minimum_index») (h .«maximum_index»)) (by-stop (leb (length t) 0) 13 refl gives) gives)
+
+pub create-by-refuses : (shift : ℕ) (s t : List ℕ) → Refuses ofCreationBy (createBy shift s t)
+unfolding createBy within among
+create-by-refuses shift s t = by-then (wider refl (header-refuses s)) (λ h. begun-by-refuses shift t h)
+
+pub update-refuses : (σ : State) (c : ItemIter) → Refuses (16 ∷ 26 ∷ 13 ∷ 14 ∷ []) (updateOf σ c)
+unfolding updateOf fits among listed find inTable refusals
 update-refuses σ c =
     by-stop (ltb longest (c .at)) 16 refl
+    (by-stop (ltb 6 (σ .finder .shift)) 26 refl
     (by-stop (ltb (length (σ .table)) (σ .finder .held)) 13 refl
     (by-stop (ltb (c .index) (σ .finder .«minimum_index»)) 14 refl
-    (by-pick (due 8 (σ .finder) (c .index))
+    (by-pick (due (σ .finder) (c .index))
     (by-stop (leb (length (σ .table)) (σ .finder .held)) 13 refl gives)
-    gives)))
+    gives))))
 
 abbrev pub ofFind : List ℕ
-ofFind = 16 ∷ 13 ∷ 8 ∷ 9 ∷ 1 ∷ []
+ofFind = 16 ∷ 26 ∷ 13 ∷ 8 ∷ 9 ∷ 1 ∷ []
 
 landed-refuses : (i : ItemIndex) (k : ℕ) (h : Hit) → FindRefuses ofFind (landed i k h)
 unfolding fits among listed find inTable refusals
 landed-refuses i k (Landed p n) = gives
 landed-refuses i k (Missed j) = refuses refl
 
-look-refuses : (s : List ℕ) (σ : State) (i : ItemIndex) (n : ℕ) → FindRefuses ofFind (lookBy 8 s σ i n)
-unfolding lookBy fits among listed find inTable refusals
+look-refuses : (s : List ℕ) (σ : State) (i : ItemIndex) (n : ℕ) → FindRefuses ofFind (lookOf s σ i n)
+unfolding lookOf fits among listed find inTable refusals
 look-refuses s σ i n =
     by-stop (ltb longest (length s)) 16 refl
+    (by-stop (ltb 6 (σ .finder .shift)) 26 refl
     (by-stop (ltb (length (σ .table)) (σ .finder .held)) 13 refl
     (by-pick (ltb n (σ .finder .«minimum_index»)) gives
     (by-pick (ltb (σ .finder .«maximum_index») n) (refuses refl)
-    (by-pick (leb (σ .finder .held) (distance (σ .finder) n / 8)) (refuses refl)
-    (landed-refuses i (distance (σ .finder) n % 8)
-    (linkOf s (getD (σ .table) (distance (σ .finder) n / 8) 0) (distance (σ .finder) n % 8)))))))
+    (by-pick (leb (σ .finder .held) (distance (σ .finder) n / blockOf (σ .finder))) (refuses refl)
+    (landed-refuses i (distance (σ .finder) n % blockOf (σ .finder))
+    (linkOf s (getD (σ .table) (distance (σ .finder) n / blockOf (σ .finder)) 0) (distance (σ .finder) n % blockOf (σ .finder)))))))))
 
 pub find-refuses : (s : List ℕ) (σ : State) (i : ItemIndex) → FindRefuses ofFind (findOf s σ i)
 find-refuses s σ i = look-refuses s σ i (numberIn i)
 
 abbrev pub ofTurns : List ℕ
-ofTurns = 16 ∷ 1 ∷ 6 ∷ 7 ∷ 13 ∷ 14 ∷ []
+ofTurns = 16 ∷ 1 ∷ 6 ∷ 7 ∷ 26 ∷ 13 ∷ 14 ∷ []
 
-updating-refuses : (σ : State) (x : Next) → Refuses ofTurns (updating 8 σ x)
+updating-refuses : (σ : State) (x : Next) → Refuses ofTurns (updating σ x)
 unfolding within among
 updating-refuses σ done = gives
 updating-refuses σ (yielded i d) = by-then (wider refl (update-refuses σ d)) (λ τ. gives)
 
 pub turn-refuses : (s : List ℕ) (σ : State) (c : ItemIter) → Refuses ofTurns (turnOf s σ c)
-unfolding turnBy within among
+unfolding turnOf within among
 turn-refuses s σ c = by-then (wider refl (next-refuses s c)) (λ x. updating-refuses σ x)
 
 -- Records

@@ -55,7 +55,7 @@ use Rattle.record_parse.specs.declared.ParseAnswer.{ParseAnswer}
 use Rattle.record_reader.specs.Reader.{Steps}
 use Rattle.record_reader.specs.declared.ListReader.{ListReader}
 use Rattle.record_reader.specs.declared.Stepped.{Stepped}
-use Rattle.stream_finder.specs.Finder.{Fills, createOf, findOf, maxIndexOf, saidFind, state, updateOf}
+use Rattle.stream_finder.specs.Finder.{Fills, createBy, createOf, findOf, maxIndexOf, saidFind, state, updateOf}
 use Rattle.stream_finder.specs.Lent.{Updates}
 use Rattle.stream_finder.specs.declared.FindAnswer.{FindAnswer}
 use Rattle.stream_finder.specs.declared.FinderAnswer.{FinderAnswer}
@@ -65,7 +65,7 @@ use Rattle.stream_finder.specs.declared.lent.UpdateStep.{UpdateStep}
 use Rattle.stream_header.specs.Header.{headerOf, saidHeader}
 use Rattle.stream_header.specs.declared.Header.{Header}
 use Rattle.stream_header.specs.declared.HeaderAnswer.{HeaderAnswer}
-use Rattle.stream_index.specs.Walk.{Indexes, Leads, Walks, turnOf}
+use Rattle.stream_index.specs.Walk.{Indexes, IndexesBy, Leads, Walks, turnOf}
 use Rattle.stream_index.specs.declared.IndexAnswer.{IndexAnswer}
 use Rattle.stream_index.specs.declared.Tour.{Tour}
 use Rattle.stream_index.specs.declared.TurnAnswer.{TurnAnswer}
@@ -259,6 +259,10 @@ record-reader-nth stream s k r = saidElement r ≡ elementOf stream s k
 abbrev pub stream-finder-create : (s : List ℕ) (t : List ℕ) → FinderAnswer → List ℕ → Type 0
 stream-finder-create s t r t′ = Fills t (createOf s t) r t′
 
+-- stream_finder::create_by
+abbrev pub stream-finder-create-by : (s : List ℕ) (t : List ℕ) (shift : ℕ) → FinderAnswer → List ℕ → Type 0
+stream-finder-create-by s t shift r t′ = Fills t (createBy shift s t) r t′
+
 -- stream_finder::update
 abbrev pub stream-finder-update : (f : ItemFinder) (t : List ℕ) (c : ItemIter) → FinderAnswer → List ℕ → Type 0
 stream-finder-update f t c r t′ = Fills t (updateOf (state f t) c) r t′
@@ -306,6 +310,10 @@ stream-index-index-on s f t c r t′ = Walks s c (state f t) r t′
 -- stream_index::index_all
 abbrev pub stream-index-index-all : (stream : Stream) (s : List ℕ) (t : List ℕ) → IndexAnswer → List ℕ → Type 0
 stream-index-index-all stream s t r t′ = Indexes stream s t r t′
+
+-- stream_index::index_all_by
+abbrev pub stream-index-index-all-by : (stream : Stream) (s : List ℕ) (t : List ℕ) (shift : ℕ) → IndexAnswer → List ℕ → Type 0
+stream-index-index-all-by stream s t shift r t′ = IndexesBy shift stream s t r t′
 
 -- stream_item::Stream::index
 abbrev pub stream-item-stream-index : (self : Stream) (n : ℕ) → ItemIndex → Type 0

@@ -26,12 +26,12 @@ use Rattle.stream_item.specs.declared.Stream.the-variants as stream
 use Rattle.stream_item.specs.declared.ItemIndex.{ItemIndex}
 use Rattle.stream_item.specs.declared.Entry.{Entry}
 use Rattle.stream_item.specs.declared.iter.ItemIter.{ItemIter}
-use Rattle.stream_finder.specs.Finder.{State, state, saidFinder, createOf, updateOf, findOf, Fills}
+use Rattle.stream_finder.specs.Finder.{State, state, saidFinder, createOf, createBy, updateOf, findOf, Fills}
 use Rattle.stream_finder.specs.Lent.{saidUpdate, Updates}
 use Rattle.stream_finder.specs.declared.ItemFinder.{ItemFinder}
 use Rattle.stream_finder.specs.declared.FinderAnswer.{FinderAnswer}
 use Rattle.stream_finder.specs.declared.lent.UpdateAnswer.{UpdateAnswer}
-use Rattle.stream_index.specs.Walk.{saidTurn, turnOf, Leads, Walks, Indexes}
+use Rattle.stream_index.specs.Walk.{saidTurn, turnOf, Leads, Walks, IndexesBy}
 use Rattle.stream_index.specs.declared.Tour.{Tour}
 use Rattle.stream_index.specs.declared.End.the-variants as end
 use Rattle.stream_index.specs.declared.TurnAnswer.{TurnAnswer}
@@ -77,11 +77,12 @@ pub record Demand1 : Type 0 where
   pub nexts : (s : List ℕ) (c : ItemIter) → Refuses (16 ∷ 1 ∷ 6 ∷ 7 ∷ []) (nextOf s c)
   pub views : (t p : List ℕ) (e : Entry) → Refuses (16 ∷ 1 ∷ 8 ∷ []) (viewOf t p e)
   pub raw-kinds : (t p : List ℕ) (e : Entry) → Refuses (16 ∷ 1 ∷ []) (rawKindOf t p e)
-  -- the finder; 1 has links passed from `find` only
+  -- the finder, by its own shift, which `create` makes 3; 1 has links passed from `find` only
   pub creations : (s t : List ℕ) → Refuses (16 ∷ 1 ∷ 2 ∷ 3 ∷ 4 ∷ 5 ∷ 13 ∷ []) (createOf s t)
-  pub updates : (σ : State) (c : ItemIter) → Refuses (16 ∷ 13 ∷ 14 ∷ []) (updateOf σ c)
-  pub finds : (s : List ℕ) (σ : State) (i : ItemIndex) → FindRefuses (16 ∷ 13 ∷ 8 ∷ 9 ∷ 1 ∷ []) (findOf s σ i)
-  pub turns : (s : List ℕ) (σ : State) (c : ItemIter) → Refuses (16 ∷ 1 ∷ 6 ∷ 7 ∷ 13 ∷ 14 ∷ []) (turnOf s σ c)
+  pub creations-by : (shift : ℕ) (s t : List ℕ) → Refuses (16 ∷ 1 ∷ 2 ∷ 3 ∷ 4 ∷ 5 ∷ 26 ∷ 13 ∷ []) (createBy shift s t)
+  pub updates : (σ : State) (c : ItemIter) → Refuses (16 ∷ 26 ∷ 13 ∷ 14 ∷ []) (updateOf σ c)
+  pub finds : (s : List ℕ) (σ : State) (i : ItemIndex) → FindRefuses (16 ∷ 26 ∷ 13 ∷ 8 ∷ 9 ∷ 1 ∷ []) (findOf s σ i)
+  pub turns : (s : List ℕ) (σ : State) (c : ItemIter) → Refuses (16 ∷ 1 ∷ 6 ∷ 7 ∷ 26 ∷ 13 ∷ 14 ∷ []) (turnOf s σ c)
   -- records, members, methods, and entries of a stream
   pub types : (s : List ℕ) → Refuses (1 ∷ 10 ∷ 11 ∷ 12 ∷ []) (recordOf typeLeaves s)
   pub ids : (s : List ℕ) → Refuses (1 ∷ 10 ∷ []) (recordOf idLeaves s)
@@ -96,13 +97,13 @@ pub record Demand1 : Type 0 where
   pub id-elements : (s : List ℕ) (k : ℕ) → Refuses (15 ∷ 1 ∷ 10 ∷ []) (elementOf stream.Ids s k)
   -- ---- "all lent memory stays unchanged": where the function's answer r is a refusal, what was lent is after the call what it was before
 
-  -- the table, lent to creation, to `update` by value, to a turn and to a walk
-  pub create-keeps : (s t : List ℕ) (r : FinderAnswer) (t′ : List ℕ) (n : ℕ) (d : List ℕ) → Fills t (createOf s t) r t′ → saidFinder r ≡ refused n d → t′ ≡ t
+  -- the table, lent to creation with any shift, to `update` by value, to a turn and to a walk
+  pub create-keeps : (shift : ℕ) (s t : List ℕ) (r : FinderAnswer) (t′ : List ℕ) (n : ℕ) (d : List ℕ) → Fills t (createBy shift s t) r t′ → saidFinder r ≡ refused n d → t′ ≡ t
   pub update-keeps : (f : ItemFinder) (t : List ℕ) (c : ItemIter) (r : FinderAnswer) (t′ : List ℕ) (n : ℕ) (d : List ℕ)
       → Fills t (updateOf (state f t) c) r t′ → saidFinder r ≡ refused n d → t′ ≡ t
   pub turn-keeps : (s : List ℕ) (f : ItemFinder) (t : List ℕ) (c : ItemIter) (r : TurnAnswer) (t′ : List ℕ) (n : ℕ) (d : List ℕ)
       → Leads t (turnOf s (state f t) c) r t′ → saidTurn r t′ ≡ refused n d → t′ ≡ t
-  pub index-all-keeps : (tag : Stream) (s t : List ℕ) (e : Refusal) (t′ : List ℕ) → Indexes tag s t (walk.Refused e) t′ → t′ ≡ t
+  pub index-all-keeps : (shift : ℕ) (tag : Stream) (s t : List ℕ) (e : Refusal) (t′ : List ℕ) → IndexesBy shift tag s t (walk.Refused e) t′ → t′ ≡ t
   -- a walk that ends in a refusal is answered, and says so: the turns before it have stored their places, and the turn that was refused has changed
   -- nothing. It is the next turn from where the walk stands, and can be tried again, with a longer table for example
   pub index-on-keeps : (s : List ℕ) (f : ItemFinder) (t : List ℕ) (c : ItemIter) (r : Tour) (t′ : List ℕ) (e : Refusal)

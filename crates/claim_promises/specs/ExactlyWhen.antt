@@ -37,7 +37,7 @@ use Rattle.stream_item.specs.declared.iter.ItemIter.{ItemIter}
 use Rattle.stream_item.specs.declared.link.Hit.{Hit}
 use Rattle.stream_item.specs.declared.link.Hit.the-variants.{Landed, Missed}
 use Rattle.stream_view.specs.Views.{named, viewOf, rawKindOf}
-use Rattle.stream_finder.specs.Finder.{State, createOf, updateOf, maxIndexOf, findOf}
+use Rattle.stream_finder.specs.Finder.{State, blockOf, createBy, updateOf, maxIndexOf, findOf}
 use Rattle.stream_index.specs.Walk.{turnOf}
 use Rattle.record_layout.specs.Fields.{Value, Field, wordAfter, readField, readFields}
 use Rattle.record_layout.specs.Layouts.{Layout, Table, typeLeaves, readRecord, recordOf}
@@ -65,20 +65,20 @@ lengthAt s c = littleAt 2 s (c .at)
 abbrev pub Short : List ℕ → List ℕ → Type 0
 Short t p = (length t ≤ longest) × (length p ≤ longest)
 
--- the stream may be so long, and the finder claims no more places than its table has
+-- the stream may be so long, the finder's shift is at most 6, and it claims no more places than its table has
 abbrev pub Good : List ℕ → State → Type 0
-Good s σ = (length s ≤ longest) × (σ .finder .held ≤ length (σ .table))
+Good s σ = (length s ≤ longest) × (σ .finder .shift ≤ 6) × (σ .finder .held ≤ length (σ .table))
 
 -- the number n is one of the stream's indices
 abbrev pub Inside : State → ℕ → Type 0
 Inside σ n = (σ .finder .«minimum_index» ≤ n) × (n ≤ σ .finder .«maximum_index»)
 
--- d / 8 and d mod 8, where d is how far n is above the minimum
+-- d / 2^shift and d mod 2^shift, where d is how far n is above the minimum
 abbrev pub block : State → ℕ → ℕ
-block σ n = (n - σ .finder .«minimum_index») / 8
+block σ n = (n - σ .finder .«minimum_index») / blockOf (σ .finder)
 
 abbrev pub skipped : State → ℕ → ℕ
-skipped σ n = (n - σ .finder .«minimum_index») % 8
+skipped σ n = (n - σ .finder .«minimum_index») % blockOf (σ .finder)
 
 -- the links that a lookup goes along
 abbrev pub walked : List ℕ → State → ℕ → Hit
@@ -148,11 +148,11 @@ pub record ExactlyWhen : Type 0 where
   pub headers-5 : (s : List ℕ) → Given 5 [] (headerOf s)
       ((56 ≤ length s) × (length s ≤ longest) × (56 ≤ fieldsOf s .«header_size») × (fieldsOf s .«header_size» ≤ 1024) × (fieldsOf s .«header_size» ≤ length s)
       × (4096 ≤ fieldsOf s .«minimum_index») × (fieldsOf s .«maximum_index» < fieldsOf s .«minimum_index»))
-  -- "iterator and finder creation then the header's": what starts with the header is refused as the header is, and creation else by 13 only
+  -- "iterator and finder creation then the header's": what starts with the header is refused as the header is, and creation, by any shift, else by 26 or 13 only
   pub iterators : (tag : Stream) (s : List ℕ) → refusalOf (iterOf tag s) ≡ refusalOf (headerOf s)
   pub counts : (s : List ℕ) → refusalOf (lenOf s) ≡ refusalOf (headerOf s)
   pub empties : (s : List ℕ) → refusalOf (isEmptyOf s) ≡ refusalOf (headerOf s)
-  pub creations : (s t : List ℕ) (n : ℕ) (d : List ℕ) → headerOf s ≡ refused n d → createOf s t ≡ refused n d
+  pub creations : (shift : ℕ) (s t : List ℕ) (n : ℕ) (d : List ℕ) → headerOf s ≡ refused n d → createBy shift s t ≡ refused n d
   -- 6, too short: "`next` reads a length < 2"
   pub nexts-6 : (s : List ℕ) (c : ItemIter) → Given 6 [] (nextOf s c) ((length s ≤ longest) × (c .at + 2 ≤ length s) × (lengthAt s c < 2))
   -- 7, indices used up: "a whole record is there, but the index is 4,294,967,295"
@@ -184,15 +184,17 @@ pub record ExactlyWhen : Type 0 where
   pub pointers-12 : (s : List ℕ) → littleAt 2 s 0 ≡ 0x1002 → Given 12 [] (recordOf typeLeaves s)
       ((10 ≤ length s) × ((13 ≤ bits 0 4 (littleAt 4 s 6)) ⊎ (5 ≤ bits 5 7 (littleAt 4 s 6))))
   -- 13, table full: "a place must be stored and the lent table has none, or a finder claims more places than its table has"
-  pub creations-13 : (s t : List ℕ) (h : Header) → headerOf s ≡ answered h → Given 13 [] (createOf s t) ((h .«minimum_index» < h .«maximum_index») × (length t ≡ 0))
+  pub creations-13 : (shift : ℕ) (s t : List ℕ) (h : Header) → headerOf s ≡ answered h
+      → Given 13 [] (createBy shift s t) ((shift ≤ 6) × (h .«minimum_index» < h .«maximum_index») × (length t ≡ 0))
   pub updates-13 : (σ : State) (c : ItemIter) → Given 13 [] (updateOf σ c)
       ((c .at ≤ longest)
+      × (σ .finder .shift ≤ 6)
       × ((length (σ .table) < σ .finder .held)
       ⊎ ((σ .finder .held ≡ length (σ .table)) × (σ .finder .«minimum_index» ≤ c .index) × Due σ c)))
-  pub finds-13 : (s : List ℕ) (σ : State) (i : ItemIndex) → Given 13 [] (findOf s σ i) ((length s ≤ longest) × (length (σ .table) < σ .finder .held))
+  pub finds-13 : (s : List ℕ) (σ : State) (i : ItemIndex) → Given 13 [] (findOf s σ i) ((length s ≤ longest) × (σ .finder .shift ≤ 6) × (length (σ .table) < σ .finder .held))
   -- 14, foreign cursor: "update with an index below the minimum"
   pub updates-14 : (σ : State) (c : ItemIter) → Given 14 [] (updateOf σ c)
-      ((c .at ≤ longest) × (σ .finder .held ≤ length (σ .table)) × (c .index < σ .finder .«minimum_index»))
+      ((c .at ≤ longest) × (σ .finder .shift ≤ 6) × (σ .finder .held ≤ length (σ .table)) × (c .index < σ .finder .«minimum_index»))
   -- 15, no such element: none is left of a counted list; 0x1206 and 0x1203 are at the end, 0x1203 after its padding or a continuation
   pub counted-15 : (s : List ℕ) (c : ListCursor) → among (c .leaf) (0x1201 ∷ 0x1603 ∷ 0x1604 ∷ []) ≡ true → Given 15 [] (stepOf s c) (c .left ≡ 0)
   pub methods-15 : (s : List ℕ) (c : ListCursor) → c .leaf ≡ 0x1206 → Given 15 [] (stepOf s c) (length s ≤ c .at)
@@ -205,6 +207,10 @@ pub record ExactlyWhen : Type 0 where
   pub entries-16 : (t p : List ℕ) (e : Entry) → Given 16 [] (parseOf t p e) ((longest < length t) ⊎ (longest < length p))
   pub updates-16 : (σ : State) (c : ItemIter) → Given 16 [] (updateOf σ c) (longest < c .at)
   pub finds-16 : (s : List ℕ) (σ : State) (i : ItemIndex) → Given 16 [] (findOf s σ i) (longest < length s)
+  -- 26, shift: "shift above 6, right before the first 13": of a creation whose header is accepted, of an update and of a lookup
+  pub creations-26 : (shift : ℕ) (s t : List ℕ) (h : Header) → headerOf s ≡ answered h → Given 26 [] (createBy shift s t) (6 < shift)
+  pub updates-26 : (σ : State) (c : ItemIter) → Given 26 [] (updateOf σ c) ((c .at ≤ longest) × (6 < σ .finder .shift))
+  pub finds-26 : (s : List ℕ) (σ : State) (i : ItemIndex) → Given 26 [] (findOf s σ i) ((length s ≤ longest) × (6 < σ .finder .shift))
   -- What is made of several parts is refused as the first of them that is: a turn by its step, then by its update; a record by its leaf's fields; fields
   -- in their order; an element by the steps to it
   pub turns-next : (s : List ℕ) (σ : State) (c : ItemIter) (n : ℕ) (d : List ℕ) → nextOf s c ≡ refused n d → turnOf s σ c ≡ refused n d

@@ -89,6 +89,7 @@ pub record OneOutcome : Type 1 where
   pub record-reader-nth : (stream : Stream) (s : List ℕ) (k : ℕ) → Once (contract.record-reader-nth stream s k)
   -- stream_finder
   pub stream-finder-create : (s : List ℕ) (t : List ℕ) → OnceLent (contract.stream-finder-create s t)
+  pub stream-finder-create-by : (s : List ℕ) (t : List ℕ) (shift : ℕ) → OnceLent (contract.stream-finder-create-by s t shift)
   pub stream-finder-update : (f : ItemFinder) (t : List ℕ) (c : ItemIter) → OnceLent (contract.stream-finder-update f t c)
   pub stream-finder-item-finder-max-type-index : (self : ItemFinder) → Once (contract.stream-finder-item-finder-max-type-index self)
   pub stream-finder-item-finder-max-id-index : (self : ItemFinder) → Once (contract.stream-finder-item-finder-max-id-index self)
@@ -103,6 +104,7 @@ pub record OneOutcome : Type 1 where
   pub stream-index-turn : (s : List ℕ) (f : ItemFinder) (t : List ℕ) (c : ItemIter) → OnceLent (contract.stream-index-turn s f t c)
   pub stream-index-index-on : (s : List ℕ) (f : ItemFinder) (t : List ℕ) (c : ItemIter) → OnceLent (contract.stream-index-index-on s f t c)
   pub stream-index-index-all : (stream : Stream) (s : List ℕ) (t : List ℕ) → OnceLent (contract.stream-index-index-all stream s t)
+  pub stream-index-index-all-by : (stream : Stream) (s : List ℕ) (t : List ℕ) (shift : ℕ) → OnceLent (contract.stream-index-index-all-by stream s t shift)
   -- stream_item
   pub stream-item-stream-index : (self : Stream) (n : ℕ) → Once (contract.stream-item-stream-index self n)
   pub stream-item-item-index-stream : (self : ItemIndex) → Once (contract.stream-item-item-index-stream self)

@@ -305,10 +305,10 @@ pub fn low32(n: u64) -> u32 {
     (n % 4294967296) as u32
 }
 
-pub fn read_numbers(buffer: &mut [u8; 65536], from: Input, out: &mut [u32; 8192]) -> Numbers {
+pub fn read_numbers(buffer: &mut [u8; 65536], from: Input, out: &mut [u32; 16384]) -> Numbers {
     let mut input = blanks(buffer, from);
     let mut len: usize = 0;
-    while len < 8192 {
+    while len < 16384 {
         let n = read_numeral(buffer, input);
         input = n.input;
         if !n.given {
@@ -507,7 +507,7 @@ fn argument(
     code: u8,
     first: &mut [u8; 65536],
     second: &mut [u8; 65536],
-    places: &mut [u32; 8192],
+    places: &mut [u32; 16384],
     numbers: &mut [u64; 8],
 ) -> Arguments {
     if code == 97 {
@@ -536,7 +536,7 @@ pub fn read_arguments(
     shape: u64,
     first: &mut [u8; 65536],
     second: &mut [u8; 65536],
-    places: &mut [u32; 8192],
+    places: &mut [u32; 16384],
     numbers: &mut [u64; 8],
 ) -> Arguments {
     let mut a = Arguments {

@@ -64,13 +64,17 @@ fn on_number_and_bytes(command: u8, n: u64, s: &[u8]) {
     }
 }
 
-fn finder_of(minimum: u64, maximum: u64, held: u64) -> ItemFinder {
+fn finder_by(shift: u32, minimum: u64, maximum: u64, held: u64) -> ItemFinder {
     ItemFinder {
         minimum_index: input::low32(minimum),
         maximum_index: input::low32(maximum),
         held: held as usize,
-        shift: 3,
+        shift: shift,
     }
+}
+
+fn finder_of(minimum: u64, maximum: u64, held: u64) -> ItemFinder {
+    finder_by(stream_finder::SHIFT, minimum, maximum, held)
 }
 
 // `i` is the last of the words that an argument can be.
@@ -90,23 +94,17 @@ fn view<'a>(tpi: &'a [u8], ipi: &'a [u8], word: u64, place: u64, length: u64) {
     );
 }
 
-fn update(t: &mut [u32], held: usize, n: &[u64; 8]) {
-    stream_lines::update(
-        finder_of(n[0], n[1], n[2]),
-        t,
-        held,
-        n[3] as usize,
-        input::low32(n[4]),
-    );
+fn update(t: &mut [u32], held: usize, f: ItemFinder, at: u64, index: u64) {
+    stream_lines::update(f, t, held, at as usize, input::low32(index));
 }
 
-fn find_lent(s: &[u8], t: &[u32], held: usize, n: &[u64; 8]) {
+fn find_lent(s: &[u8], t: &[u32], held: usize, f: ItemFinder, index: u64) {
     stream_lines::find_lent(
         s,
         t,
         held,
-        finder_of(n[0], n[1], n[2]),
-        stream_lines::index_in(false, input::low32(n[3])),
+        f,
+        stream_lines::index_in(false, input::low32(index)),
     );
 }
 
@@ -115,8 +113,19 @@ fn on_tables(command: u8, s: &[u8], t: &mut [u32], held: usize, n: &[u64; 8]) {
     match command {
         20 => stream_lines::next(s, n[0] as usize, input::low32(n[1])),
         21 => stream_lines::create(s, t, held),
-        22 => update(t, held, n),
-        _ => find_lent(s, t, held, n),
+        22 => update(t, held, finder_of(n[0], n[1], n[2]), n[3], n[4]),
+        _ => find_lent(s, t, held, finder_of(n[0], n[1], n[2]), n[3]),
+    }
+}
+
+// The same for a finder whose shift is the first number.
+fn on_shifts(command: u8, s: &[u8], t: &mut [u32], held: usize, n: &[u64; 8]) {
+    let shift = input::low32(n[0]);
+    match command {
+        34 => stream_lines::create_by(s, t, held, shift),
+        35 => update(t, held, finder_by(shift, n[1], n[2], n[3]), n[4], n[5]),
+        36 => find_lent(s, t, held, finder_by(shift, n[1], n[2], n[3]), n[4]),
+        _ => stream_lines::max_index(finder_by(shift, n[1], n[2], n[3])),
     }
 }
 
@@ -178,16 +187,37 @@ fn find(
     from: Input,
     s: &[u8],
     ids: bool,
-    places: &mut [u32; 8192],
+    places: &mut [u32; 16384],
     early: bool,
     n: u64,
+    shift: u32,
 ) -> Input {
-    let b = stream_lines::begin(s, ids, places, early, n);
+    let b = stream_lines::begin(s, ids, places, early, n, shift);
     let Begun::On(f) = b else {
         return from;
     };
     stream_lines::places(places, f, ids);
     lookups(buffer, from, s, ids, places, f)
+}
+
+// A `find` whose finder has the shift that is the first number.
+fn find_by(
+    buffer: &mut [u8; 65536],
+    from: Input,
+    s: &[u8],
+    places: &mut [u32; 16384],
+    n: &[u64; 8],
+) -> Input {
+    find(
+        buffer,
+        from,
+        s,
+        false,
+        places,
+        n[1] == 1,
+        n[2],
+        input::low32(n[0]),
+    )
 }
 
 // The commands: a name, a colon, the shape of the arguments (input::read_arguments) and a blank for each.
@@ -199,7 +229,8 @@ fn name_of(letters: &[u8; 16], n: usize) -> Name {
           prim:nn opttype:n optid:n maxindex:nnn word:wnnn \
           itemtype:na itemid:na string:na element:na idelement:na \
           next:ann create:at update:nnntnn findin:annntn view:abwnn marker:wn find:aun findids:aun \
-          count:a cross:n item:wnnn name:a membername:na idat:na ",
+          count:a cross:n item:wnnn name:a membername:na idat:na \
+          createby:nat updateby:nnnntnn findinby:nannntn maxindexby:nnnn findby:naun ",
     )
 }
 
@@ -209,18 +240,35 @@ fn carry_out<'a>(
     command: u8,
     tpi: &'a [u8],
     ipi: &'a [u8],
-    places: &mut [u32; 8192],
+    places: &mut [u32; 16384],
     n: &[u64; 8],
 ) -> Input {
     if command < 26 {
         answer(command, tpi, ipi, places, a.places, n);
         return a.input;
     }
-    if 27 < command {
+    if command < 28 {
+        let early = n[0] == 1;
+        return find(
+            buffer,
+            a.input,
+            tpi,
+            command == 27,
+            places,
+            early,
+            n[1],
+            stream_finder::SHIFT,
+        );
+    }
+    if command < 34 {
         small::answer(command, tpi, n);
         return a.input;
     }
-    find(buffer, a.input, tpi, command == 27, places, n[0] == 1, n[1])
+    if command < 38 {
+        on_shifts(command, tpi, places, a.places, n);
+        return a.input;
+    }
+    find_by(buffer, a.input, tpi, places, n)
 }
 
 // A command that has a name, and the input behind its words. Where its bytes are not good, that is its answer.
@@ -230,7 +278,7 @@ fn named(
     name: Name,
     first: &mut [u8; 65536],
     second: &mut [u8; 65536],
-    places: &mut [u32; 8192],
+    places: &mut [u32; 16384],
 ) -> Input {
     let mut numbers = [0u64; 8];
     let a = input::read_arguments(
@@ -297,7 +345,7 @@ fn command(
     from: Input,
     first: &mut [u8; 65536],
     second: &mut [u8; 65536],
-    places: &mut [u32; 8192],
+    places: &mut [u32; 16384],
 ) -> Input {
     let mut letters = [0u8; 16];
     let w = input::read_word(buffer, from, &mut letters);
@@ -315,7 +363,7 @@ fn main() {
     let mut buffer = [0u8; 65536];
     let mut first = [0u8; 65536];
     let mut second = [0u8; 65536];
-    let mut places = [0u32; 8192];
+    let mut places = [0u32; 16384];
     let mut input = Input {
         at: 0,
         len: 0,

@@ -219,6 +219,17 @@ pub fn create(s: &[u8], t: &mut [u32], n: usize) {
     }
 }
 
+fn create_lent_by(s: &[u8], t: &mut [u32], shift: u32) {
+    created(stream_finder::create_by(s, t, shift));
+    lent(t);
+}
+
+pub fn create_by(s: &[u8], t: &mut [u32], n: usize, shift: u32) {
+    if n <= t.len() {
+        create_lent_by(s, &mut t[0..n], shift);
+    }
+}
+
 // The number, and the places held after the call.
 fn updated(u: UpdateStep) {
     let answer = u.answer;
@@ -305,10 +316,11 @@ pub fn places(t: &[u32], f: ItemFinder, ids: bool) {
     lines::form2(b"]\nmax #\n", &[max_typed(f, ids) as u64, 0]);
 }
 
-// The finder after n records. 65,536 bytes cannot fill a table of 8,192 places, so that a turn is refused only where the iterator refuses.
+// The finder after n records. 65,536 bytes cannot fill a table of 16,384 places, not even with one for each record, so that a turn is refused only
+// where the iterator refuses.
 fn find_walk(
     s: &[u8],
-    t: &mut [u32; 8192],
+    t: &mut [u32; 16384],
     first: ItemFinder,
     from: ItemIter,
     n: u64,
@@ -342,14 +354,14 @@ fn iter_in(s: &[u8], ids: bool) -> IterAnswer {
 }
 
 // The finder after one update from this cursor.
-fn early_update(t: &mut [u32; 8192], f: ItemFinder, c: ItemIter) -> ItemFinder {
+fn early_update(t: &mut [u32; 16384], f: ItemFinder, c: ItemIter) -> ItemFinder {
     match stream_finder::update(f, t, c) {
         FinderAnswer::Answered(g) => g,
         FinderAnswer::Refused(_) => f,
     }
 }
 
-fn began(s: &[u8], ids: bool, t: &mut [u32; 8192], f: ItemFinder, early: bool, n: u64) -> Begun {
+fn began(s: &[u8], ids: bool, t: &mut [u32; 16384], f: ItemFinder, early: bool, n: u64) -> Begun {
     match iter_in(s, ids) {
         IterAnswer::Answered(c) => {
             let mut first = f;
@@ -368,15 +380,29 @@ fn refused(e: Refusal) -> Begun {
     Begun::Over
 }
 
-fn begin_by_turns(s: &[u8], ids: bool, t: &mut [u32; 8192], early: bool, n: u64) -> Begun {
-    match stream_finder::create(s, t) {
+fn begin_by_turns(
+    s: &[u8],
+    ids: bool,
+    t: &mut [u32; 16384],
+    early: bool,
+    n: u64,
+    shift: u32,
+) -> Begun {
+    match stream_finder::create_by(s, t, shift) {
         FinderAnswer::Answered(f) => began(s, ids, t, f, early, n),
         FinderAnswer::Refused(e) => refused(e),
     }
 }
 
-fn whole(s: &[u8], stream: Stream, t: &mut [u32; 8192]) -> Begun {
-    match stream_index::index_all(stream, s, t) {
+fn index_by(s: &[u8], stream: Stream, t: &mut [u32; 16384], shift: u32) -> IndexAnswer {
+    if shift == stream_finder::SHIFT {
+        return stream_index::index_all(stream, s, t);
+    }
+    stream_index::index_all_by(stream, s, t, shift)
+}
+
+fn whole(s: &[u8], stream: Stream, t: &mut [u32; 16384], shift: u32) -> Begun {
+    match index_by(s, stream, t, shift) {
         IndexAnswer::Answered(tour) => {
             let f = tour.finder;
             Begun::On(f)
@@ -385,16 +411,16 @@ fn whole(s: &[u8], stream: Stream, t: &mut [u32; 8192]) -> Begun {
     }
 }
 
-// A fresh finder and a fresh iterator: one update first if it is asked for, then n records with an update behind each. 65,536 bytes have no
+// A fresh finder of this shift and a fresh iterator: one update first if it is asked for, then n records with an update behind each. 65,536 bytes have no
 // 65,536 records, so that as many are the whole stream.
-pub fn begin(s: &[u8], ids: bool, t: &mut [u32; 8192], early: bool, n: u64) -> Begun {
+pub fn begin(s: &[u8], ids: bool, t: &mut [u32; 16384], early: bool, n: u64, shift: u32) -> Begun {
     if early {
-        return begin_by_turns(s, ids, t, early, n);
+        return begin_by_turns(s, ids, t, early, n, shift);
     }
     if n < 65536 {
-        return begin_by_turns(s, ids, t, early, n);
+        return begin_by_turns(s, ids, t, early, n, shift);
     }
-    whole(s, stream_of(ids), t)
+    whole(s, stream_of(ids), t, shift)
 }
 
 // Views.

@@ -1,6 +1,6 @@
--- Demand 3. The invariant: after n turns the finder holds 1 + n / b places, each the start of its block, and the cursor stands on the chain.
+-- Demand 3, over the shift. The invariant: after n turns the finder holds 1 + n / 2^shift places, each the start of its block, and the cursor stands on the chain.
 -- Assumes nothing.
-use Prim.Native.Nat.{ℕ, zero, suc, _+_, _-_, _*_, _/_, _%_, _≤_, _<_}
+use Prim.Native.Nat.{ℕ, zero, suc, _+_, _-_, _*_, _/_, _%_, _^_, _≤_, _<_}
 use mathlib.Core.Path.{_≡_, refl, sym, ap, _∙_, subst}
 use mathlib.Core.List.{List, [], _∷_}
 use mathlib.Core.Bool.{Bool, true, false}
@@ -10,6 +10,7 @@ use native.Mathlib.Omega.{arith}
 use lib.ListN.{length, getD, set, length-set}
 use lib.Seq.{getD-set-same}
 use lib.Dec.{leb, eqb}
+use lib.Pow.{pow-pos}
 use borrow.Author.Tests.{eqb-true, eqb-false, leb-true, leb-false}
 use Rattle.answer.specs.Answer.{Answer, answered, refused, pick}
 use Rattle.stream_header.specs.Header.{headerOf}
@@ -25,11 +26,11 @@ use Rattle.stream_item.specs.declared.ItemIndex.{ItemIndex}
 use Rattle.stream_item.specs.declared.iter.ItemIter.{ItemIter}
 use Rattle.stream_item.specs.declared.link.Hit.{Hit}
 use Rattle.stream_item.specs.declared.link.Hit.the-variants.{Landed, Missed}
-use Rattle.stream_finder.specs.Finder.{State, state, holding, begunBy, createBy, due, updateBy, after, Found, maxIndexBy, findBy}
+use Rattle.stream_finder.specs.Finder.{State, state, blockOf, holding, begunBy, createBy, due, updateOf, after, Found, maxIndexOf, findOf}
 use Rattle.stream_finder.specs.Places.{Placed, Ready}
-use Rattle.stream_finder.specs.Demand.{Walked, none, more, gives, looked, Demand3By, Demand3, numberGiven, NotIndexedBy, NotIndexed}
+use Rattle.stream_finder.specs.Demand.{Walked, none, more, gives, looked, Demand3By, Demand3Every, Demand3, numberGiven, NotIndexedBy, NotIndexedEvery, NotIndexed}
 use Rattle.stream_finder.specs.declared.ItemFinder.{ItemFinder}
-use Rattle.stream_finder.proofs.FinderLaws.{begun-full, begun-some, create-is, Open, update-keeps, update-full, update-stores, due-yes, due-mod}
+use Rattle.stream_finder.proofs.FinderLaws.{begun-full, begun-some, create-is, Open, update-keeps, update-full, update-stores, due-yes, due-rest}
 use Rattle.stream_finder.proofs.Accepted.{Accepted, accepted}
 use Rattle.stream_finder.proofs.PlaceLaws.{OnChain, update-ind, placed-update, on-start, on-next, find-placed}
 
@@ -67,21 +68,27 @@ module _ (b n : ℕ) (z : 0 < b) where
       go false q = omega (arith, same-block (eqb-false _ _ q))
 
 -- ---- after n turns
-pub record Stage (b shift : ℕ) (s : List ℕ) (h : Header) (t : List ℕ) (n : ℕ) (c : ItemIter) (τ : State) : Type 0 where
-  pub finder : τ .finder ≡ holding h shift (1 + n / b)
+pub record Stage (shift : ℕ) (s : List ℕ) (h : Header) (t : List ℕ) (n : ℕ) (c : ItemIter) (τ : State) : Type 0 where
+  pub finder : τ .finder ≡ holding h shift (1 + n / 2 ^ shift)
   pub room : length (τ .table) ≡ length t
-  pub placed : Placed b s (h .«header_size») τ
+  pub placed : Placed s (h .«header_size») τ
   pub cursor : OnChain s (h .«header_size») (h .«minimum_index») c
   pub index : c .index ≡ h .«minimum_index» + n
 
-module _ (b shift : ℕ) (z : 0 < b) (s : List ℕ) (h : Header) (t : List ℕ) (ok : Accepted s h) where
+module _ (shift : ℕ) (small : shift ≤ 6) (s : List ℕ) (h : Header) (t : List ℕ) (ok : Accepted s h) where
+  abbrev b : ℕ
+  b = 2 ^ shift
+
+  z : 0 < b
+  z = pow-pos shift
+
   pub begun-placed : 0 < length t → (k : ℕ) → k < 1 → chain s (h .«header_size») (k * b) ≡ reached (getD (set t 0 (h .«header_size»)) k 0)
   begun-placed l k lt =
       let e : k ≡ 0 = omega arith in
       ap (chain s (h .«header_size»)) (ap (λ (x : ℕ). x * b) e ∙ zero-mul b) ∙ chain-none s (h .«header_size»)
       ∙ ap reached (sym (ap (λ (x : ℕ). getD (set t 0 (h .«header_size»)) x 0) e ∙ getD-set-same t 0 (h .«header_size») 0 l))
 
-  pub stage-none : (tag : Stream) → 0 < length t → Stage b shift s h t 0 (start tag h) (state (holding h shift 1) (set t 0 (h .«header_size»)))
+  pub stage-none : (tag : Stream) → 0 < length t → Stage shift s h t 0 (start tag h) (state (holding h shift 1) (set t 0 (h .«header_size»)))
   stage-none tag l = record {
     finder = ap (holding h shift) (omega (arith, zero-div b));
     room = length-set t 0 (h .«header_size»);
@@ -94,38 +101,41 @@ module _ (b shift : ℕ) (z : 0 < b) (s : List ℕ) (h : Header) (t : List ℕ) 
   record Turning (n : ℕ) (τ : State) (d : ItemIter) : Type 0 where
     pub minimum : τ .finder .«minimum_index» ≡ h .«minimum_index»
     pub held : τ .finder .held ≡ 1 + n / b
+    pub block : b ≡ blockOf (τ .finder)
     pub index : d .index ≡ h .«minimum_index» + suc n
     pub distance : d .index - τ .finder .«minimum_index» ≡ suc n
     pub free : Open τ d
 
-  turning : (n : ℕ) (d : ItemIter) (τ : State) (i : Item) (d′ : ItemIter) → 1 + n / b ≤ length t → Stage b shift s h t n d τ → nextOf s d ≡ answered (yielded i d′)
+  turning : (n : ℕ) (d : ItemIter) (τ : State) (i : Item) (d′ : ItemIter) → 1 + n / b ≤ length t → Stage shift s h t n d τ → nextOf s d ≡ answered (yielded i d′)
       → Turning n τ d′
   turning n d τ i d′ fits g e =
       let y : Yields s d i d′ = yields s d i d′ e in
       let mi : τ .finder .«minimum_index» ≡ h .«minimum_index» = ap (λ (f : ItemFinder). f .«minimum_index») (g .finder) in
       let he : τ .finder .held ≡ 1 + n / b = ap (λ (f : ItemFinder). f .held) (g .finder) in
+      let sh : τ .finder .shift ≡ shift = ap (λ (f : ItemFinder). f .shift) (g .finder) in
       record {
         minimum = mi;
         held = he;
+        block = ap (λ (x : ℕ). 2 ^ x) (sym sh);
         index = omega (arith, y .index, g .index);
         distance = omega (arith, y .index, g .index);
-        free = record { at = omega (arith, y .inside, y .short); held = omega (arith, g .room); index = omega (arith, y .index, g .index) };
+        free = record { at = omega (arith, y .inside, y .short); shift = omega arith; held = omega (arith, g .room); index = omega (arith, y .index, g .index) };
       }
 
   -- at the start of a block a place is due
-  now-due : (n : ℕ) (τ : State) (d : ItemIter) → Turning n τ d → suc n % b ≡ 0 → due b (τ .finder) (d .index) ≡ true
+  now-due : (n : ℕ) (τ : State) (d : ItemIter) → Turning n τ d → suc n % b ≡ 0 → due (τ .finder) (d .index) ≡ true
   now-due n τ d k q =
-      due-yes b (τ .finder) (d .index)
+      due-yes (τ .finder) (d .index) b (k .block)
       (ap (λ (x : ℕ). x % b) (k .distance) ∙ q)
       (ap (λ (x : ℕ). x / b) (k .distance) ∙ omega (arith, next-block b n z q, k .held))
 
-  pub turn : (n : ℕ) (d : ItemIter) (τ : State) (i : Item) (d′ : ItemIter) → 1 + suc n / b ≤ length t → Stage b shift s h t n d τ → nextOf s d ≡ answered (yielded i d′)
-      → Stage b shift s h t (suc n) d′ (after τ (updateBy b τ d′))
+  pub turn : (n : ℕ) (d : ItemIter) (τ : State) (i : Item) (d′ : ItemIter) → 1 + suc n / b ≤ length t → Stage shift s h t n d τ → nextOf s d ≡ answered (yielded i d′)
+      → Stage shift s h t (suc n) d′ (after τ (updateOf τ d′))
   turn n d τ i d′ enough g e =
       record {
         finder = go (eqb (suc n % b) 0) refl;
-        room = update-ind b τ d′ (λ (ρ : State). length (ρ .table) ≡ length t) (g .room) (λ st. length-set (τ .table) (τ .finder .held) (d′ .at) ∙ g .room);
-        placed = placed-update b s (h .«header_size») τ d′ (g .placed) (subst (λ (m : ℕ). OnChain s (h .«header_size») m d′) (sym (k .minimum)) on′);
+        room = update-ind τ d′ (λ (ρ : State). length (ρ .table) ≡ length t) (g .room) (λ st. length-set (τ .table) (τ .finder .held) (d′ .at) ∙ g .room);
+        placed = placed-update s (h .«header_size») τ d′ (g .placed) (subst (λ (m : ℕ). OnChain s (h .«header_size») m d′) (sym (k .minimum)) on′);
         cursor = on′;
         index = k .index;
       }
@@ -136,22 +146,22 @@ module _ (b shift : ℕ) (z : 0 < b) (s : List ℕ) (h : Header) (t : List ℕ) 
       on′ : OnChain s (h .«header_size») (h .«minimum_index») d′
       on′ = on-next s (h .«header_size») (h .«minimum_index») d i d′ (g .cursor) e
 
-      go : (x : Bool) → eqb (suc n % b) 0 ≡ x → after τ (updateBy b τ d′) .finder ≡ holding h shift (1 + suc n / b)
+      go : (x : Bool) → eqb (suc n % b) 0 ≡ x → after τ (updateOf τ d′) .finder ≡ holding h shift (1 + suc n / b)
       go true q =
           let nb : suc n / b ≡ n / b + 1 = next-block b n z (eqb-true _ _ q) in
           ap (λ (a : Answer State). after τ a .finder)
-          (update-stores b τ d′ (k .free) (now-due n τ d′ k (eqb-true _ _ q)) (omega (arith, nb, k .held, enough, g .room)))
+          (update-stores τ d′ (k .free) (now-due n τ d′ k (eqb-true _ _ q)) (omega (arith, nb, k .held, enough, g .room)))
           ∙ ap (λ (f : ItemFinder). record { «minimum_index» = f .«minimum_index»; «maximum_index» = f .«maximum_index»; held = f .held + 1; shift = f .shift }) (g .finder)
           ∙ ap (holding h shift) (omega (arith, nb))
       go false q =
           let sb : suc n / b ≡ n / b = same-block b n z (eqb-false _ _ q) in
-          let du : due b (τ .finder) (d′ .index) ≡ false =
-          due-mod b (τ .finder) (d′ .index) (λ p. eqb-false _ _ q (sym (ap (λ (x : ℕ). x % b) (k .distance)) ∙ p)) in
-          ap (λ (a : Answer State). after τ a .finder) (update-keeps b τ d′ (k .free) du) ∙ g .finder ∙ ap (holding h shift) (omega (arith, sb))
+          let du : due (τ .finder) (d′ .index) ≡ false =
+          due-rest (τ .finder) (d′ .index) b (k .block) (λ p. eqb-false _ _ q (sym (ap (λ (x : ℕ). x % b) (k .distance)) ∙ p)) in
+          ap (λ (a : Answer State). after τ a .finder) (update-keeps τ d′ (k .free) du) ∙ g .finder ∙ ap (holding h shift) (omega (arith, sb))
 
   -- an update that is answered had room
-  pub turn-room : (n : ℕ) (d : ItemIter) (τ : State) (i : Item) (d′ : ItemIter) (τ′ : State) → 1 + n / b ≤ length t → Stage b shift s h t n d τ
-      → nextOf s d ≡ answered (yielded i d′) → updateBy b τ d′ ≡ answered τ′ → 1 + suc n / b ≤ length t
+  pub turn-room : (n : ℕ) (d : ItemIter) (τ : State) (i : Item) (d′ : ItemIter) (τ′ : State) → 1 + n / b ≤ length t → Stage shift s h t n d τ
+      → nextOf s d ≡ answered (yielded i d′) → updateOf τ d′ ≡ answered τ′ → 1 + suc n / b ≤ length t
   turn-room n d τ i d′ τ′ fits g e a = go (eqb (suc n % b) 0) refl (leb (length (τ .table)) (τ .finder .held)) refl
     where
       k : Turning n τ d′
@@ -160,33 +170,33 @@ module _ (b shift : ℕ) (z : 0 < b) (s : List ℕ) (h : Header) (t : List ℕ) 
       go : (x : Bool) → eqb (suc n % b) 0 ≡ x → (y : Bool) → leb (length (τ .table)) (τ .finder .held) ≡ y → 1 + suc n / b ≤ length t
       go false q y p = omega (arith, same-block b n z (eqb-false _ _ q), fits)
       go true q true p =
-          let full : updateBy b τ d′ ≡ refused 13 [] = update-full b τ d′ (k .free) (now-due n τ d′ k (eqb-true _ _ q)) (leb-true _ _ p) in
+          let full : updateOf τ d′ ≡ refused 13 [] = update-full τ d′ (k .free) (now-due n τ d′ k (eqb-true _ _ q)) (leb-true _ _ p) in
           let w : _≡_ {A = ℕ} 0 1 = cc in
           absurd (omega arith)
       go true q false p = omega (arith, next-block b n z (eqb-true _ _ q), leb-false (length (τ .table)) (τ .finder .held) p, k .held, g .room)
 
-  stages : (c₀ : ItemIter) (σ : State) (n : ℕ) (c : ItemIter) (τ : State) → Stage b shift s h t 0 c₀ σ → 1 + n / b ≤ length t → Walked b s c₀ σ n c τ → Stage b shift s h t n c τ
+  stages : (c₀ : ItemIter) (σ : State) (n : ℕ) (c : ItemIter) (τ : State) → Stage shift s h t 0 c₀ σ → 1 + n / b ≤ length t → Walked s c₀ σ n c τ → Stage shift s h t n c τ
   stages c₀ σ zero c τ g l none = g
   stages c₀ σ (suc n) c τ g l (more {d = d} {τ = ρ} {i = i} w e) =
       let up : n / b ≤ suc n / b = up-block b n z in
       turn n d ρ i c l (stages c₀ σ n d ρ g (omega arith) w) e
 
 -- ---- what is fresh
-pub fresh-finder : (shift : ℕ) (s : List ℕ) (h : Header) (t : List ℕ) (σ : State) → headerOf s ≡ answered h → h .«minimum_index» < h .«maximum_index»
+pub fresh-finder : (shift : ℕ) (s : List ℕ) (h : Header) (t : List ℕ) (σ : State) → shift ≤ 6 → headerOf s ≡ answered h → h .«minimum_index» < h .«maximum_index»
     → 0 < length t → createBy shift s t ≡ answered σ → state (holding h shift 1) (set t 0 (h .«header_size»)) ≡ σ
-fresh-finder shift s h t σ e l r c =
+fresh-finder shift s h t σ z e l r c =
     let a : createBy shift s t ≡ begunBy shift t h = create-is shift s t (answered h) e in
-    cc (begun-some shift t h l r)
+    cc (begun-some shift t h z l r)
 
 -- a creation that was answered had room
-pub fresh-room : (shift : ℕ) (s : List ℕ) (h : Header) (t : List ℕ) (σ : State) → headerOf s ≡ answered h → h .«minimum_index» < h .«maximum_index»
+pub fresh-room : (shift : ℕ) (s : List ℕ) (h : Header) (t : List ℕ) (σ : State) → shift ≤ 6 → headerOf s ≡ answered h → h .«minimum_index» < h .«maximum_index»
     → createBy shift s t ≡ answered σ → 0 < length t
-fresh-room shift s h t σ e l c = go (leb (length t) 0) refl
+fresh-room shift s h t σ z e l c = go (leb (length t) 0) refl
   where
     go : (x : Bool) → leb (length t) 0 ≡ x → 0 < length t
     go true q =
         let a : createBy shift s t ≡ begunBy shift t h = create-is shift s t (answered h) e in
-        let full : begunBy shift t h ≡ refused 13 [] = begun-full shift t h l (leb-true _ _ q) in
+        let full : begunBy shift t h ≡ refused 13 [] = begun-full shift t h z l (leb-true _ _ q) in
         let z : _≡_ {A = ℕ} 0 1 = cc in
         absurd (omega arith)
     go false q = leb-false _ _ q
@@ -196,25 +206,26 @@ fresh-iter tag s h c e i = cc (iter-is tag s h e)
 
 -- ---- demand 3
 
-pub demand3-by : (b shift : ℕ) → 0 < b → Demand3By b shift
-unfolding Demand3By
-demand3-by b shift z tag s h t N τ d p =
+pub demand3-every : Demand3Every
+unfolding Demand3Every Demand3By
+demand3-every shift small tag s h t N τ d p =
     let ok : Accepted s h = accepted s h (p .accepted) (p .counts) in
-    let e : state (holding h shift 1) (set t 0 (h .«header_size»)) ≡ p .fresh = fresh-finder shift s h t (p .fresh) (p .accepted) (p .counts) (omega (arith, p .room)) (p .created) in
+    let e : state (holding h shift 1) (set t 0 (h .«header_size»)) ≡ p .fresh = fresh-finder shift s h t (p .fresh) small (p .accepted) (p .counts) (omega (arith, p .room)) (p .created) in
     let f : start tag h ≡ p .first = fresh-iter tag s h (p .first) (p .accepted) (p .begun) in
-    let g₀ : Stage b shift s h t 0 (start tag h) (p .fresh) = subst (λ (ρ : State). Stage b shift s h t 0 (start tag h) ρ) e (stage-none b shift z s h t ok tag (omega (arith, p .room))) in
-    let g₁ : Stage b shift s h t 0 (p .first) (p .fresh) = subst (λ (c : ItemIter). Stage b shift s h t 0 c (p .fresh)) f g₀ in
-    let g : Stage b shift s h t N (p .cursor) τ = stages b shift z s h t ok (p .first) (p .fresh) N (p .cursor) τ g₁ (p .room) (p .walked) in
-    let he : τ .finder .held ≡ 1 + N / b = ap (λ (f : ItemFinder). f .held) (g .finder) in
+    let g₀ : Stage shift s h t 0 (start tag h) (p .fresh) = subst (λ (ρ : State). Stage shift s h t 0 (start tag h) ρ) e (stage-none shift small s h t ok tag (omega (arith, p .room))) in
+    let g₁ : Stage shift s h t 0 (p .first) (p .fresh) = subst (λ (c : ItemIter). Stage shift s h t 0 c (p .fresh)) f g₀ in
+    let g : Stage shift s h t N (p .cursor) τ = stages shift small s h t ok (p .first) (p .fresh) N (p .cursor) τ g₁ (p .room) (p .walked) in
+    let he : τ .finder .held ≡ 1 + N / 2 ^ shift = ap (λ (f : ItemFinder). f .held) (g .finder) in
+    let sh : τ .finder .shift ≡ shift = ap (λ (f : ItemFinder). f .shift) (g .finder) in
     let mi : τ .finder .«minimum_index» ≡ h .«minimum_index» = ap (λ (f : ItemFinder). f .«minimum_index») (g .finder) in
     let ma : τ .finder .«maximum_index» ≡ h .«maximum_index» = ap (λ (f : ItemFinder). f .«maximum_index») (g .finder) in
-    let o : Ready s τ = record { short = ok .short; held = omega (arith, he, g .room, p .room) } in
-    subst (λ (f : ItemFinder). findBy b s τ (indexIn tag (f .«minimum_index» + d)) ≡ looked b tag s (h .«header_size») f d) (g .finder)
-    (find-placed b tag s (h .«header_size») τ d o (g .placed) (omega (arith, mi, ma, p .upto)))
+    let o : Ready s τ = record { short = ok .short; shift = omega arith; held = omega (arith, he, g .room, p .room) } in
+    subst (λ (f : ItemFinder). findOf s τ (indexIn tag (f .«minimum_index» + d)) ≡ looked tag s (h .«header_size») f d) (g .finder)
+    (find-placed tag s (h .«header_size») τ d o (g .placed) (omega (arith, mi, ma, p .upto)))
 
 pub demand3 : Demand3
-unfolding Demand3
-demand3 = demand3-by 8 3 (omega arith)
+unfolding Demand3 Demand3Every
+demand3 = demand3-every 3 (omega arith)
 
 -- ---- "not indexed" exactly if
 gives-number : (i : ItemIndex) (k from : ℕ) (x : Hit) → eqb (numberGiven (gives i k from x)) 9 ≡ false
@@ -225,22 +236,22 @@ looked-number : (x : Bool) (n m : ℕ) (i : ItemIndex) (k from : ℕ) (y : Hit) 
 looked-number true n m i k from y = refl
 looked-number false n m i k from y = gives-number i k from y
 
-pub not-indexed-by : (b shift : ℕ) → 0 < b → NotIndexedBy b shift
-unfolding NotIndexedBy Demand3By
-not-indexed-by b shift z tag s h t N τ d p =
-    ap (λ (a : Answer Found). eqb (numberGiven a) 9) (demand3-by b shift z tag s h t N τ d p)
-    ∙ looked-number (leb (1 + N / b) (d / b)) (h .«minimum_index» + d) (maxIndexBy b (holding h shift (1 + N / b))) (indexIn tag (h .«minimum_index» + d)) (d % b) (d / b * b) (linkOf s (h .«header_size») d)
-    ∙ ap (λ (x : ℕ). leb x (d / b)) (one-add (N / b))
+pub not-indexed-every : NotIndexedEvery
+unfolding NotIndexedEvery NotIndexedBy Demand3Every Demand3By
+not-indexed-every shift small tag s h t N τ d p =
+    ap (λ (a : Answer Found). eqb (numberGiven a) 9) (demand3-every shift small tag s h t N τ d p)
+    ∙ looked-number (leb (1 + N / 2 ^ shift) (d / 2 ^ shift)) (h .«minimum_index» + d) (maxIndexOf (holding h shift (1 + N / 2 ^ shift))) (indexIn tag (h .«minimum_index» + d)) (d % 2 ^ shift) (d / 2 ^ shift * 2 ^ shift) (linkOf s (h .«header_size») d)
+    ∙ ap (λ (x : ℕ). leb x (d / 2 ^ shift)) (one-add (N / 2 ^ shift))
 
 pub not-indexed : NotIndexed
-unfolding NotIndexed
-not-indexed = not-indexed-by 8 3 (omega arith)
+unfolding NotIndexed NotIndexedEvery
+not-indexed = not-indexed-every 3 (omega arith)
 
 -- ---- a walk of n turns has one outcome
 
-pub walked-one : (b : ℕ) (s : List ℕ) (c : ItemIter) (σ : State) (n : ℕ) (d e : ItemIter) (τ ρ : State) → Walked b s c σ n d τ → Walked b s c σ n e ρ → (d ≡ e) × (τ ≡ ρ)
-walked-one b s c σ zero d e τ ρ none none = (refl, refl)
-walked-one b s c σ (suc n) d e τ ρ (more {d = d₀} {τ = τ₀} w p) (more {d = e₀} {τ = ρ₀} v q) =
-    let h : (d₀ ≡ e₀) × (τ₀ ≡ ρ₀) = walked-one b s c σ n d₀ e₀ τ₀ ρ₀ w v in
+pub walked-one : (s : List ℕ) (c : ItemIter) (σ : State) (n : ℕ) (d e : ItemIter) (τ ρ : State) → Walked s c σ n d τ → Walked s c σ n e ρ → (d ≡ e) × (τ ≡ ρ)
+walked-one s c σ zero d e τ ρ none none = (refl, refl)
+walked-one s c σ (suc n) d e τ ρ (more {d = d₀} {τ = τ₀} w p) (more {d = e₀} {τ = ρ₀} v q) =
+    let h : (d₀ ≡ e₀) × (τ₀ ≡ ρ₀) = walked-one s c σ n d₀ e₀ τ₀ ρ₀ w v in
     let g : d ≡ e = cc (h .0) in
-    (g, ap (λ (x : ItemIter). after τ₀ (updateBy b τ₀ x)) g ∙ ap (λ (x : State). after x (updateBy b x e)) (h .1))
+    (g, ap (λ (x : ItemIter). after τ₀ (updateOf τ₀ x)) g ∙ ap (λ (x : State). after x (updateOf x e)) (h .1))

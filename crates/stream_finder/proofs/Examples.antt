@@ -12,12 +12,15 @@ use Rattle.stream_item.specs.Iterator.{itemAt}
 use Rattle.stream_item.proofs.Examples.{cursor}
 use Rattle.stream_item.specs.declared.Stream.the-variants.{Types, Ids}
 use Rattle.stream_item.specs.declared.Entry.the-variants.{Record, Marker}
-use Rattle.stream_finder.specs.Finder.{state, begunBy, createBy, updateBy, Found, maxIndexBy, lookBy, createOf, updateOf, findOf, maxIndexOf}
+use Rattle.stream_finder.specs.Finder.{state, begunBy, createBy, Found, lookOf, createOf, updateOf, findOf, maxIndexOf}
 use Rattle.stream_finder.specs.declared.ItemFinder.{ItemFinder}
 
--- a finder from 4096 to a maximum that holds so many places
+-- a finder from 4096 to a maximum that holds so many places, of a shift, and of the shift 3
+abbrev pub finderBy : ℕ → ℕ → ℕ → ItemFinder
+finderBy shift maximum n = record { «minimum_index» = 4096; «maximum_index» = maximum; held = n; shift = shift }
+
 abbrev pub finderTo : ℕ → ℕ → ItemFinder
-finderTo maximum n = record { «minimum_index» = 4096; «maximum_index» = maximum; held = n; shift = 3 }
+finderTo = finderBy 3
 
 abbrev pub found : ℕ → ℕ → ℕ → ℕ → Answer Found
 found i p n k = answered (record { entry = Record (itemAt Types i p n); passed = k })
@@ -35,7 +38,7 @@ pub finds : map (λ (i : ℕ). findOf streamE (state (finderTo 4098 1) (56 ∷ [
     ∷ refused 8 (4099 ∷ [])
     ∷ answered (record { entry = Marker (indexIn Types 4095); passed = 0 })
     ∷ []
-unfolding lookBy linkOf chain linkAt littleAt maxIndexBy
+unfolding lookOf linkOf chain linkAt littleAt maxIndexOf
 finds = refl
 
 -- the empty stream: 0 gives 9 with 0 and 0; 1 gives 8
@@ -47,7 +50,7 @@ unfolding createBy begunBy headerOf
 empty-created = refl
 
 pub empty-finds : map (λ (i : ℕ). findOf [] (state emptyFinder []) (indexIn Ids i)) (0 ∷ 1 ∷ []) ≡ refused 9 (0 ∷ 0 ∷ []) ∷ refused 8 (1 ∷ []) ∷ []
-unfolding lookBy linkOf chain linkAt littleAt maxIndexBy
+unfolding lookOf linkOf chain linkAt littleAt maxIndexOf
 empty-finds = refl
 
 -- an update where no place is due; where the next block starts; where there is no room for it; by a foreign cursor; and a claim past the table
@@ -57,18 +60,62 @@ pub updates : map (updateOf (state (finderTo 5000 1) (56 ∷ 0 ∷ []))) (cursor
     ∷ answered (state (finderTo 5000 1) (56 ∷ 0 ∷ []))
     ∷ refused 14 []
     ∷ []
-unfolding updateBy
+unfolding updateOf
 updates = refl
 
 pub full : updateOf (state (finderTo 5000 1) (56 ∷ [])) (cursor 91 4104) ≡ refused 13 []
-unfolding updateBy
+unfolding updateOf
 full = refl
 
 pub claim : updateOf (state (finderTo 5000 2) (56 ∷ [])) (cursor 91 4097) ≡ refused 13 []
-unfolding updateBy
+unfolding updateOf
 claim = refl
 
 -- the highest index is held at 4,294,967,295
 pub highest : map maxIndexOf (finderTo 5000 0 ∷ finderTo 5000 1 ∷ finderTo 5000 600000000 ∷ []) ≡ 0 ∷ 4103 ∷ 4294967295 ∷ []
-unfolding maxIndexBy
+unfolding maxIndexOf
 highest = refl
+
+-- ---- R-7: the finder's own shift
+
+-- creation: 0 to 6 are taken and 7 is 26, also where there is no room, and where the empty stream counts no record; a refused header comes first
+pub created-by : map (λ (shift : ℕ). createBy shift streamE (7 ∷ [])) (0 ∷ 6 ∷ 7 ∷ 255 ∷ [])
+    ≡ answered (state (finderBy 0 4098 1) (56 ∷ []))
+    ∷ answered (state (finderBy 6 4098 1) (56 ∷ []))
+    ∷ refused 26 []
+    ∷ refused 26 []
+    ∷ []
+unfolding createBy begunBy headerOf littleAt
+created-by = refl
+
+pub created-26 : createBy 7 streamE [] ∷ createBy 7 [] [] ∷ createBy 7 (1 ∷ []) [] ∷ [] ≡ refused 26 [] ∷ refused 26 [] ∷ refused 1 [] ∷ []
+unfolding createBy begunBy headerOf littleAt
+created-26 = refl
+
+-- shift 0 has a place for each record, and a lookup passes no link; shift 1 passes one to 4097; a finder of shift 7 is 26 for every index,
+-- whatever it claims
+pub finds-by : map (λ (i : ℕ). findOf streamE (state (finderBy 0 4098 2) (56 ∷ 66 ∷ [])) (indexIn Types i)) (4096 ∷ 4097 ∷ 4098 ∷ [])
+    ≡ found 4096 58 8 0 ∷ found 4097 68 10 0 ∷ refused 9 (4098 ∷ 4097 ∷ []) ∷ []
+unfolding lookOf linkOf chain linkAt littleAt maxIndexOf
+finds-by = refl
+
+pub finds-26 : map (λ (i : ℕ). findOf streamE (state (finderBy 7 4098 2) (56 ∷ [])) (indexIn Types i)) (0 ∷ 4096 ∷ 4099 ∷ []) ≡ refused 26 [] ∷ refused 26 [] ∷ refused 26 [] ∷ []
+unfolding lookOf
+finds-26 = refl
+
+-- at shift 0 a place is due at each record, at shift 6 at the 64th; a shift of 7 is 26 before the claim and the foreign cursor
+pub updates-by :
+    updateOf (state (finderBy 0 5000 1) (56 ∷ 0 ∷ [])) (cursor 90 4097) ∷ updateOf (state (finderBy 6 5000 1) (56 ∷ 0 ∷ [])) (cursor 90 4159)
+    ∷ updateOf (state (finderBy 6 5000 1) (56 ∷ 0 ∷ [])) (cursor 91 4160) ∷ updateOf (state (finderBy 7 5000 2) (56 ∷ [])) (cursor 90 0) ∷ []
+    ≡ answered (state (finderBy 0 5000 2) (56 ∷ 90 ∷ []))
+    ∷ answered (state (finderBy 6 5000 1) (56 ∷ 0 ∷ []))
+    ∷ answered (state (finderBy 6 5000 2) (56 ∷ 91 ∷ []))
+    ∷ refused 26 []
+    ∷ []
+unfolding updateOf
+updates-by = refl
+
+-- one place serves 2^shift records; with a shift above 6 none
+pub highest-by : map (λ (shift : ℕ). maxIndexOf (finderBy shift 5000 1)) (0 ∷ 1 ∷ 2 ∷ 3 ∷ 4 ∷ 5 ∷ 6 ∷ 7 ∷ []) ≡ 4096 ∷ 4097 ∷ 4099 ∷ 4103 ∷ 4111 ∷ 4127 ∷ 4159 ∷ 0 ∷ []
+unfolding maxIndexOf
+highest-by = refl

@@ -1,4 +1,4 @@
--- The premises of demand 3 are met: stream E walked whole, and a stream of 18 records, a link of one byte, which `next` refuses and `find` passes,
+-- The premises of demand 3 are met: stream E walked whole, at the shifts 3, 0 and 6, and a stream of 18 records, a link of one byte, which `next` refuses and `find` passes,
 -- and one more. Assumes nothing.
 use Prim.Native.Nat.{ℕ, zero, suc, _+_, _*_, _≤_}
 use mathlib.Core.Path.{_≡_, refl, subst}
@@ -15,19 +15,50 @@ use Rattle.stream_item.specs.Iterator.{iterOf, yielded, itemAt, nextOf}
 use Rattle.stream_item.proofs.Examples.{cursor}
 use Rattle.stream_item.specs.declared.Stream.the-variants.{Types}
 use Rattle.stream_item.specs.declared.iter.ItemIter.{ItemIter}
-use Rattle.stream_finder.specs.Finder.{State, state, begunBy, createBy, updateBy, after, Found, findOf}
+use Rattle.stream_finder.specs.Finder.{State, state, begunBy, createBy, updateOf, after, Found, findOf}
 use Rattle.stream_finder.specs.Demand.{Walked, none, more, Premises, Demand3By, Demand3}
-use Rattle.stream_finder.proofs.Examples.{finderTo, found}
+use Rattle.stream_finder.proofs.Examples.{finderBy, finderTo, found}
 use Rattle.stream_finder.proofs.DemandProof.{demand3}
 
 -- ---- stream E, N = 2: one place is enough
-pub walkedE : (d : ℕ) → d ≤ 2 → Premises 8 3 Types streamE (fieldsOf streamE) (0 ∷ []) 2 (state (finderTo 4098 1) (56 ∷ [])) d
-unfolding headerOf littleAt createBy begunBy iterOf nextOf updateBy
+pub walkedE : (d : ℕ) → d ≤ 2 → Premises 3 Types streamE (fieldsOf streamE) (0 ∷ []) 2 (state (finderTo 4098 1) (56 ∷ [])) d
+unfolding headerOf littleAt createBy begunBy iterOf nextOf updateOf
 walkedE d h = record {
   accepted = refl;
   counts = omega arith;
   room = omega arith;
   fresh = state (finderTo 4098 1) (56 ∷ []);
+  created = refl;
+  first = cursor 56 4096;
+  begun = refl;
+  cursor = cursor 78 4098;
+  walked = more (more none refl) refl;
+  upto = omega arith;
+}
+
+-- the same with a place for each record, and with one place for 64
+pub walkedE-0 : (d : ℕ) → d ≤ 2 → Premises 0 Types streamE (fieldsOf streamE) (0 ∷ 0 ∷ 0 ∷ []) 2 (state (finderBy 0 4098 3) (56 ∷ 66 ∷ 78 ∷ [])) d
+unfolding headerOf littleAt createBy begunBy iterOf nextOf updateOf
+walkedE-0 d h = record {
+  accepted = refl;
+  counts = omega arith;
+  room = omega arith;
+  fresh = state (finderBy 0 4098 1) (56 ∷ 0 ∷ 0 ∷ []);
+  created = refl;
+  first = cursor 56 4096;
+  begun = refl;
+  cursor = cursor 78 4098;
+  walked = more (more none refl) refl;
+  upto = omega arith;
+}
+
+pub walkedE-6 : (d : ℕ) → d ≤ 2 → Premises 6 Types streamE (fieldsOf streamE) (0 ∷ []) 2 (state (finderBy 6 4098 1) (56 ∷ [])) d
+unfolding headerOf littleAt createBy begunBy iterOf nextOf updateOf
+walkedE-6 d h = record {
+  accepted = refl;
+  counts = omega arith;
+  room = omega arith;
+  fresh = state (finderBy 6 4098 1) (56 ∷ []);
   created = refl;
   first = cursor 56 4096;
   begun = refl;
@@ -58,29 +89,29 @@ twoL = state (finderTo 4116 2) (56 ∷ 88 ∷ 0 ∷ [])
 abbrev pub threeL : State
 threeL = state (finderTo 4116 3) (56 ∷ 88 ∷ 120 ∷ [])
 
-step : (k : ℕ) (σ τ : State) → Walked 8 streamL (cursorL 0) oneL k (cursorL k) σ
+step : (k : ℕ) (σ τ : State) → Walked streamL (cursorL 0) oneL k (cursorL k) σ
     → nextOf streamL (cursorL k) ≡ answered (yielded (itemAt Types (4096 + k) (58 + 4 * k) 2) (cursorL (suc k)))
-    → after σ (updateBy 8 σ (cursorL (suc k))) ≡ τ
-    → Walked 8 streamL (cursorL 0) oneL (suc k) (cursorL (suc k)) τ
-step k σ τ w e f = subst (λ (ρ : State). Walked 8 streamL (cursorL 0) oneL (suc k) (cursorL (suc k)) ρ) f (more w e)
+    → after σ (updateOf σ (cursorL (suc k))) ≡ τ
+    → Walked streamL (cursorL 0) oneL (suc k) (cursorL (suc k)) τ
+step k σ τ w e f = subst (λ (ρ : State). Walked streamL (cursorL 0) oneL (suc k) (cursorL (suc k)) ρ) f (more w e)
 
-walked8 : Walked 8 streamL (cursorL 0) oneL 8 (cursorL 8) twoL
-unfolding nextOf updateBy littleAt
+walked8 : Walked streamL (cursorL 0) oneL 8 (cursorL 8) twoL
+unfolding nextOf updateOf littleAt
 walked8 =
     step 7 oneL twoL (step 6 oneL oneL (step 5 oneL oneL (step 4 oneL oneL (step 3 oneL oneL (step 2 oneL oneL (step 1 oneL oneL (step 0 oneL oneL
     none refl refl) refl refl) refl refl) refl refl) refl refl) refl refl) refl refl) refl refl
 
-walked16 : Walked 8 streamL (cursorL 0) oneL 16 (cursorL 16) threeL
-unfolding nextOf updateBy littleAt
+walked16 : Walked streamL (cursorL 0) oneL 16 (cursorL 16) threeL
+unfolding nextOf updateOf littleAt
 walked16 =
     step 15 twoL threeL (step 14 twoL twoL (step 13 twoL twoL (step 12 twoL twoL (step 11 twoL twoL (step 10 twoL twoL (step 9 twoL twoL (step 8 twoL twoL
     walked8 refl refl) refl refl) refl refl) refl refl) refl refl) refl refl) refl refl) refl refl
 
-walkedL : Walked 8 streamL (cursorL 0) oneL 18 (cursorL 18) threeL
-unfolding nextOf updateBy littleAt
+walkedL : Walked streamL (cursorL 0) oneL 18 (cursorL 18) threeL
+unfolding nextOf updateOf littleAt
 walkedL = step 17 threeL threeL (step 16 threeL threeL walked16 refl refl) refl refl
 
-pub premisesL : (d : ℕ) → d ≤ 20 → Premises 8 3 Types streamL (fieldsOf streamL) (0 ∷ 0 ∷ 0 ∷ []) 18 (threeL) d
+pub premisesL : (d : ℕ) → d ≤ 20 → Premises 3 Types streamL (fieldsOf streamL) (0 ∷ 0 ∷ 0 ∷ []) 18 (threeL) d
 unfolding headerOf littleAt createBy begunBy iterOf
 premisesL d h = record {
   accepted = refl;

@@ -1,6 +1,6 @@
--- Document 01, "Finder": creation, `update`, `find` and `max_index`, each over the number b of links in a block, which is 8 whatever the
--- finder's shift field holds.
-use Prim.Native.Nat.{ℕ, _+_, _-_, _*_, _/_, _%_, min}
+-- Document 01, "Finder", with R-7 of document 02: creation, `update`, `find` and `max_index`. A finder has a shift from 0 to 6 since its
+-- creation, and its blocks have 2^shift links: 01's 8 is the shift 3. A shift above 6 is 26, right before the first 13.
+use Prim.Native.Nat.{ℕ, _+_, _-_, _*_, _/_, _%_, _^_, min}
 use mathlib.Core.List.{List, [], _∷_}
 use mathlib.Core.Path.{_≡_}
 use mathlib.Core.Bool.{Bool}
@@ -32,32 +32,41 @@ pub record State : Type 0 where
 abbrev pub state : ItemFinder → List ℕ → State
 state f t = record { finder = f; table = t }
 
+-- how many links a block has, by the finder's own shift
+abbrev pub blockOf : ItemFinder → ℕ
+blockOf f = 2 ^ f .shift
+
 -- d: how far an index is above the minimum
 abbrev pub distance : ItemFinder → ℕ → ℕ
 distance f n = n - f .«minimum_index»
 
 -- ---- creation
 
--- the finder of a header's stream that holds n places
+-- the finder of a header's stream that has this shift and holds n places
 abbrev pub holding : Header → ℕ → ℕ → ItemFinder
 holding h shift n = record { «minimum_index» = h .«minimum_index»; «maximum_index» = h .«maximum_index»; held = n; shift = shift }
 
--- header_size in place 0 if the count is positive (13 if there is no room), else none
+-- 26 whether or not there are records; then header_size in place 0 if the count is positive (13 if there is no room), else none
 unfoldable pub begunBy : ℕ → List ℕ → Header → Answer State
 begunBy shift t h =
-    pick (ltb (h .«minimum_index») (h .«maximum_index»))
+    stop (ltb 6 shift) 26
+    (pick (ltb (h .«minimum_index») (h .«maximum_index»))
     (stop (leb (length t) 0) 13 (answered (state (holding h shift 1) (set t 0 (h .«header_size»)))))
-    (answered (state (holding h shift 0) t))
+    (answered (state (holding h shift 0) t)))
 
--- 16, the header's own, then 13
+-- 16, the header's own, 26, then 13
 unfoldable pub createBy : ℕ → List ℕ → List ℕ → Answer State
 createBy shift s t = then (headerOf s) (begunBy shift t)
 
+-- without a shift it is 3
+abbrev pub createOf : List ℕ → List ℕ → Answer State
+createOf = createBy 3
+
 -- ---- update
 
--- an index that starts a block, and the finder holds just the places before it: d mod b is 0 and d / b is the number of places held
-abbrev pub due : ℕ → ItemFinder → ℕ → Bool
-due b f i = both (eqb (distance f i % b) 0) (eqb (distance f i / b) (f .held))
+-- an index that starts a block, and the finder holds just the places before it: d mod 2^shift is 0 and d / 2^shift is the number of places held
+abbrev pub due : ItemFinder → ℕ → Bool
+due f i = both (eqb (distance f i % blockOf f) 0) (eqb (distance f i / blockOf f) (f .held))
 
 -- a new last place
 abbrev pub stored : State → ℕ → State
@@ -71,15 +80,16 @@ stored σ at = record {
   table = set (σ .table) (σ .finder .held) at;
 }
 
--- 16 (the cursor's position), 13 (the claim), 14, then 13 (no room for a place that is due)
-unfoldable pub updateBy : ℕ → State → ItemIter → Answer State
-updateBy b σ c =
+-- 16 (the cursor's position), 26, 13 (the claim), 14, then 13 (no room for a place that is due)
+unfoldable pub updateOf : State → ItemIter → Answer State
+updateOf σ c =
     stop (ltb longest (c .at)) 16
+    (stop (ltb 6 (σ .finder .shift)) 26
     (stop (ltb (length (σ .table)) (σ .finder .held)) 13
     (stop (ltb (c .index) (σ .finder .«minimum_index»)) 14
-    (pick (due b (σ .finder) (c .index))
+    (pick (due (σ .finder) (c .index))
     (stop (leb (length (σ .table)) (σ .finder .held)) 13 (answered (stored σ (c .at))))
-    (answered σ))))
+    (answered σ)))))
 
 -- what is left after an answer: a refusal changes nothing
 abbrev pub after : State → Answer State → State
@@ -93,45 +103,33 @@ pub record Found : Type 0 where
   pub entry : Entry
   pub passed : ℕ
 
--- 0 with no place, else b times the places, plus minimum minus 1, held at 4,294,967,295
-unfoldable pub maxIndexBy : ℕ → ItemFinder → ℕ
-maxIndexBy b f = pick (eqb (f .held) 0) 0 (min (b * f .held + f .«minimum_index» - 1) 4294967295)
+-- 0 with a shift above 6 and with no place, else 2^shift times the places, plus minimum minus 1, held at 4,294,967,295
+unfoldable pub maxIndexOf : ItemFinder → ℕ
+maxIndexOf f =
+    pick (ltb 6 (f .shift)) 0
+    (pick (eqb (f .held) 0) 0
+    (min (blockOf f * f .held + f .«minimum_index» - 1) 4294967295))
 
 -- the item of index i that a walk of k links landed on, or 1 with the links passed before one broke
 abbrev pub landed : ItemIndex → ℕ → Hit → Answer Found
 landed i k (Landed p n) = answered (record { entry = entry.Record (record { index = i; place = p; length = n }); passed = k })
 landed i k (Missed j) = refused 1 (j ∷ [])
 
--- index i, whose number is n: 16; 13 (the claim); below the minimum the marker; above the maximum 8; with d = n minus the minimum, 9 if d / b
--- is no held place; else from that place past d mod b links
-unfoldable pub lookBy : ℕ → List ℕ → State → ItemIndex → ℕ → Answer Found
-lookBy b s σ i n =
+-- index i, whose number is n: 16; 26; 13 (the claim); below the minimum the marker; above the maximum 8; with d = n minus the minimum, 9 if
+-- d / 2^shift is no held place; else from that place past d mod 2^shift links
+unfoldable pub lookOf : List ℕ → State → ItemIndex → ℕ → Answer Found
+lookOf s σ i n =
     stop (ltb longest (length s)) 16
+    (stop (ltb 6 (σ .finder .shift)) 26
     (stop (ltb (length (σ .table)) (σ .finder .held)) 13
     (pick (ltb n (σ .finder .«minimum_index»)) (answered (record { entry = entry.Marker i; passed = 0 }))
     (pick (ltb (σ .finder .«maximum_index») n) (refused 8 (n ∷ []))
-    (pick (leb (σ .finder .held) (distance (σ .finder) n / b)) (refused 9 (n ∷ maxIndexBy b (σ .finder) ∷ []))
-    (landed i (distance (σ .finder) n % b)
-    (linkOf s (getD (σ .table) (distance (σ .finder) n / b) 0) (distance (σ .finder) n % b)))))))
-
-abbrev pub findBy : ℕ → List ℕ → State → ItemIndex → Answer Found
-findBy b s σ i = lookBy b s σ i (numberIn i)
-
--- ---- as the code has it: blocks of 8, and 3 in a fresh finder's shift
-abbrev pub begunOf : List ℕ → Header → Answer State
-begunOf = begunBy 3
-
-abbrev pub createOf : List ℕ → List ℕ → Answer State
-createOf = createBy 3
-
-abbrev pub updateOf : State → ItemIter → Answer State
-updateOf = updateBy 8
+    (pick (leb (σ .finder .held) (distance (σ .finder) n / blockOf (σ .finder))) (refused 9 (n ∷ maxIndexOf (σ .finder) ∷ []))
+    (landed i (distance (σ .finder) n % blockOf (σ .finder))
+    (linkOf s (getD (σ .table) (distance (σ .finder) n / blockOf (σ .finder)) 0) (distance (σ .finder) n % blockOf (σ .finder)))))))))
 
 abbrev pub findOf : List ℕ → State → ItemIndex → Answer Found
-findOf = findBy 8
-
-abbrev pub maxIndexOf : ItemFinder → ℕ
-maxIndexOf = maxIndexBy 8
+findOf s σ i = lookOf s σ i (numberIn i)
 
 -- ---- what the answers say
 abbrev pub saidFind : FindAnswer → Answer Found

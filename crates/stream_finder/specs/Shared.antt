@@ -10,7 +10,7 @@ use Rattle.stream_item.specs.Iterator.{iterOf, yielded, nextOf}
 use Rattle.stream_item.specs.declared.Stream.{Stream}
 use Rattle.stream_item.specs.declared.Item.{Item}
 use Rattle.stream_item.specs.declared.iter.ItemIter.{ItemIter}
-use Rattle.stream_finder.specs.Finder.{State, createBy, updateBy, after, findBy}
+use Rattle.stream_finder.specs.Finder.{State, createBy, updateOf, after, findOf}
 use Rattle.stream_finder.specs.Places.{Placed}
 use Rattle.stream_finder.specs.Demand.{looked}
 
@@ -20,21 +20,25 @@ pub data Roamed (s : List ℕ) (c : ItemIter) : ItemIter → Type 0 where
   moved : {d : ItemIter} {i : Item} {d′ : ItemIter} → Roamed s c d → nextOf s d ≡ answered (yielded i d′) → Roamed s c d′
 
 -- a state that any such cursors updated
-pub data Updated (b : ℕ) (s : List ℕ) (c : ItemIter) (σ : State) : State → Type 0 where
-  untouched : Updated b s c σ σ
-  by : {τ : State} {d : ItemIter} → Updated b s c σ τ → Roamed s c d → Updated b s c σ (after τ (updateBy b τ d))
+pub data Updated (s : List ℕ) (c : ItemIter) (σ : State) : State → Type 0 where
+  untouched : Updated s c σ σ
+  by : {τ : State} {d : ItemIter} → Updated s c σ τ → Roamed s c d → Updated s c σ (after τ (updateOf τ d))
 
 -- every held place is the start of its block, and a lookup answers as the chain does
-unfoldable pub SharedBy : ℕ → ℕ → Type 0
-SharedBy b shift =
+unfoldable pub SharedBy : ℕ → Type 0
+SharedBy shift =
     (tag : Stream) (s : List ℕ) (h : Header) (t : List ℕ) (σ : State) (c : ItemIter) (τ : State)
     → headerOf s ≡ answered h → h .«minimum_index» < h .«maximum_index»
     → createBy shift s t ≡ answered σ
     → iterOf tag s ≡ answered c
-    → Updated b s c σ τ
-    → Placed b s (h .«header_size») τ
+    → Updated s c σ τ
+    → Placed s (h .«header_size») τ
     × ((d : ℕ) → h .«minimum_index» + d ≤ h .«maximum_index»
-    → findBy b s τ (indexIn tag (h .«minimum_index» + d)) ≡ looked b tag s (h .«header_size») (τ .finder) d)
+    → findOf s τ (indexIn tag (h .«minimum_index» + d)) ≡ looked tag s (h .«header_size») (τ .finder) d)
+
+-- for every shift from 0 to 6
+unfoldable pub SharedEvery : Type 0
+SharedEvery = (shift : ℕ) → shift ≤ 6 → SharedBy shift
 
 unfoldable pub Shared : Type 0
-Shared = SharedBy 8 3
+Shared = SharedBy 3

@@ -1,9 +1,11 @@
-// The finder: it holds where every eighth record of a stream starts, so that a record is found by its index. Document 01, "Finder".
+// The finder: it holds where every block of records of a stream starts, so that a record is found by its index. Document 01, "Finder", and
+// R-7 of document 02.
 //
-// Its time and space: one place of 4 bytes for 8 records is 4 bits a record, and a lookup starts at its block's place and passes 0 to 7
-// links, 3.5 on average, each a load of a u16 and a dozen instructions. A place for each record would be 32 bits for no link passed, blocks
-// of 16 would be 2 bits for 7.5 links. Records are short (84% have at most 32 bytes), so that a block mostly lies in a few cache lines.
-// 500,000 records take 250 KB of table.
+// Its time and space: a block is 2^shift links, the shift chosen at creation, from 0 to 6. At 3, which `create` takes, one place of 4 bytes
+// for 8 records is 4 bits a record, and a lookup starts at its block's place and passes 0 to 7 links, 3.5 on average, each a load of a u16
+// and seven instructions. Shift 0, a place for each record, is 32 bits for no link passed; shift 6, blocks of 64, is half a bit for 31.5
+// links. Records are short (84% have at most 32 bytes), so that a block of 8 mostly lies in a few cache lines. 500,000 records take 250 KB
+// of table at shift 3, 2 MB at 0 and 31 KB at 6.
 //
 // The places live in a table that the caller lends; the finder itself is a few numbers, and comes and goes by value;
 // lent.rt has it lent by `&mut` and by `&`.
@@ -11,7 +13,8 @@ pub mod lent;
 
 ghost use mathlib.Core.Path.{_≡_};
 ghost use Rattle.stream_item.specs.declared.ItemIndex.the-variants as index;
-ghost use Rattle.stream_finder.specs.Finder.{state, begunOf, createOf, updateOf, Fills, maxIndexOf, findOf, saidFind};
+ghost use Prim.Native.Nat.{_%_, _^_, _≤_};
+ghost use Rattle.stream_finder.specs.Finder.{state, begunBy, createBy, createOf, updateOf, Fills, maxIndexOf, findOf, saidFind};
 use answer::Refusal;
 use field::index::IdIndex;
 use field::index::TypeIndex;
@@ -24,13 +27,14 @@ use stream_item::ItemIndex;
 use stream_item::iter::ItemIter;
 use stream_item::link::Hit;
 
-// The links of a block.
-const BLOCK: usize = 8;
+// The shift of a finder whose creation names none: blocks of 8 links.
+pub const SHIFT: u32 = 3;
 
-// What a fresh finder has in `shift`: a block is 2 to that power. No code reads it yet.
-const SHIFT: u32 = 3;
+// The largest shift: blocks of 64 links.
+const LARGEST_SHIFT: u32 = 6;
 
-// The finder: the stream's least index, the index behind its last, and how many places of the lent table it holds.
+// The finder: the stream's least index, the index behind its last, how many places of the lent table it holds, and its shift: a block is
+// 2^shift links.
 pub struct ItemFinder {
     pub minimum_index: u32,
     pub maximum_index: u32,
@@ -49,28 +53,38 @@ pub enum FindAnswer {
     Refused(Refusal),
 }
 
-// A fresh finder of a stream: it holds the place of the first record, if there is one.
+// A fresh finder of a stream, with blocks of 8: it holds the place of the first record, if there is one.
 pub fn create(s: &[u8], t: &mut [u32]) -> FinderAnswer
     ensures { λ r. ⌜ Fills (now (t .entry)) (createOf (now (s .entry)) (now (t .entry))) r (now (t .exit)) ⌝ }
 {
+    create_by(s, t, SHIFT)
+}
+
+// A fresh finder of a stream, with blocks of 2^shift.
+pub fn create_by(s: &[u8], t: &mut [u32], shift: u32) -> FinderAnswer
+    ensures { λ r. ⌜ Fills (now (t .entry)) (createBy shift (now (s .entry)) (now (t .entry))) r (now (t .exit)) ⌝ }
+{
     match Header::parse(s) {
-        HeaderAnswer::Answered(h) => begun(t, h),
+        HeaderAnswer::Answered(h) => begun(t, h, shift),
         HeaderAnswer::Refused(e) => FinderAnswer::Refused(e),
     }
 }
 
 // A fresh finder of the stream that has this header.
-fn begun(t: &mut [u32], h: Header) -> FinderAnswer
-    ensures { λ r. ⌜ Fills (now (t .entry)) (begunOf (now (t .entry)) h) r (now (t .exit)) ⌝ }
+fn begun(t: &mut [u32], h: Header, shift: u32) -> FinderAnswer
+    ensures { λ r. ⌜ Fills (now (t .entry)) (begunBy shift (now (t .entry)) h) r (now (t .exit)) ⌝ }
 {
     let minimum = h.minimum_index;
     let maximum = h.maximum_index;
+    if shift > LARGEST_SHIFT {
+        return FinderAnswer::Refused(Refusal::Shift);
+    }
     if maximum <= minimum {
         return FinderAnswer::Answered(ItemFinder {
             minimum_index: minimum,
             maximum_index: maximum,
             held: 0,
-            shift: SHIFT,
+            shift: shift,
         });
     }
     if t.len() == 0 {
@@ -81,8 +95,16 @@ fn begun(t: &mut [u32], h: Header) -> FinderAnswer
         minimum_index: minimum,
         maximum_index: maximum,
         held: 1,
-        shift: SHIFT,
+        shift: shift,
     })
+}
+
+// The links that a lookup at distance d passes in its block: d mod 2^shift.
+fn rest_of(d: u32, shift: u32) -> u32
+    requires { ⌜ shift ≤ 6 ⌝ }
+    ensures { λ r. ⌜ r ≡ d % 2 ^ shift ⌝ }
+{
+    d & ((1 << shift) - 1)
 }
 
 // The finder after an iterator came to a record: it holds the record's place if that starts the next block.
@@ -93,8 +115,12 @@ pub fn update(f: ItemFinder, t: &mut [u32], c: ItemIter) -> FinderAnswer
     let index = c.index;
     let minimum = f.minimum_index;
     let held = f.held;
+    let shift = f.shift;
     if at > LONGEST {
         return FinderAnswer::Refused(Refusal::TooLong);
+    }
+    if shift > LARGEST_SHIFT {
+        return FinderAnswer::Refused(Refusal::Shift);
     }
     if held > t.len() {
         return FinderAnswer::Refused(Refusal::TableFull);
@@ -102,9 +128,12 @@ pub fn update(f: ItemFinder, t: &mut [u32], c: ItemIter) -> FinderAnswer
     if index < minimum {
         return FinderAnswer::Refused(Refusal::ForeignCursor);
     }
-    // d mod 8 is 0 and d / 8 is the number of places held, as one test: d is 8 times that number
+    // the quotient first: of an iterator's records it is the places held only where a block starts
     let d = index - minimum;
-    if (d as usize) != BLOCK * held {
+    if (d >> shift) as usize != held {
+        return FinderAnswer::Answered(f);
+    }
+    if rest_of(d, shift) != 0 {
         return FinderAnswer::Answered(f);
     }
     if held == t.len() {
@@ -117,7 +146,7 @@ pub fn update(f: ItemFinder, t: &mut [u32], c: ItemIter) -> FinderAnswer
         minimum_index: minimum,
         maximum_index: f.maximum_index,
         held: more,
-        shift: f.shift,
+        shift: shift,
     })
 }
 
@@ -128,13 +157,17 @@ impl ItemFinder {
     {
         let held = self.held;
         let minimum = self.minimum_index;
+        let shift = self.shift;
+        if shift > LARGEST_SHIFT {
+            return 0;
+        }
         if held == 0 {
             return 0;
         }
         if held > 4294967295 {
             return 4294967295;
         }
-        let top = BLOCK * held + (minimum as usize) - 1;
+        let top = (held << shift) + (minimum as usize) - 1;
         if top > 4294967295 {
             return 4294967295;
         }
@@ -180,7 +213,10 @@ fn find(s: &[u8], f: ItemFinder, t: &[u32], i: ItemIndex) -> FindAnswer
     if s.len() > LONGEST {
         return FindAnswer::Refused(Refusal::TooLong);
     }
-    if held > t.len() {
+    if f.shift > LARGEST_SHIFT {
+        return FindAnswer::Refused(Refusal::Shift);
+    }
+    if t.len() < held {
         return FindAnswer::Refused(Refusal::TableFull);
     }
     if n < minimum {
@@ -189,12 +225,13 @@ fn find(s: &[u8], f: ItemFinder, t: &[u32], i: ItemIndex) -> FindAnswer
     if n > maximum {
         return FindAnswer::Refused(Refusal::NotFound(n));
     }
-    let d = (n - minimum) as usize;
-    let block = d / BLOCK;
+    let shift = f.shift;
+    let d = n - minimum;
+    let block = (d >> shift) as usize;
     if block >= held {
         return FindAnswer::Refused(Refusal::NotIndexed(n, f.highest()));
     }
-    let k = (d % BLOCK) as u32;
+    let k = rest_of(d, shift);
     let p = t[block] as usize;
     match stream_item::link::link_of(s, p, k) {
         Hit::Landed(place, length) => FindAnswer::Found(

@@ -16,12 +16,12 @@ use Rattle.stream_item.proofs.NextLaws.{Yields, yields}
 use Rattle.stream_item.specs.declared.Stream.{Stream}
 use Rattle.stream_item.specs.declared.Item.{Item}
 use Rattle.stream_item.specs.declared.iter.ItemIter.{ItemIter}
-use Rattle.stream_finder.specs.Finder.{State, state, createBy, updateBy, saidFinder, finderOf, tableAfter, Fills}
+use Rattle.stream_finder.specs.Finder.{State, state, createBy, updateOf, saidFinder, finderOf, tableAfter, Fills}
 use Rattle.stream_finder.proofs.FinderLaws.{create-is}
 use Rattle.stream_finder.specs.declared.ItemFinder.{ItemFinder}
 use Rattle.stream_finder.specs.declared.FinderAnswer.{FinderAnswer}
 use Rattle.stream_finder.specs.declared.FinderAnswer.the-variants as finder
-use Rattle.stream_index.specs.Walk.{Turn, over, moved, updating, turnBy, saidTurn, turnTable, Leads, Turns, more, saidEnd, Walks}
+use Rattle.stream_index.specs.Walk.{Turn, over, moved, updating, turnOf, saidTurn, turnTable, Leads, Turns, more, saidEnd, Walks}
 use Rattle.stream_index.specs.declared.TurnAnswer.{TurnAnswer}
 use Rattle.stream_index.specs.declared.TurnAnswer.the-variants as turn
 use Rattle.stream_index.specs.declared.End.{End}
@@ -42,13 +42,13 @@ leaves-refused t a r t′ e l h = go a (sym (ap saidFinder h) ∙ l .answer) (l 
     go (refused n d) p q = (cc, q)
 
 -- ---- a turn
-module _ (b : ℕ) (s : List ℕ) (σ : State) (c : ItemIter) where
-  pub turn-next : (a : Answer Next) → nextOf s c ≡ a → turnBy b s σ c ≡ then a (updating b σ)
-  unfolding turnBy
+module _ (s : List ℕ) (σ : State) (c : ItemIter) where
+  pub turn-next : (a : Answer Next) → nextOf s c ≡ a → turnOf s σ c ≡ then a (updating σ)
+  unfolding turnOf
   turn-next a e = rw e
 
-  pub turn-updates : (i : Item) (d : ItemIter) (a : Answer State) → nextOf s c ≡ answered (yielded i d) → updateBy b σ d ≡ a
-      → turnBy b s σ c ≡ then a (λ τ. answered (moved τ d))
+  pub turn-updates : (i : Item) (d : ItemIter) (a : Answer State) → nextOf s c ≡ answered (yielded i d) → updateOf σ d ≡ a
+      → turnOf s σ c ≡ then a (λ τ. answered (moved τ d))
   turn-updates i d a e h = turn-next (answered (yielded i d)) e ∙ ap (λ (x : Answer State). then x (λ τ. answered (moved τ d))) h
 
 -- the contract from the case that holds
@@ -70,26 +70,26 @@ leads-refused t a r t′ e l q =
     (h, l .table ∙ ap (turnTable t) h)
 
 -- ---- back: a turn that moved was a record yielded and an update answered
-pub record Moves (b : ℕ) (s : List ℕ) (σ : State) (c : ItemIter) (τ : State) (d : ItemIter) : Type 0 where
+pub record Moves (s : List ℕ) (σ : State) (c : ItemIter) (τ : State) (d : ItemIter) : Type 0 where
   pub item : Item
   pub yield : nextOf s c ≡ answered (yielded item d)
-  pub update : updateBy b σ d ≡ answered τ
+  pub update : updateOf σ d ≡ answered τ
 
-pub turn-back : (b : ℕ) (s : List ℕ) (σ : State) (c : ItemIter) (τ : State) (d : ItemIter) → turnBy b s σ c ≡ answered (moved τ d) → Moves b s σ c τ d
-unfolding turnBy
-turn-back b s σ c τ d e = go (nextOf s c) refl e
+pub turn-back : (s : List ℕ) (σ : State) (c : ItemIter) (τ : State) (d : ItemIter) → turnOf s σ c ≡ answered (moved τ d) → Moves s σ c τ d
+unfolding turnOf
+turn-back s σ c τ d e = go (nextOf s c) refl e
   where
-    stored : (i : Item) (x : ItemIter) → nextOf s c ≡ answered (yielded i x) → (a : Answer State) → updateBy b σ x ≡ a
-        → then a (λ ρ. answered (moved ρ x)) ≡ answered (moved τ d) → Moves b s σ c τ d
+    stored : (i : Item) (x : ItemIter) → nextOf s c ≡ answered (yielded i x) → (a : Answer State) → updateOf σ x ≡ a
+        → then a (λ ρ. answered (moved ρ x)) ≡ answered (moved τ d) → Moves s σ c τ d
     stored i x n (answered ρ) u q =
         let xd : x ≡ d = cc in
         let ρτ : ρ ≡ τ = cc in
-        record { item = i; yield = n ∙ ap (λ (y : ItemIter). answered (yielded i y)) xd; update = sym (ap (updateBy b σ) xd) ∙ u ∙ ap (λ (ω : State). answered ω) ρτ }
+        record { item = i; yield = n ∙ ap (λ (y : ItemIter). answered (yielded i y)) xd; update = sym (ap (updateOf σ) xd) ∙ u ∙ ap (λ (ω : State). answered ω) ρτ }
     stored i x n (refused m y) u q = let z : _≡_ {A = ℕ} 0 1 = cc in absurd (omega arith)
 
-    go : (a : Answer Next) → nextOf s c ≡ a → then a (updating b σ) ≡ answered (moved τ d) → Moves b s σ c τ d
+    go : (a : Answer Next) → nextOf s c ≡ a → then a (updating σ) ≡ answered (moved τ d) → Moves s σ c τ d
     go (answered done) n q = let z : _≡_ {A = ℕ} 0 1 = cc in absurd (omega arith)
-    go (answered (yielded i x)) n q = stored i x n (updateBy b σ x) refl q
+    go (answered (yielded i x)) n q = stored i x n (updateOf σ x) refl q
     go (refused m y) n q = let z : _≡_ {A = ℕ} 0 1 = cc in absurd (omega arith)
 
 -- a turn goes on, and stays inside
@@ -97,20 +97,20 @@ pub record Further (s : List ℕ) (c d : ItemIter) : Type 0 where
   pub on : c .at < d .at
   pub inside : d .at ≤ length s
 
-pub turn-further : (b : ℕ) (s : List ℕ) (σ : State) (c : ItemIter) (τ : State) (d : ItemIter) → turnBy b s σ c ≡ answered (moved τ d) → Further s c d
-turn-further b s σ c τ d e =
-    let m : Moves b s σ c τ d = turn-back b s σ c τ d e in
+pub turn-further : (s : List ℕ) (σ : State) (c : ItemIter) (τ : State) (d : ItemIter) → turnOf s σ c ≡ answered (moved τ d) → Further s c d
+turn-further s σ c τ d e =
+    let m : Moves s σ c τ d = turn-back s σ c τ d e in
     let y : Yields s c (m .item) d = yields s c (m .item) d (m .yield) in
     let w : WholeAt s (c .at) (m .item .place) (m .item .length) = whole-is s (c .at) (m .item .place) (m .item .length) (y .whole) in
     record { on = omega arith; inside = y .inside }
 
 -- ---- a walk
-pub turns-more : (b : ℕ) (s : List ℕ) (c : ItemIter) (σ : State) (n : ℕ) (d : ItemIter) (τ : State) (e : ItemIter) (ρ : State)
-    → Turns b s c σ n d τ → turnBy b s τ d ≡ answered (moved ρ e) → Turns b s c σ (n + 1) e ρ
-turns-more b s c σ n d τ e ρ w h = subst (λ (x : ℕ). Turns b s c σ x e ρ) (sym (add-one n)) (more w h)
+pub turns-more : (s : List ℕ) (c : ItemIter) (σ : State) (n : ℕ) (d : ItemIter) (τ : State) (e : ItemIter) (ρ : State)
+    → Turns s c σ n d τ → turnOf s τ d ≡ answered (moved ρ e) → Turns s c σ (n + 1) e ρ
+turns-more s c σ n d τ e ρ w h = subst (λ (x : ℕ). Turns s c σ x e ρ) (sym (add-one n)) (more w h)
 
 pub walks-to : (s : List ℕ) (c : ItemIter) (σ : State) (n : ℕ) (f : ItemFinder) (d : ItemIter) (u : List ℕ) (x : End) (t′ : List ℕ)
-    → Turns 8 s c σ n d (state f u) → turnBy 8 s (state f u) d ≡ saidEnd x → t′ ≡ u
+    → Turns s c σ n d (state f u) → turnOf s (state f u) d ≡ saidEnd x → t′ ≡ u
     → Walks s c σ (record { finder = f; cursor = d; end = x }) t′
 walks-to s c σ n f d u x t′ w e q =
     subst (λ (v : List ℕ). Walks s c σ (record { finder = f; cursor = d; end = x }) v) (sym q) (record { turns = n; led = w; ended = sym e })

@@ -1,7 +1,7 @@
 // Indexing a whole stream: the loop that every user of a finder writes. Each turn takes the iterator one record on and updates the finder
 // with the cursor behind it; the walk ends where the iterator is done, or at the first refusal of either, such as a table that is full.
 ghost use Rattle.stream_finder.specs.Finder.{state};
-ghost use Rattle.stream_index.specs.Walk.{turnOf, Leads, Walks, Indexes};
+ghost use Rattle.stream_index.specs.Walk.{turnOf, Leads, Walks, IndexesBy, Indexes};
 use answer::Refusal;
 use stream_finder::FinderAnswer;
 use stream_finder::ItemFinder;
@@ -80,12 +80,19 @@ pub fn index_on(s: &[u8], f: ItemFinder, t: &mut [u32], c: ItemIter) -> Tour
     }
 }
 
-// A whole stream, from a fresh finder and a fresh iterator.
+// A whole stream, from a fresh finder with blocks of 8 and a fresh iterator.
 pub fn index_all(stream: Stream, s: &[u8], t: &mut [u32]) -> IndexAnswer
     ensures { λ r. ⌜ Indexes stream (now (s .entry)) (now (t .entry)) r (now (t .exit)) ⌝ }
 {
+    index_all_by(stream, s, t, stream_finder::SHIFT)
+}
+
+// The same with blocks of 2^shift.
+pub fn index_all_by(stream: Stream, s: &[u8], t: &mut [u32], shift: u32) -> IndexAnswer
+    ensures { λ r. ⌜ IndexesBy shift stream (now (s .entry)) (now (t .entry)) r (now (t .exit)) ⌝ }
+{
     match iter::iter(stream, s) {
-        IterAnswer::Answered(c) => match stream_finder::create(s, t) {
+        IterAnswer::Answered(c) => match stream_finder::create_by(s, t, shift) {
             FinderAnswer::Answered(f) => IndexAnswer::Answered(index_on(s, f, t, c)),
             FinderAnswer::Refused(e) => IndexAnswer::Refused(e),
         },

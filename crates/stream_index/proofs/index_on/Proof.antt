@@ -12,7 +12,7 @@ use Rattle.stream_index.proofs.index_on.Tie as tie
 
 abbrev Inv-loop : tie.InvT-loop
 Inv-loop s t₀ finder₀ cursor₀ t finder cursor =
-    (length t ≡ length t₀) × ((n : ℕ) × Turns 8 s cursor₀ (state finder₀ t₀) n cursor (state finder t))
+    (length t ≡ length t₀) × ((n : ℕ) × Turns s cursor₀ (state finder₀ t₀) n cursor (state finder t))
 
 abbrev μ-loop : tie.MeasureT-loop
 μ-loop s t₀ finder₀ cursor₀ t finder cursor = length s - cursor .at
@@ -22,13 +22,13 @@ loop-holds c = (refl, (0, none))
 
 loop-less : tie.Need-loop-less Inv-loop μ-loop
 loop-less c =
-    let m = turn-further _ _ _ _ _ _ (leads-moved _ _ _ _ _ _ (c .before .before .before .before .before .turn .ensures) (c .before .g .given .1)) in
+    let m = turn-further _ _ _ _ _ (leads-moved _ _ _ _ _ _ (c .before .before .before .before .before .turn .ensures) (c .before .g .given .1)) in
     omega arith
 
 loop-again : tie.Need-loop-again Inv-loop μ-loop
 loop-again c =
     let l = c .before .before .before .before .before .before .before .loop in
-    (omega arith, (_, turns-more _ _ _ _ _ _ _ _ _ (l .inv .1 .1) (leads-moved _ _ _ _ _ _ (c .before .before .before .before .before .turn .ensures) (c .before .g .given .1))))
+    (omega arith, (_, turns-more _ _ _ _ _ _ _ _ (l .inv .1 .1) (leads-moved _ _ _ _ _ _ (c .before .before .before .before .before .turn .ensures) (c .before .g .given .1))))
 
 returns : tie.Need-returns Inv-loop μ-loop
 returns c =

@@ -9,18 +9,18 @@ use Rattle.stream_index.proofs.turn.Tie as tie
 
 returns : tie.Need-returns
 returns c =
-    leads _ _ _ _ _ (turn-updates _ _ _ _ _ _ _ (told saidNext (c .before .before .before .before .before .before .before .before .before .before .next .ensures) (c .before .before .before .before .before .before .before .before .d .given .1)) (leaves-answered _ _ _ _ _ (c .before .before .before .before .before .update .ensures) (c .before .g .given .1))) refl refl
+    leads _ _ _ _ _ (turn-updates _ _ _ _ _ _ (told saidNext (c .before .before .before .before .before .before .before .before .before .before .next .ensures) (c .before .before .before .before .before .before .before .before .d .given .1)) (leaves-answered _ _ _ _ _ (c .before .before .before .before .before .update .ensures) (c .before .g .given .1))) refl refl
 
 returns-2 : tie.Need-returns-2
 returns-2 c =
     let u = leaves-refused _ _ _ _ _ (c .before .before .before .before .before .update .ensures) (c .before .e .given .1) in
-    leads _ _ _ _ _ (turn-updates _ _ _ _ _ _ _ (told saidNext (c .before .before .before .before .before .before .before .before .before .before .next .ensures) (c .before .before .before .before .before .before .before .before .d .given .1)) (u .0)) refl (u .1)
+    leads _ _ _ _ _ (turn-updates _ _ _ _ _ _ (told saidNext (c .before .before .before .before .before .before .before .before .before .before .next .ensures) (c .before .before .before .before .before .before .before .before .d .given .1)) (u .0)) refl (u .1)
 
 returns-3 : tie.Need-returns-3
-returns-3 c = leads _ _ _ _ _ (turn-next _ _ _ _ _ (told saidNext (c .before .before .next .ensures) (c .enum-told .given .1))) refl refl
+returns-3 c = leads _ _ _ _ _ (turn-next _ _ _ _ (told saidNext (c .before .before .next .ensures) (c .enum-told .given .1))) refl refl
 
 returns-4 : tie.Need-returns-4
-returns-4 c = leads _ _ _ _ _ (turn-next _ _ _ _ _ (told saidNext (c .before .before .before .next .ensures) (c .before .e2 .given .1))) refl refl
+returns-4 c = leads _ _ _ _ _ (turn-next _ _ _ _ (told saidNext (c .before .before .before .next .ensures) (c .before .e2 .given .1))) refl refl
 
 pub turn-spec : {M : Type 1} → statement M
 turn-spec =

@@ -8,7 +8,7 @@ abbrev Inv-loop : tie.InvT-loop
 Inv-loop buffer₀ out₀ input₀ len₀ buffer out input len = Unit {0}
 
 abbrev μ-loop : tie.MeasureT-loop
-μ-loop buffer₀ out₀ input₀ len₀ buffer out input len = 8192 - len
+μ-loop buffer₀ out₀ input₀ len₀ buffer out input len = 16384 - len
 
 pub read-numbers-spec : {M : Type 1} → statement M
 read-numbers-spec =
