@@ -232,7 +232,7 @@ gives-number : (i : ItemIndex) (k from : ℕ) (x : Hit) → eqb (numberGiven (gi
 gives-number i k from (Landed p n) = refl
 gives-number i k from (Missed j) = refl
 
-looked-number : (x : Bool) (n m : ℕ) (i : ItemIndex) (k from : ℕ) (y : Hit) → eqb (numberGiven (pick x (refused 9 (n ∷ m ∷ [])) (gives i k from y))) 9 ≡ x
+pub looked-number : (x : Bool) (n m : ℕ) (i : ItemIndex) (k from : ℕ) (y : Hit) → eqb (numberGiven (pick x (refused 9 (n ∷ m ∷ [])) (gives i k from y))) 9 ≡ x
 looked-number true n m i k from y = refl
 looked-number false n m i k from y = gives-number i k from y
 

@@ -1,4 +1,4 @@
--- The premises of demand 3 are met: stream E walked whole, at the shifts 3, 0 and 6, and a stream of 18 records, a link of one byte, which `next` refuses and `find` passes,
+-- The premises of demand 3 and of R-11 are met: stream E walked whole, at the shifts 3, 0 and 6, and a stream of 18 records, a link of one byte, which `next` refuses and `find` passes,
 -- and one more. Assumes nothing.
 use Prim.Native.Nat.{ℕ, zero, suc, _+_, _*_, _≤_}
 use mathlib.Core.Path.{_≡_, refl, subst}
@@ -13,12 +13,14 @@ use Rattle.stream_item.specs.Items.{indexIn}
 use Rattle.stream_item.specs.Links.{linkAt, chain, linkOf}
 use Rattle.stream_item.specs.Iterator.{iterOf, yielded, itemAt, nextOf}
 use Rattle.stream_item.proofs.Examples.{cursor}
-use Rattle.stream_item.specs.declared.Stream.the-variants.{Types}
+use Rattle.stream_item.specs.declared.Stream.the-variants.{Types, Ids}
 use Rattle.stream_item.specs.declared.iter.ItemIter.{ItemIter}
-use Rattle.stream_finder.specs.Finder.{State, state, begunBy, createBy, updateOf, after, Found, findOf}
+use Rattle.stream_finder.specs.Finder.{State, state, begunBy, createBy, updateOf, after, maxIndexOf, Found, findOf}
 use Rattle.stream_finder.specs.Demand.{Walked, none, more, Premises, Demand3By, Demand3}
+use Rattle.stream_finder.specs.Shared.{Roamed, begun, called, Updated, untouched, by, Serves, SharedBy, Shared}
 use Rattle.stream_finder.proofs.Examples.{finderBy, finderTo, found}
 use Rattle.stream_finder.proofs.DemandProof.{demand3}
+use Rattle.stream_finder.proofs.SharedProof.{shared}
 
 -- ---- stream E, N = 2: one place is enough
 pub walkedE : (d : ℕ) → d ≤ 2 → Premises 3 Types streamE (fieldsOf streamE) (0 ∷ []) 2 (state (finderTo 4098 1) (56 ∷ [])) d
@@ -142,3 +144,54 @@ findsL = (
   demand3 Types streamL (fieldsOf streamL) (0 ∷ 0 ∷ 0 ∷ []) 18 (threeL) 19 (premisesL 19 (omega arith)),
   demand3 Types streamL (fieldsOf streamL) (0 ∷ 0 ∷ 0 ∷ []) 18 (threeL) 20 (premisesL 20 (omega arith)),
 )
+
+-- ---- R-11: two cursors over stream E with a link of one byte behind its records, a place for each record, and room for two
+abbrev pub streamX : List ℕ
+streamX = streamE ++ (1 ∷ 0 ∷ 0xaa ∷ [])
+
+abbrev stateX : ℕ → List ℕ → State
+stateX held t = state (finderBy 0 4098 held) t
+
+-- the one goes past both records, and its third call is refused by 6
+one-0 : Roamed streamX (cursor 56 4096)
+unfolding headerOf littleAt iterOf
+one-0 = begun Types refl
+
+one-1 : Roamed streamX (cursor 66 4097)
+unfolding nextOf littleAt
+one-1 = called one-0
+
+one-2 : Roamed streamX (cursor 78 4098)
+unfolding nextOf littleAt
+one-2 = called one-1
+
+one-3 : Roamed streamX (cursor 78 4098)
+unfolding nextOf littleAt
+one-3 = called one-2
+
+-- the other is of the id side, and follows it
+two-0 : Roamed streamX (record { stream = Ids; at = 56; index = 4096 })
+unfolding headerOf littleAt iterOf
+two-0 = begun Ids refl
+
+two-1 : Roamed streamX (record { stream = Ids; at = 66; index = 4097 })
+unfolding nextOf littleAt
+two-1 = called two-0
+
+-- the first stores a place; the other comes late, twice; the first again, where the table is full: 13
+pub usedX : Updated streamX (stateX 1 (56 ∷ 0 ∷ [])) (stateX 2 (56 ∷ 66 ∷ []))
+unfolding updateOf
+usedX = by (by (by (by untouched one-1) two-0) two-1) one-3
+
+pub fullX : updateOf (stateX 2 (56 ∷ 66 ∷ [])) (cursor 78 4098) ≡ refused 13 []
+unfolding updateOf
+fullX = refl
+
+-- so what R-11 says holds there: both records are found where they start, and 4098 is not indexed
+pub servesX : Serves Types streamX (fieldsOf streamX) (stateX 2 (56 ∷ 66 ∷ []))
+unfolding Shared SharedBy headerOf littleAt createBy begunBy
+servesX = shared 0 (omega arith) Types streamX (fieldsOf streamX) (0 ∷ 0 ∷ []) (stateX 1 (56 ∷ 0 ∷ [])) (stateX 2 (56 ∷ 66 ∷ [])) refl refl usedX
+
+pub findsX : (findOf streamX (stateX 2 (56 ∷ 66 ∷ [])) (indexIn Types 4097) ≡ found 4097 68 10 0) × (findOf streamX (stateX 2 (56 ∷ 66 ∷ [])) (indexIn Types 4098) ≡ refused 9 (4098 ∷ 4097 ∷ []))
+unfolding linkOf chain linkAt littleAt maxIndexOf
+findsX = (servesX .lookups 1 (omega arith), servesX .lookups 2 (omega arith))
