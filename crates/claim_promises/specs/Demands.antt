@@ -1,9 +1,11 @@
--- What is promised, in one place: the customer's three demands, document 01's examples, and that every contract admits one outcome.
+-- What is promised, in one place: the customer's three demands, what document 02 asks of them, document 01's examples, and that every contract
+-- admits one outcome.
 -- `demands : Demands` (proofs/Demands.antt) is its proof.
 use mathlib.Core.Path.{_≡_}
 use mathlib.Core.List.{map}
 use Rattle.claim_model.specs.Demand2.{Demand2}
-use Rattle.stream_finder.specs.Demand.{Demand3, NotIndexed}
+use Rattle.stream_finder.specs.Demand.{Demand3, Demand3Every, NotIndexed, NotIndexedEvery}
+use Rattle.stream_finder.specs.Shared.{Shared}
 use Rattle.claim_promises.specs.Demand1.{Demand1}
 use Rattle.claim_promises.specs.ExactlyWhen.{ExactlyWhen}
 use Rattle.claim_promises.specs.Examples.{examples, asked, given as answers}
@@ -24,6 +26,11 @@ pub record Demands : Type 1 where
   pub third : Demand3
   -- "is 'not indexed' exactly if d/8 exceeds N/8, both rounded down"
   pub exactly-if : NotIndexed
+  -- document 02, R-7: "demand 3 read[s] 2^s for 8 throughout", for every shift s from 0 to 6; the two above are the shift 3
+  pub third-every : Demand3Every
+  pub exactly-if-every : NotIndexedEvery
+  -- document 02, R-11: "any order of updates to a finder fresh on this stream, from any number of cursors ..": crates/stream_finder/specs/Shared.antt
+  pub shared-by-many : Shared
   -- "P marks those proved, together as one statement over their list": Examples.antt
   pub shown : map asked examples ≡ map answers examples
   -- "For each, show that the contract admits one outcome": OneOutcome.antt
