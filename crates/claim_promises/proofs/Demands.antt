@@ -1,6 +1,6 @@
 -- All that is promised is proved. Assumes nothing.
 use Rattle.claim_model.proofs.Demand2.{demand2}
-use Rattle.stream_finder.proofs.DemandProof.{demand3, not-indexed}
+use Rattle.stream_finder.proofs.DemandProof.{demand3, demand3-every, not-indexed, not-indexed-every}
 use Rattle.claim_promises.proofs.Demand1.{demand1}
 use Rattle.claim_promises.proofs.ExactlyWhen.{exactly-when}
 use Rattle.claim_promises.proofs.Examples.{examples-hold}
@@ -8,4 +8,14 @@ use Rattle.claim_promises.proofs.OneOutcome.{one-outcome}
 use Rattle.claim_promises.specs.Demands.{Demands}
 
 pub demands : Demands
-demands = record { first = demand1; given = exactly-when; second = demand2; third = demand3; exactly-if = not-indexed; shown = examples-hold; one = one-outcome }
+demands = record {
+  first = demand1;
+  given = exactly-when;
+  second = demand2;
+  third = demand3;
+  exactly-if = not-indexed;
+  third-every = demand3-every;
+  exactly-if-every = not-indexed-every;
+  shown = examples-hold;
+  one = one-outcome;
+}

@@ -3,7 +3,7 @@
 use mathlib.Core.Path.{_≡_}
 use mathlib.Core.List.{map}
 use Rattle.claim_model.specs.Demand2.{Demand2}
-use Rattle.stream_finder.specs.Demand.{Demand3, NotIndexed}
+use Rattle.stream_finder.specs.Demand.{Demand3, Demand3Every, NotIndexed, NotIndexedEvery}
 use Rattle.claim_promises.specs.Demand1.{Demand1}
 use Rattle.claim_promises.specs.ExactlyWhen.{ExactlyWhen}
 use Rattle.claim_promises.specs.Examples.{examples, asked, given as answers}
@@ -24,6 +24,9 @@ pub record Demands : Type 1 where
   pub third : Demand3
   -- "is 'not indexed' exactly if d/8 exceeds N/8, both rounded down"
   pub exactly-if : NotIndexed
+  -- document 02, R-7: "demand 3 read[s] 2^s for 8 throughout", for every shift s from 0 to 6; the two above are the shift 3
+  pub third-every : Demand3Every
+  pub exactly-if-every : NotIndexedEvery
   -- "P marks those proved, together as one statement over their list": Examples.antt
   pub shown : map asked examples ≡ map answers examples
   -- "For each, show that the contract admits one outcome": OneOutcome.antt
