@@ -66,16 +66,17 @@ fn entry(e: Entry) {
 }
 
 fn item(ids: bool, n: u32, place: usize, length: usize) {
+    let of = stream_lines::index_in(ids, n);
     let i = Item {
-        index: stream_lines::index_in(ids, n),
+        index: of,
         place: place,
         length: length,
     };
-    index(i.index);
+    index(of);
     lines::number(i.length as u64);
     put_if(i.length == 0, b" empty");
     entry(Entry::Record(i));
-    entry(Entry::Marker(i.index));
+    entry(Entry::Marker(of));
 }
 
 // Names.
