@@ -742,7 +742,8 @@ def stream_commands(rng):
         most = TOP // block
         for low, held in ((0, 0), (0, 1), (4096, 1), (4096, 2), (0, most), (0, most + 1), (1, most), (2, most), (TOP - block, 1), (TOP - block + 1, 1),
                           (TOP - block + 2, 1), (TOP, 1), (TOP, 2 ** 32 - 1), (TOP, 2 ** 32), (0, 2 ** 58), (0, 2 ** 64 - 1)):
-            yield f"maxindexby {shift} {low} {TOP} {held}"
+            if low <= TOP:
+                yield f"maxindexby {shift} {low} {TOP} {held}"
         # a chain that `next` follows, so that every record is walked
         s = header(4096, 4100 + count) + make_inputs.links((2, 3, 4) + (2,) * (count - 3))
         for n in sorted({0, 1, block - 1, block, block + 1, 2 * block, count, WHOLE}):
