@@ -8,7 +8,7 @@
 // of table at shift 3, 2 MB at 0 and 31 KB at 6.
 //
 // The places live in a table that the caller lends; the finder itself is a few numbers, and comes and goes by value;
-// lent.rt has it lent by `&mut` and by `&`.
+// lent.rt has it lent by `&mut`.
 pub mod lent;
 
 ghost use mathlib.Core.Path.{_≡_};
