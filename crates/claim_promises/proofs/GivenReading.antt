@@ -1,5 +1,5 @@
 -- When fields, strings, padding, numbers, words, records and lists are refused by which number. Assumes nothing.
-use Prim.Native.Nat.{ℕ, zero, suc, _+_, _-_, _/_, _%_, _^_, _≤_, _<_}
+use Prim.Native.Nat.{ℕ, zero, suc, _+_, _-_, _*_, _/_, _%_, _^_, _≤_, _<_}
 use mathlib.Core.Bool.{Bool, true, false}
 use mathlib.Core.Path.{_≡_, refl, sym, ap, _∙_}
 use mathlib.Core.Logic.{_⊎_, inl, inr}
@@ -31,7 +31,7 @@ use Rattle.word_attributes.specs.declared.PointerMode.{PointerMode}
 use Rattle.word_attributes.specs.Pointers.{pointerKinds, pointerModes, good, kindOf, modeOf, toMemberOf, referenceOf, kindSize, sizeOf}
 use Rattle.record_layout.specs.Fields.{Value, number, Field, fixed, type, id, stringReference, optionalType, optionalId, word, gap, numeric, size, string, run, methods, members, when, wordAfter, readField, readFields}
 use Rattle.record_layout.specs.Layouts.{T, pointer, memberO, Layout, Table, isAnswered, typeLeaves, memberLeaves, method, idLeaves, byLayout, readLeaf, readRecord, leafOf, recordOf}
-use Rattle.record_list.specs.Lists.{ElementValues, typeElement, idElement, countedBy, counted, startTypes, startIds, startOf, countedStep, methodStep, memberStep, nextMember, stepOf}
+use Rattle.record_list.specs.Lists.{ElementValues, typeElement, idElement, inCounted, countedBy, counted, startTypes, startIds, startOf, countedStep, methodStep, memberStep, nextMember, stepOf, elementBy, elementOf}
 use Rattle.record_list.specs.declared.ListCursor.{ListCursor}
 use Rattle.stream_item.specs.declared.Stream.the-variants as stream
 use Rattle.claim_promises.specs.Given.{by, Given}
@@ -549,3 +549,99 @@ module _ (s : List ℕ) (c : ListCursor) where
           at : (b : Bool) → stop b 15 (then behindPads (λ q. memberStep s q)) ≡ refused 15 []
           at true = refl
           at false = ends-15 behindPads h
+
+-- ---- element k of a counted list: 15 exactly where k is at or past the count
+
+left-some : (n : ℕ) → eqb (suc n) 0 ≡ false
+left-some n = ne-eqb (suc n) 0 (λ (e : suc n ≡ 0). omega arith)
+
+-- one element on, the count and the number asked for are one less
+one-on : {A : Type 0} {a : Answer A} (n k : ℕ) → Given 15 [] a (n ≤ k) → Given 15 [] a (suc n ≤ suc k)
+one-on n k g = record {
+  when = λ l. g .when (omega arith);
+  only = λ e. let l = g .only e in omega arith;
+}
+
+-- a list whose elements are fields of four bytes, all there
+module _ (s : List ℕ) (f : Field) (element : List (Value Part) → ElementValues) (leaf : ℕ)
+    (steps : (p n : ℕ) → stepOf s (inCounted leaf p n) ≡ countedStep f element leaf s p n)
+    (four : (p : ℕ) → readField f 0 s p ≡ then (fixedAt 4 s p) (λ g. got (number (g .value)) (g .next))) where
+  element-15 : (k n p : ℕ) → p + 4 * n ≤ length s → Given 15 [] (elementBy (stepOf s) k (inCounted leaf p n)) (n ≤ k)
+  unfolding elementBy countedStep readFields
+  element-15 zero zero p h = rw (steps p 0) (record { when = λ l. refl; only = λ e. omega arith })
+  element-15 (suc k) zero p h = rw (steps p 0) (record { when = λ l. refl; only = λ e. omega arith })
+  element-15 zero (suc n) p h =
+      rw (steps p (suc n), left-some n, four p, sym (field-there 4 s p (littleAt 4 s p) (omega arith) refl)) (record { when = λ l. absurd (omega arith); only = off })
+  element-15 (suc k) (suc n) p h =
+      let e : suc n - 1 ≡ n = omega arith in
+      rw (steps p (suc n), left-some n, four p, sym (field-there 4 s p (littleAt 4 s p) (omega arith) refl), e) (one-on n k (element-15 k n (p + 4) (omega arith)))
+
+module _ (s : List ℕ) where
+  pub arguments-15 : littleAt 2 s 0 ≡ 0x1201 → (k : ℕ) → Given 15 [] (elementOf stream.Types s k) ((6 + 4 * littleAt 4 s 2 ≤ length s) × (littleAt 4 s 2 ≤ k))
+  unfolding elementOf startOf startTypes stepOf counted countedBy find typeLeaves readFields readField bytesAfter
+  arguments-15 leaf k = record {
+    when = λ (a, l).
+        let two = field-there 2 s 0 (littleAt 2 s 0) (omega arith) refl in
+        let count = field-there 4 s 2 (littleAt 4 s 2) (omega arith) refl in
+        rw (sym two, leaf, sym count, le-ltb _ _ a) (elements k (littleAt 4 s 2) 6 a .when l);
+    only = go (leb 2 (length s)) (leb 6 (length s)) (leb (6 + 4 * littleAt 4 s 2) (length s)) refl refl refl;
+  }
+    where
+      elements : (k n p : ℕ) → p + 4 * n ≤ length s → Given 15 [] (elementBy (stepOf s) k (inCounted 0x1201 p n)) (n ≤ k)
+      elements k n p = element-15 s T typeElement 0x1201 (λ p n. refl) (λ p. refl) k n p
+
+      go : (x y z : Bool) → leb 2 (length s) ≡ x → leb 6 (length s) ≡ y → leb (6 + 4 * littleAt 4 s 2) (length s) ≡ z
+          → by 15 (elementOf stream.Types s k) ≡ true → (6 + 4 * littleAt 4 s 2 ≤ length s) × (littleAt 4 s 2 ≤ k)
+      go false y z a b c e = off (rw (fields 2 s 0 .when (leb-false _ _ a)) at e)
+      go true false z a b c e = off (rw (sym (field-there 2 s 0 (littleAt 2 s 0) (leb-true _ _ a) refl), leaf, fields 4 s 2 .when (leb-false _ _ b)) at e)
+      go true true false a b c e =
+          off (rw (sym (field-there 2 s 0 (littleAt 2 s 0) (leb-true _ _ a) refl), leaf, sym (field-there 4 s 2 (littleAt 4 s 2) (leb-true _ _ b) refl), lt-ltb (length s) (6 + 4 * littleAt 4 s 2) (leb-false _ _ c)) at e)
+      go true true true a b c e =
+          let h = leb-true (6 + 4 * littleAt 4 s 2) (length s) c in
+          (h, elements k (littleAt 4 s 2) 6 h .only (rw (sym (field-there 2 s 0 (littleAt 2 s 0) (leb-true _ _ a) refl), leaf, sym (field-there 4 s 2 (littleAt 4 s 2) (leb-true _ _ b) refl), le-ltb (length s) (6 + 4 * littleAt 4 s 2) h) at e))
+
+  pub build-arguments-15 : littleAt 2 s 0 ≡ 0x1603 → (k : ℕ) → Given 15 [] (elementOf stream.Ids s k) ((4 + 4 * littleAt 2 s 2 ≤ length s) × (littleAt 2 s 2 ≤ k))
+  unfolding elementOf startOf startIds stepOf counted countedBy find idLeaves readFields readField bytesAfter
+  build-arguments-15 leaf k = record {
+    when = λ (a, l).
+        let two = field-there 2 s 0 (littleAt 2 s 0) (omega arith) refl in
+        let count = field-there 2 s 2 (littleAt 2 s 2) (omega arith) refl in
+        rw (sym two, leaf, sym count, le-ltb _ _ a) (elements k (littleAt 2 s 2) 4 a .when l);
+    only = go (leb 2 (length s)) (leb 4 (length s)) (leb (4 + 4 * littleAt 2 s 2) (length s)) refl refl refl;
+  }
+    where
+      elements : (k n p : ℕ) → p + 4 * n ≤ length s → Given 15 [] (elementBy (stepOf s) k (inCounted 0x1603 p n)) (n ≤ k)
+      elements k n p = element-15 s id idElement 0x1603 (λ p n. refl) (λ p. refl) k n p
+
+      go : (x y z : Bool) → leb 2 (length s) ≡ x → leb 4 (length s) ≡ y → leb (4 + 4 * littleAt 2 s 2) (length s) ≡ z
+          → by 15 (elementOf stream.Ids s k) ≡ true → (4 + 4 * littleAt 2 s 2 ≤ length s) × (littleAt 2 s 2 ≤ k)
+      go false y z a b c e = off (rw (fields 2 s 0 .when (leb-false _ _ a)) at e)
+      go true false z a b c e = off (rw (sym (field-there 2 s 0 (littleAt 2 s 0) (leb-true _ _ a) refl), leaf, fields 2 s 2 .when (leb-false _ _ b)) at e)
+      go true true false a b c e =
+          off (rw (sym (field-there 2 s 0 (littleAt 2 s 0) (leb-true _ _ a) refl), leaf, sym (field-there 2 s 2 (littleAt 2 s 2) (leb-true _ _ b) refl), lt-ltb (length s) (4 + 4 * littleAt 2 s 2) (leb-false _ _ c)) at e)
+      go true true true a b c e =
+          let h = leb-true (4 + 4 * littleAt 2 s 2) (length s) c in
+          (h, elements k (littleAt 2 s 2) 4 h .only (rw (sym (field-there 2 s 0 (littleAt 2 s 0) (leb-true _ _ a) refl), leaf, sym (field-there 2 s 2 (littleAt 2 s 2) (leb-true _ _ b) refl), le-ltb (length s) (4 + 4 * littleAt 2 s 2) h) at e))
+
+  pub substrings-15 : littleAt 2 s 0 ≡ 0x1604 → (k : ℕ) → Given 15 [] (elementOf stream.Ids s k) ((6 + 4 * littleAt 4 s 2 ≤ length s) × (littleAt 4 s 2 ≤ k))
+  unfolding elementOf startOf startIds stepOf counted countedBy find idLeaves readFields readField bytesAfter
+  substrings-15 leaf k = record {
+    when = λ (a, l).
+        let two = field-there 2 s 0 (littleAt 2 s 0) (omega arith) refl in
+        let count = field-there 4 s 2 (littleAt 4 s 2) (omega arith) refl in
+        rw (sym two, leaf, sym count, le-ltb _ _ a) (elements k (littleAt 4 s 2) 6 a .when l);
+    only = go (leb 2 (length s)) (leb 6 (length s)) (leb (6 + 4 * littleAt 4 s 2) (length s)) refl refl refl;
+  }
+    where
+      elements : (k n p : ℕ) → p + 4 * n ≤ length s → Given 15 [] (elementBy (stepOf s) k (inCounted 0x1604 p n)) (n ≤ k)
+      elements k n p = element-15 s T typeElement 0x1604 (λ p n. refl) (λ p. refl) k n p
+
+      go : (x y z : Bool) → leb 2 (length s) ≡ x → leb 6 (length s) ≡ y → leb (6 + 4 * littleAt 4 s 2) (length s) ≡ z
+          → by 15 (elementOf stream.Ids s k) ≡ true → (6 + 4 * littleAt 4 s 2 ≤ length s) × (littleAt 4 s 2 ≤ k)
+      go false y z a b c e = off (rw (fields 2 s 0 .when (leb-false _ _ a)) at e)
+      go true false z a b c e = off (rw (sym (field-there 2 s 0 (littleAt 2 s 0) (leb-true _ _ a) refl), leaf, fields 4 s 2 .when (leb-false _ _ b)) at e)
+      go true true false a b c e =
+          off (rw (sym (field-there 2 s 0 (littleAt 2 s 0) (leb-true _ _ a) refl), leaf, sym (field-there 4 s 2 (littleAt 4 s 2) (leb-true _ _ b) refl), lt-ltb (length s) (6 + 4 * littleAt 4 s 2) (leb-false _ _ c)) at e)
+      go true true true a b c e =
+          let h = leb-true (6 + 4 * littleAt 4 s 2) (length s) c in
+          (h, elements k (littleAt 4 s 2) 6 h .only (rw (sym (field-there 2 s 0 (littleAt 2 s 0) (leb-true _ _ a) refl), leaf, sym (field-there 4 s 2 (littleAt 4 s 2) (leb-true _ _ b) refl), le-ltb (length s) (6 + 4 * littleAt 4 s 2) h) at e))

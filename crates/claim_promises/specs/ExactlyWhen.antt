@@ -2,7 +2,7 @@
 -- is given, and the values of its details. `Given n d a P` (Given.antt): a is refused by n exactly when P, and then with the details d.
 --
 -- Where a definition is another one carried on, its refusals are said to be that one's.
-use Prim.Native.Nat.{ℕ, _+_, _-_, _/_, _%_, _^_, _≤_, _<_}
+use Prim.Native.Nat.{ℕ, _+_, _-_, _*_, _/_, _%_, _^_, _≤_, _<_}
 use mathlib.Core.Bool.{true, false}
 use mathlib.Core.Path.{_≡_}
 use mathlib.Core.Logic.{_⊎_}
@@ -41,7 +41,7 @@ use Rattle.stream_finder.specs.Finder.{State, blockOf, createBy, updateOf, maxI
 use Rattle.stream_index.specs.Walk.{turnOf}
 use Rattle.record_layout.specs.Fields.{Value, Field, wordAfter, readField, readFields}
 use Rattle.record_layout.specs.Layouts.{Layout, Table, typeLeaves, readRecord, recordOf}
-use Rattle.record_list.specs.Lists.{startOf, Step, stepOf, elementBy}
+use Rattle.record_list.specs.Lists.{startOf, Step, stepOf, elementBy, elementOf}
 use Rattle.record_list.specs.declared.ListCursor.{ListCursor}
 use Rattle.record_parse.specs.Record.{parseOf}
 use Rattle.claim_promises.specs.Given.{Given, refusalOf}
@@ -199,6 +199,10 @@ pub record ExactlyWhen : Type 0 where
   pub counted-15 : (s : List ℕ) (c : ListCursor) → among (c .leaf) (0x1201 ∷ 0x1603 ∷ 0x1604 ∷ []) ≡ true → Given 15 [] (stepOf s c) (c .left ≡ 0)
   pub methods-15 : (s : List ℕ) (c : ListCursor) → c .leaf ≡ 0x1206 → Given 15 [] (stepOf s c) (length s ≤ c .at)
   pub members-15 : (s : List ℕ) (c : ListCursor) → c .leaf ≡ 0x1203 → Given 15 [] (stepOf s c) ((c .left ≡ 0) ⊎ AtEnd s c)
+  -- "element number at or past a list's count": of a counted record that is whole
+  pub arguments-15 : (s : List ℕ) → littleAt 2 s 0 ≡ 0x1201 → (k : ℕ) → Given 15 [] (elementOf stream.Types s k) ((6 + 4 * littleAt 4 s 2 ≤ length s) × (littleAt 4 s 2 ≤ k))
+  pub build-arguments-15 : (s : List ℕ) → littleAt 2 s 0 ≡ 0x1603 → (k : ℕ) → Given 15 [] (elementOf stream.Ids s k) ((4 + 4 * littleAt 2 s 2 ≤ length s) × (littleAt 2 s 2 ≤ k))
+  pub substrings-15 : (s : List ℕ) → littleAt 2 s 0 ≡ 0x1604 → (k : ℕ) → Given 15 [] (elementOf stream.Ids s k) ((6 + 4 * littleAt 4 s 2 ≤ length s) × (littleAt 4 s 2 ≤ k))
   -- 16, too long: "stream, or updating cursor's position, over 4,294,967,294"
   pub headers-16 : (s : List ℕ) → Given 16 [] (headerOf s) (longest < length s)
   pub nexts-16 : (s : List ℕ) (c : ItemIter) → Given 16 [] (nextOf s c) (longest < length s)
