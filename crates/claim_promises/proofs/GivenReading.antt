@@ -29,8 +29,8 @@ use Rattle.word_attributes.specs.Bits.{bits}
 use Rattle.word_attributes.specs.declared.PointerKind.{PointerKind}
 use Rattle.word_attributes.specs.declared.PointerMode.{PointerMode}
 use Rattle.word_attributes.specs.Pointers.{pointerKinds, pointerModes, good, kindOf, modeOf, toMemberOf, referenceOf, kindSize, sizeOf}
-use Rattle.record_layout.specs.Fields.{Value, number, Field, fixed, type, id, stringReference, optionalType, optionalId, word, gap, numeric, size, string, run, methods, members, when, wordAfter, readField, readFields}
-use Rattle.record_layout.specs.Layouts.{T, pointer, memberO, Layout, Table, isAnswered, typeLeaves, memberLeaves, method, idLeaves, byLayout, readLeaf, readRecord, leafOf, recordOf}
+use Rattle.record_layout.specs.Fields.{Value, number, Elements, types, ids, runBytes, Field, fixed, type, id, stringReference, optionalType, optionalId, word, gap, numeric, size, string, run, methods, members, when, wordAfter, readField, readFields}
+use Rattle.record_layout.specs.Layouts.{always, T, pointer, memberO, Layout, Table, isAnswered, typeLeaves, memberLeaves, method, idLeaves, byLayout, readLeaf, readRecord, leafOf, recordOf}
 use Rattle.record_list.specs.Lists.{ElementValues, typeElement, idElement, inCounted, countedBy, counted, startTypes, startIds, startOf, countedStep, methodStep, memberStep, nextMember, stepOf, elementBy, elementOf}
 use Rattle.record_list.specs.declared.ListCursor.{ListCursor}
 use Rattle.stream_item.specs.declared.Stream.the-variants as stream
@@ -576,72 +576,62 @@ module _ (s : List ℕ) (f : Field) (element : List (Value Part) → ElementValu
       let e : suc n - 1 ≡ n = omega arith in
       rw (steps p (suc n), left-some n, four p, sym (field-there 4 s p (littleAt 4 s p) (omega arith) refl), e) (one-on n k (element-15 k n (p + 4) (omega arith)))
 
-module _ (s : List ℕ) where
-  pub arguments-15 : littleAt 2 s 0 ≡ 0x1201 → (k : ℕ) → Given 15 [] (elementOf stream.Types s k) ((6 + 4 * littleAt 4 s 2 ≤ length s) × (littleAt 4 s 2 ≤ k))
-  unfolding elementOf startOf startTypes stepOf counted countedBy find typeLeaves readFields readField bytesAfter
-  arguments-15 leaf k = record {
-    when = λ (a, l).
-        let two = field-there 2 s 0 (littleAt 2 s 0) (omega arith) refl in
-        let count = field-there 4 s 2 (littleAt 4 s 2) (omega arith) refl in
-        rw (sym two, leaf, sym count, le-ltb _ _ a) (elements k (littleAt 4 s 2) 6 a .when l);
-    only = go (leb 2 (length s)) (leb 6 (length s)) (leb (6 + 4 * littleAt 4 s 2) (length s)) refl refl refl;
-  }
-    where
-      elements : (k n p : ℕ) → p + 4 * n ≤ length s → Given 15 [] (elementBy (stepOf s) k (inCounted 0x1201 p n)) (n ≤ k)
-      elements k n p = element-15 s T typeElement 0x1201 (λ p n. refl) (λ p. refl) k n p
+-- a counted record: behind its leaf a count of w bytes, and behind that four bytes an element
+module _ (s : List ℕ) (w : ℕ) (e : Elements) (four : (n : ℕ) → runBytes e n ≡ 4 * n) (leaf : ℕ) where
+  abbrev start : Answer ListCursor
+  start = countedBy (word w always ∷ run e ∷ []) leaf s 2
 
-      go : (x y z : Bool) → leb 2 (length s) ≡ x → leb 6 (length s) ≡ y → leb (6 + 4 * littleAt 4 s 2) (length s) ≡ z
-          → by 15 (elementOf stream.Types s k) ≡ true → (6 + 4 * littleAt 4 s 2 ≤ length s) × (littleAt 4 s 2 ≤ k)
-      go false y z a b c e = off (rw (fields 2 s 0 .when (leb-false _ _ a)) at e)
-      go true false z a b c e = off (rw (sym (field-there 2 s 0 (littleAt 2 s 0) (leb-true _ _ a) refl), leaf, fields 4 s 2 .when (leb-false _ _ b)) at e)
-      go true true false a b c e =
-          off (rw (sym (field-there 2 s 0 (littleAt 2 s 0) (leb-true _ _ a) refl), leaf, sym (field-there 4 s 2 (littleAt 4 s 2) (leb-true _ _ b) refl), lt-ltb (length s) (6 + 4 * littleAt 4 s 2) (leb-false _ _ c)) at e)
-      go true true true a b c e =
-          let h = leb-true (6 + 4 * littleAt 4 s 2) (length s) c in
-          (h, elements k (littleAt 4 s 2) 6 h .only (rw (sym (field-there 2 s 0 (littleAt 2 s 0) (leb-true _ _ a) refl), leaf, sym (field-there 4 s 2 (littleAt 4 s 2) (leb-true _ _ b) refl), le-ltb (length s) (6 + 4 * littleAt 4 s 2) h) at e))
+  count-there : 2 + w + 4 * littleAt w s 2 ≤ length s → start ≡ answered (inCounted leaf (2 + w) (littleAt w s 2))
+  unfolding countedBy readFields readField bytesAfter
+  count-there a = rw (sym (field-there w s 2 (littleAt w s 2) (omega arith) refl), four (littleAt w s 2), le-ltb _ _ a) refl
+
+  count-short : length s < 2 + w + 4 * littleAt w s 2 → start ≡ refused 1 []
+  unfolding countedBy readFields readField bytesAfter
+  count-short a = go (leb (2 + w) (length s)) refl
+    where
+      go : (b : Bool) → leb (2 + w) (length s) ≡ b → start ≡ refused 1 []
+      go true q = rw (sym (field-there w s 2 (littleAt w s 2) (leb-true _ _ q) refl), four (littleAt w s 2), lt-ltb _ _ a) refl
+      go false q = rw (fields w s 2 .when (leb-false _ _ q)) refl
+
+  count-15 : ((k n p : ℕ) → p + 4 * n ≤ length s → Given 15 [] (elementBy (stepOf s) k (inCounted leaf p n)) (n ≤ k))
+      → (k : ℕ) → Given 15 [] (then start (λ c. elementBy (stepOf s) k c)) ((2 + w + 4 * littleAt w s 2 ≤ length s) × (littleAt w s 2 ≤ k))
+  count-15 elements k = go (leb (2 + w + 4 * littleAt w s 2) (length s)) refl
+    where
+      go : (b : Bool) → leb (2 + w + 4 * littleAt w s 2) (length s) ≡ b
+          → Given 15 [] (then start (λ c. elementBy (stepOf s) k c)) ((2 + w + 4 * littleAt w s 2 ≤ length s) × (littleAt w s 2 ≤ k))
+      go true q =
+          let a = leb-true (2 + w + 4 * littleAt w s 2) (length s) q in
+          let g = elements k (littleAt w s 2) (2 + w) a in
+          rw (count-there a) (record { when = λ (_, l). g .when l; only = λ x. (a, g .only x) })
+      go false q =
+          let h = leb-false (2 + w + 4 * littleAt w s 2) (length s) q in
+          rw (count-short h) (record { when = λ (a, _). absurd (omega arith); only = off })
+
+module _ (s : List ℕ) where
+  -- two bytes that are not there hold no list
+  cut-15 : {A P : Type 0} {a : Answer A} → a ≡ refused 1 [] → (P → ⊥) → Given 15 [] a P
+  cut-15 e never = rw e (record { when = λ p. absurd (never p); only = off })
+
+  pub arguments-15 : littleAt 2 s 0 ≡ 0x1201 → (k : ℕ) → Given 15 [] (elementOf stream.Types s k) ((6 + 4 * littleAt 4 s 2 ≤ length s) × (littleAt 4 s 2 ≤ k))
+  unfolding elementOf startOf startTypes stepOf counted find typeLeaves readField
+  arguments-15 leaf k = go (leb 2 (length s)) refl
+    where
+      go : (b : Bool) → leb 2 (length s) ≡ b → Given 15 [] (elementOf stream.Types s k) ((6 + 4 * littleAt 4 s 2 ≤ length s) × (littleAt 4 s 2 ≤ k))
+      go true q = rw (sym (field-there 2 s 0 (littleAt 2 s 0) (leb-true _ _ q) refl), leaf) (count-15 s 4 types (λ n. refl) 0x1201 (element-15 s T typeElement 0x1201 (λ p n. refl) (λ p. refl)) k)
+      go false q = let h = leb-false _ _ q in cut-15 (rw (fields 2 s 0 .when h) refl) (λ (a, _). omega arith)
 
   pub build-arguments-15 : littleAt 2 s 0 ≡ 0x1603 → (k : ℕ) → Given 15 [] (elementOf stream.Ids s k) ((4 + 4 * littleAt 2 s 2 ≤ length s) × (littleAt 2 s 2 ≤ k))
-  unfolding elementOf startOf startIds stepOf counted countedBy find idLeaves readFields readField bytesAfter
-  build-arguments-15 leaf k = record {
-    when = λ (a, l).
-        let two = field-there 2 s 0 (littleAt 2 s 0) (omega arith) refl in
-        let count = field-there 2 s 2 (littleAt 2 s 2) (omega arith) refl in
-        rw (sym two, leaf, sym count, le-ltb _ _ a) (elements k (littleAt 2 s 2) 4 a .when l);
-    only = go (leb 2 (length s)) (leb 4 (length s)) (leb (4 + 4 * littleAt 2 s 2) (length s)) refl refl refl;
-  }
+  unfolding elementOf startOf startIds stepOf counted find idLeaves readField
+  build-arguments-15 leaf k = go (leb 2 (length s)) refl
     where
-      elements : (k n p : ℕ) → p + 4 * n ≤ length s → Given 15 [] (elementBy (stepOf s) k (inCounted 0x1603 p n)) (n ≤ k)
-      elements k n p = element-15 s id idElement 0x1603 (λ p n. refl) (λ p. refl) k n p
-
-      go : (x y z : Bool) → leb 2 (length s) ≡ x → leb 4 (length s) ≡ y → leb (4 + 4 * littleAt 2 s 2) (length s) ≡ z
-          → by 15 (elementOf stream.Ids s k) ≡ true → (4 + 4 * littleAt 2 s 2 ≤ length s) × (littleAt 2 s 2 ≤ k)
-      go false y z a b c e = off (rw (fields 2 s 0 .when (leb-false _ _ a)) at e)
-      go true false z a b c e = off (rw (sym (field-there 2 s 0 (littleAt 2 s 0) (leb-true _ _ a) refl), leaf, fields 2 s 2 .when (leb-false _ _ b)) at e)
-      go true true false a b c e =
-          off (rw (sym (field-there 2 s 0 (littleAt 2 s 0) (leb-true _ _ a) refl), leaf, sym (field-there 2 s 2 (littleAt 2 s 2) (leb-true _ _ b) refl), lt-ltb (length s) (4 + 4 * littleAt 2 s 2) (leb-false _ _ c)) at e)
-      go true true true a b c e =
-          let h = leb-true (4 + 4 * littleAt 2 s 2) (length s) c in
-          (h, elements k (littleAt 2 s 2) 4 h .only (rw (sym (field-there 2 s 0 (littleAt 2 s 0) (leb-true _ _ a) refl), leaf, sym (field-there 2 s 2 (littleAt 2 s 2) (leb-true _ _ b) refl), le-ltb (length s) (4 + 4 * littleAt 2 s 2) h) at e))
+      go : (b : Bool) → leb 2 (length s) ≡ b → Given 15 [] (elementOf stream.Ids s k) ((4 + 4 * littleAt 2 s 2 ≤ length s) × (littleAt 2 s 2 ≤ k))
+      go true q = rw (sym (field-there 2 s 0 (littleAt 2 s 0) (leb-true _ _ q) refl), leaf) (count-15 s 2 ids (λ n. refl) 0x1603 (element-15 s id idElement 0x1603 (λ p n. refl) (λ p. refl)) k)
+      go false q = let h = leb-false _ _ q in cut-15 (rw (fields 2 s 0 .when h) refl) (λ (a, _). omega arith)
 
   pub substrings-15 : littleAt 2 s 0 ≡ 0x1604 → (k : ℕ) → Given 15 [] (elementOf stream.Ids s k) ((6 + 4 * littleAt 4 s 2 ≤ length s) × (littleAt 4 s 2 ≤ k))
-  unfolding elementOf startOf startIds stepOf counted countedBy find idLeaves readFields readField bytesAfter
-  substrings-15 leaf k = record {
-    when = λ (a, l).
-        let two = field-there 2 s 0 (littleAt 2 s 0) (omega arith) refl in
-        let count = field-there 4 s 2 (littleAt 4 s 2) (omega arith) refl in
-        rw (sym two, leaf, sym count, le-ltb _ _ a) (elements k (littleAt 4 s 2) 6 a .when l);
-    only = go (leb 2 (length s)) (leb 6 (length s)) (leb (6 + 4 * littleAt 4 s 2) (length s)) refl refl refl;
-  }
+  unfolding elementOf startOf startIds stepOf counted find idLeaves readField
+  substrings-15 leaf k = go (leb 2 (length s)) refl
     where
-      elements : (k n p : ℕ) → p + 4 * n ≤ length s → Given 15 [] (elementBy (stepOf s) k (inCounted 0x1604 p n)) (n ≤ k)
-      elements k n p = element-15 s T typeElement 0x1604 (λ p n. refl) (λ p. refl) k n p
-
-      go : (x y z : Bool) → leb 2 (length s) ≡ x → leb 6 (length s) ≡ y → leb (6 + 4 * littleAt 4 s 2) (length s) ≡ z
-          → by 15 (elementOf stream.Ids s k) ≡ true → (6 + 4 * littleAt 4 s 2 ≤ length s) × (littleAt 4 s 2 ≤ k)
-      go false y z a b c e = off (rw (fields 2 s 0 .when (leb-false _ _ a)) at e)
-      go true false z a b c e = off (rw (sym (field-there 2 s 0 (littleAt 2 s 0) (leb-true _ _ a) refl), leaf, fields 4 s 2 .when (leb-false _ _ b)) at e)
-      go true true false a b c e =
-          off (rw (sym (field-there 2 s 0 (littleAt 2 s 0) (leb-true _ _ a) refl), leaf, sym (field-there 4 s 2 (littleAt 4 s 2) (leb-true _ _ b) refl), lt-ltb (length s) (6 + 4 * littleAt 4 s 2) (leb-false _ _ c)) at e)
-      go true true true a b c e =
-          let h = leb-true (6 + 4 * littleAt 4 s 2) (length s) c in
-          (h, elements k (littleAt 4 s 2) 6 h .only (rw (sym (field-there 2 s 0 (littleAt 2 s 0) (leb-true _ _ a) refl), leaf, sym (field-there 4 s 2 (littleAt 4 s 2) (leb-true _ _ b) refl), le-ltb (length s) (6 + 4 * littleAt 4 s 2) h) at e))
+      go : (b : Bool) → leb 2 (length s) ≡ b → Given 15 [] (elementOf stream.Ids s k) ((6 + 4 * littleAt 4 s 2 ≤ length s) × (littleAt 4 s 2 ≤ k))
+      go true q = rw (sym (field-there 2 s 0 (littleAt 2 s 0) (leb-true _ _ q) refl), leaf) (count-15 s 4 types (λ n. refl) 0x1604 (element-15 s T typeElement 0x1604 (λ p n. refl) (λ p. refl)) k)
+      go false q = let h = leb-false _ _ q in cut-15 (rw (fields 2 s 0 .when h) refl) (λ (a, _). omega arith)
