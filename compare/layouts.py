@@ -60,11 +60,21 @@ WORDS = {
 NUMBERS = {0x8000: (1, True), 0x8001: (2, True), 0x8002: (2, False), 0x8003: (4, True), 0x8004: (4, False), 0x8009: (8, True), 0x800a: (8, False)}
 
 
-class Reader:
-    """Bytes, a place in them, and the reasons met."""
+def shortest(value):
+    """Document 02, R-1: "the shortest form that carries the number": its bytes, by trying every form."""
+    forms = [2] if 0 <= value < 0x8000 else []
+    for width, signed in NUMBERS.values():
+        low, high = (-(1 << 8 * width - 1), 1 << 8 * width - 1) if signed else (0, 1 << 8 * width)
+        if low <= value < high:
+            forms.append(2 + width)
+    return min(forms)
 
-    def __init__(self, data, at=0):
-        self.data, self.at, self.why = data, at, set()
+
+class Reader:
+    """Bytes, a place in them, the reasons met, and whether numeric leaves are shown with their forms (R-4)."""
+
+    def __init__(self, data, at=0, forms=False):
+        self.data, self.at, self.why, self.forms = data, at, set(), forms
 
     def take(self, n):
         if len(self.data) - self.at < n:
@@ -103,6 +113,11 @@ class Reader:
             raise Refused(11)
         return value
 
+    def formed(self, value, start):
+        """R-4: value/width/shorter of a number whose leaf began at a place, where forms are shown."""
+        width = self.at - start
+        return f"{value}/{width}/{int(shortest(value) < width)}" if self.forms else value
+
     def fields(self, leaf, layout):
         """The named values in the order of the layout."""
         got = {}
@@ -132,11 +147,13 @@ class Reader:
                     else:
                         got[name] = index
             elif kind in ("N", "V"):
-                got[name] = self.number(kind == "V")
-                if leaf in (0x1400, 0x1401, 0x1402) and got[name] >= 2 ** 32:
+                start = self.at
+                value = self.number(kind == "V")
+                got[name] = self.formed(value, start)
+                if leaf in (0x1400, 0x1401, 0x1402) and value >= 2 ** 32:
                     self.why.add("base-offset")
                 if leaf == 0x1503:
-                    self.array(got[name])
+                    self.array(value)
             elif kind == "S":
                 got[name] = self.string()
             elif kind == "S2":
@@ -236,9 +253,9 @@ def refusal(e):
     return " ".join(str(n) for n in e.args)
 
 
-def type_record(data):
-    """(line, reasons) of a type record's bytes, by 01."""
-    r = Reader(data)
+def type_record(data, forms=False):
+    """(line, reasons) of a type record's bytes, by 01; with the forms of numeric leaves, by 02's R-4."""
+    r = Reader(data, forms=forms)
     try:
         leaf = r.u(2)
         if leaf == 0x1201:
@@ -259,12 +276,12 @@ def type_record(data):
         return refusal(e), r.why
 
 
-def number_line(data, may_be_negative):
-    """(line, reasons) of `unsigned` and `signed`."""
-    r = Reader(data)
+def number_line(data, may_be_negative, forms=False):
+    """(line, reasons) of `unsigned` and `signed`; with the form of the number, by 02's R-4."""
+    r = Reader(data, forms=forms)
     try:
         value = r.number(may_be_negative)
-        return f"0 {value} next={r.at}", r.why
+        return f"0 {r.formed(value, 0)} next={r.at}", r.why
     except Refused as e:
         return refusal(e), r.why
 

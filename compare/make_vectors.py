@@ -217,7 +217,7 @@ def marker_line(ids, index, primitive):
     return f"8 {index} ; kind ffff ; {read}"
 
 
-def element_line(data, k):
+def element_line(data, k, forms=False):
     """"Element k is read after those before it and their padding, the first refusal given, 15 if the list ends first; a leaf without a list is
     10.\" The elements are layouts.py's."""
     if len(data) < 2:
@@ -225,7 +225,7 @@ def element_line(data, k):
     leaf = int.from_bytes(data[:2], "little")
     if leaf not in layouts.LISTS:
         return f"10 {leaf}"
-    line = layouts.type_record(data)[0]
+    line = layouts.type_record(data, forms)[0]
     if not line.startswith("0 "):
         return line
     parts = line.split(" ; ")[1:]
@@ -324,17 +324,23 @@ def by_rule(words, primitive):
         return "ti." if int(n[0]) >= 2 ** 31 else "."
     if kind == "item":
         return item_line(n[0], int(n[1]), int(n[3]))
+    if kind in ("wunsigned", "wsigned"):
+        return layouts.number_line(blob(n[0]), kind == "wsigned", True)[0]
+    if kind == "wtype":
+        return layouts.type_record(blob(n[0]), True)[0]
+    if kind == "welement":
+        return element_line(blob(n[1]), int(n[0]), True)
     return None
 
 
 PORT_ONLY = ("next", "create", "update", "findin", "maxindex", "view", "marker", "element", "idelement", "count", "cross", "item",
-             "membername", "idat", "createby", "updateby", "findinby", "maxindexby", "findby")
+             "membername", "idat", "createby", "updateby", "findinby", "maxindexby", "findby", "wunsigned", "wsigned", "wtype", "welement")
 
 
 # ---- words that should be BYTES ----
 
 # Where a command has its BYTES, the command itself being word 0; most have them as word 1.
-BYTES_AT = {**dict.fromkeys(("itemtype", "itemid", "string", "element", "idelement", "idat", "membername", "createby", "findinby", "findby"), (2,)), "view": (1, 2),
+BYTES_AT = {**dict.fromkeys(("itemtype", "itemid", "string", "element", "idelement", "idat", "membername", "createby", "findinby", "findby", "welement"), (2,)), "view": (1, 2),
             **dict.fromkeys(("prim", "word", "opttype", "optid", "update", "maxindex", "updateby", "maxindexby", "marker", "cross", "item"), ())}
 MOST_BYTES = 65536
 
@@ -535,6 +541,59 @@ CVINFO += [(f"word ptr {w} {w + 1} 1", [f"ptr {w} kind=10 mode=0 {POINTER} size=
     (0x2000a, 16, 0), (0x4000a, 32, 0), (0x7e00a, 63, 0), (0x8000a, 4, 1), (0xc000a, 32, 1), (0x10000a, 4, 0))]
 CVINFO += [(f"word ptr {w} {w + 1} 1", [f"ptr {w} kind=0 mode=0 {POINTER} size={size} mocom={mocom}"]) for w, size, mocom in (
     (0x40000, 32, 0), (0x80000, 0, 1), (0xc0000, 32, 1))]
+
+
+# 02's R-4: "a size of 5 stored behind a prefix against a size of 5 stored plain"; an equally long form is no shorter one.
+FORMS = [("wunsigned 0500", ["0 5/2/0 next=2"]), ("wunsigned 02800500", ["0 5/4/1 next=4"]), ("wsigned 0380000001008000", ["0 65536/6/0 next=6"]),
+         ("wsigned 0080ff", ["0 -1/3/0 next=3"]), ("wsigned 0180ffff", ["0 -1/4/1 next=4"]), ("wunsigned 0180ffff", ["11"]),
+         ("wtype 0315741000002300000002800500", ["1"]), ("wtype 031574100000230000000280050000", ["0 1503 elem=4212 idx=35 size=5/4/1 name=14+0"]),
+         ("welement 0 03120215030000807f4100", ["0 1502 a=3 v=127/3/1 name=9+1"])]
+
+
+def number_forms(value):
+    """Every form that carries a number, from 01's prefixes."""
+    if 0 <= value < 0x8000:
+        yield value.to_bytes(2, "little")
+    for prefix, (width, signed) in layouts.NUMBERS.items():
+        try:
+            yield prefix.to_bytes(2, "little") + value.to_bytes(width, "little", signed=signed)
+        except OverflowError:
+            pass
+
+
+# Numbers on both sides of every bound of a form.
+BOUNDS = [0, 5] + [b + d for e in (7, 8, 15, 16, 31, 32, 63, 64) for b in (1 << e, -(1 << e)) for d in (-1, 0)]
+
+
+def form_commands():
+    """R-4: numeric leaves in every form, alone and in every record and member that has one."""
+    for value in BOUNDS:
+        for form in number_forms(value):
+            yield f"wunsigned {form.hex()}"
+            yield f"wsigned {form.hex()}00"
+            yield f"wsigned {form[:-1].hex()}"
+    for prefix in (0x8005, 0x8008, 0x800b, 0x8100, 0xffff):
+        yield f"wunsigned {prefix.to_bytes(2, 'little').hex()}0000000000000000"
+        yield f"wsigned {prefix.to_bytes(2, 'little').hex()}0000000000000000"
+    for value in (5, 0x7fff, 0x8000, 65536, 2 ** 31, 2 ** 32, 2 ** 64 - 1, -1, -129):
+        for form in number_forms(value):
+            n = form.hex()
+            for leaf in ("0415", "0515", "1915"):
+                yield f"wtype {leaf}01000000000000000000000000000000{n}4100"
+            yield f"wtype 03157410000023000000{n}4100f1"
+            yield f"wtype 06150100000200100000{n}410042004300"
+            yield f"wtype 0916000200000000000000000000000000000100{n}41004200"
+            for member in (f"0014030074100000{n}", f"0114030074100000751000000500{n}", f"021403007410000075100000{n}{n}", f"02150300{n}4100", f"0d15030074100000{n}4100"):
+                yield f"wtype 0312{member}f1"
+                yield f"welement 0 0312{member}"
+                yield f"welement 1 0312{member}f2f1{member}"
+                yield f"welement 2 0312{member}{member}"
+    # what has no numeric leaf is shown as without the w
+    for command in ("type 0210001000000c000100", "type 0112020000007400000002100000", "type 0a00020055", "type 0110"):
+        yield f"w{command}"
+    yield "welement 0 06120300000000100000"
+    yield "welement 1 0112020000007400000002100000"
+    yield "welement 0 0a00020055"
 
 
 def prefixes():
@@ -906,7 +965,7 @@ def main():
     make_inputs.rng.seed(seed)
     rng = make_inputs.rng
     commands = [c for c, _ in EXAMPLES] + NO_COMMANDS + NO_BYTES + [MOST] + list(small_commands()) + list(record_commands(rng)) + list(word_commands(rng)) + list(stream_commands(rng))
-    commands += [c for c, _ in CVINFO]
+    commands += [c for c, _ in CVINFO] + [c for c, _ in FORMS] + list(form_commands())
     commands = list(dict.fromkeys(commands))
     problems = compare.listed()
     crate = [c for c in commands if c.split()[0] not in PORT_ONLY and (c in NO_COMMANDS or not no_bytes(c.split()))]
@@ -935,7 +994,7 @@ def main():
                 problems.append(f"{c[:80]}: {name} is no line of docs/DIFFERENCES.md")
         vectors.append((c, lines))
     answer = dict(vectors)
-    problems += [f"an example {c[:80]}: {answer.get(c)}" for c, said in EXAMPLES + CVINFO if answer.get(c) != said]
+    problems += [f"an example {c[:80]}: {answer.get(c)}" for c, said in EXAMPLES + CVINFO + FORMS if answer.get(c) != said]
     problems += [f"lacks {what}" for what in lacking(vectors)]
     got = compare.answers(replay, [c for c, _ in vectors])
     problems += [f"{c[:200]}\n  expected {said[:3]}\n  replay   {had[:3]}" for (c, said), had in zip(vectors, got) if said != had]

@@ -13,7 +13,7 @@ use Rattle.answer.specs.Tables.{find}
 use Rattle.field.specs.Fields.{littleAt}
 use Rattle.field.specs.Indices.{noId, optionalOf, idOption}
 use Rattle.field.specs.Runs.{bytesAfter}
-use Rattle.record_layout.specs.Fields.{readField, readFields}
+use Rattle.record_layout.specs.Fields.{Shown, readFieldBy, readFieldsBy}
 use Rattle.record_layout.specs.Layouts.{idLeaves, readLeaf, leafOf, recordOf}
 use Rattle.record_layout.proofs.OneOutcome.{option-back}
 use Rattle.record_id.specs.Said.{sourceValues, idValues, saidIdData}
@@ -55,7 +55,7 @@ module _ (s : List ℕ) where
     Alike leaf = Same (_>>=_ (_>>=_ (by-leaf leaf (at s 2)) λ (d, b). gives (d, b .pos)) λ (d, _). gives d) (shownBy (idShown s) (leafOf idLeaves leaf s 2))
 
     function : Alike 0x1601
-    unfolding by-leaf match function-id parse-string leafOf readLeaf find idLeaves readFields readField
+    unfolding by-leaf match function-id parse-string leafOf readLeaf find idLeaves readFieldsBy readFieldBy
     function =
         by-order 6 (length s)
         (λ a. rw (id-in s 2 a, optional-in s 2 noId a)
@@ -68,7 +68,7 @@ module _ (s : List ℕ) where
         (λ a. rw (id-out s 2 a, optional-out s 2 noId a) same-end)
 
     member-function : Alike 0x1602
-    unfolding by-leaf match member-function-id parse-string leafOf readLeaf find idLeaves readFields readField
+    unfolding by-leaf match member-function-id parse-string leafOf readLeaf find idLeaves readFieldsBy readFieldBy
     member-function =
         by-order 6 (length s)
         (λ a. rw (parse-in s 2 4 a, fixed-in s 2 4 a)
@@ -81,7 +81,7 @@ module _ (s : List ℕ) where
         (λ a. rw (parse-out s 2 4 a, fixed-out s 2 4 a) same-end)
 
     build : Alike 0x1603
-    unfolding by-leaf match build-info leafOf readLeaf find idLeaves readFields readField bytesAfter
+    unfolding by-leaf match build-info leafOf readLeaf find idLeaves readFieldsBy readFieldBy bytesAfter
     build =
         by-order 4 (length s)
         (λ a. rw (parse-in s 2 2 a, fixed-in s 2 2 a)
@@ -91,7 +91,7 @@ module _ (s : List ℕ) where
         (λ a. rw (parse-out s 2 2 a, fixed-out s 2 2 a) same-end)
 
     strings : Alike 0x1604
-    unfolding by-leaf match string-list leafOf readLeaf find idLeaves readFields readField bytesAfter
+    unfolding by-leaf match string-list leafOf readLeaf find idLeaves readFieldsBy readFieldBy bytesAfter
     strings =
         by-order 6 (length s)
         (λ a. rw (parse-in s 2 4 a, fixed-in s 2 4 a)
@@ -101,7 +101,7 @@ module _ (s : List ℕ) where
         (λ a. rw (parse-out s 2 4 a, fixed-out s 2 4 a) same-end)
 
     string : Alike 0x1605
-    unfolding by-leaf match string-id parse-string leafOf readLeaf find idLeaves readFields readField
+    unfolding by-leaf match string-id parse-string leafOf readLeaf find idLeaves readFieldsBy readFieldBy
     string =
         by-order 6 (length s)
         (λ a. rw (id-in s 2 a, optional-in s 2 noId a)
@@ -111,7 +111,7 @@ module _ (s : List ℕ) where
         (λ a. rw (id-out s 2 a, optional-out s 2 noId a) same-end)
 
     local-source : Alike 0x1606
-    unfolding by-leaf match source-line leafOf readLeaf find idLeaves readFields readField
+    unfolding by-leaf match source-line leafOf readLeaf find idLeaves readFieldsBy readFieldBy
     local-source =
         by-order 6 (length s)
         (λ a. rw (parse-in s 2 4 a, fixed-in s 2 4 a)
@@ -124,7 +124,7 @@ module _ (s : List ℕ) where
         (λ a. rw (parse-out s 2 4 a, fixed-out s 2 4 a) same-end)
 
     remote-source : Alike 0x1607
-    unfolding by-leaf match source-line leafOf readLeaf find idLeaves readFields readField
+    unfolding by-leaf match source-line leafOf readLeaf find idLeaves readFieldsBy readFieldBy
     remote-source =
         by-order 6 (length s)
         (λ a. rw (parse-in s 2 4 a, fixed-in s 2 4 a)

@@ -13,9 +13,8 @@ use Rattle.answer.specs.Answer.{Answer, answered, refused}
 use Rattle.answer.specs.Tables.{find}
 use Rattle.field.specs.Fields.{littleAt}
 use Rattle.field.specs.Runs.{bytesAfter}
-use Rattle.field_text.specs.Texts.{Part}
 use Rattle.record_layout.specs.Layouts.{idLeaves}
-use Rattle.record_layout.specs.Fields.{Value, number, readField, readFields}
+use Rattle.record_layout.specs.Fields.{number, Shown, readFieldBy, readFieldsBy}
 use Rattle.record_list.specs.Lists.{ElementValues, typeElement, idElement, inCounted, countedBy, counted, startOf, startIds, countedStep, stepOf, elementBy, elementOf}
 use Rattle.stream_item.specs.declared.Stream.the-variants as stream
 use Rattle.claim_model.specs.Rust.{gives, _>>=_, match}
@@ -27,7 +26,7 @@ use Rattle.claim_model.proofs.BufferLaws.{parse-in, parse-out, fixed-in
 use Rattle.claim_model.proofs.IdEqual.{pushed-in, pushed-out}
 
 -- what the reader gives for an element of a list, or past its end
-abbrev chosen : (List (Value Part) → ElementValues) → Option ℕ → Answer ElementValues
+abbrev chosen : (List Shown → ElementValues) → Option ℕ → Answer ElementValues
 chosen entry none = refused 15 []
 chosen entry (some n) = answered (entry (number n ∷ []))
 
@@ -36,7 +35,7 @@ module _ (s : List ℕ) where
   left n = ne-eqb (suc n) 0 (λ (e : suc n ≡ 0). omega arith)
 
   ids-at : (k n p : ℕ) → p + 4 * n ≤ length s → elementBy (stepOf s) k (inCounted 0x1603 p n) ≡ chosen idElement (getElem? (elements n s p) k)
-  unfolding elementBy stepOf countedStep readFields readField elements
+  unfolding elementBy stepOf countedStep readFieldsBy readFieldBy elements
   ids-at zero zero p h = refl
   ids-at (suc k) zero p h = refl
   ids-at zero (suc n) p h = rw (left n, fixed-in s p 4 (omega arith))
@@ -45,7 +44,7 @@ module _ (s : List ℕ) where
       rw (left n, fixed-in s p 4 (omega arith), e) (ids-at k n (p + 4) (omega arith))
 
   types-at : (k n p : ℕ) → p + 4 * n ≤ length s → elementBy (stepOf s) k (inCounted 0x1604 p n) ≡ chosen typeElement (getElem? (elements n s p) k)
-  unfolding elementBy stepOf countedStep readFields readField elements
+  unfolding elementBy stepOf countedStep readFieldsBy readFieldBy elements
   types-at zero zero p h = refl
   types-at (suc k) zero p h = refl
   types-at zero (suc n) p h = rw (left n, fixed-in s p 4 (omega arith))
@@ -65,7 +64,7 @@ module _ (s : List ℕ) where
   Listed k = Same (_>>=_ (parse-id s) λ d. gives (getElem? (listed d) k)) (asElement (elementOf stream.Ids s k))
 
   pub build-elements : littleAt 2 s 0 ≡ 0x1603 → (k : ℕ) → Listed k
-  unfolding parse-id try-from-ctx by-leaf match build-info elementOf startOf startIds counted countedBy find idLeaves readFields readField bytesAfter
+  unfolding parse-id try-from-ctx by-leaf match build-info elementOf startOf startIds counted countedBy find idLeaves readFieldsBy readFieldBy bytesAfter
   build-elements leaf k =
       by-order 2 (length s)
       (λ h. rw (parse-in s 0 2 h, fixed-in s 0 2 h, leaf)
@@ -78,7 +77,7 @@ module _ (s : List ℕ) where
       (λ h. rw (parse-out s 0 2 h, fixed-out s 0 2 h) same-end)
 
   pub string-elements : littleAt 2 s 0 ≡ 0x1604 → (k : ℕ) → Listed k
-  unfolding parse-id try-from-ctx by-leaf match string-list elementOf startOf startIds counted countedBy find idLeaves readFields readField bytesAfter
+  unfolding parse-id try-from-ctx by-leaf match string-list elementOf startOf startIds counted countedBy find idLeaves readFieldsBy readFieldBy bytesAfter
   string-elements leaf k =
       by-order 2 (length s)
       (λ h. rw (parse-in s 0 2 h, fixed-in s 0 2 h, leaf)

@@ -6,14 +6,13 @@ use native.Mathlib.Omega.{arith}
 use lib.ListN.{length, take as front, drop}
 use borrow.Author.Tests.{le-ltb, lt-ltb}
 use Rattle.answer.specs.Answer.{Answer, answered, refused, then}
-use Rattle.field_text.specs.Texts.{Part}
 use Rattle.field.specs.Fields.{littleAt, fixedAt}
 use Rattle.field.specs.declared.index.TypeIndex.{TypeIndex}
 use Rattle.field.specs.declared.index.IdIndex.{IdIndex}
 use Rattle.answer.specs.Tables.{find}
 use Rattle.word_primitive.specs.Primitive.{primitiveOf}
 use Rattle.word_primitive.specs.declared.PrimitiveType.{PrimitiveType as PortPrimitive}
-use Rattle.record_layout.specs.Fields.{Value}
+use Rattle.record_layout.specs.Fields.{Shown}
 use Rattle.record_layout.specs.Layouts.{idLeaves, readLeaf, leafOf, recordOf}
 use Rattle.stream_item.specs.Items.{indexOf}
 use Rattle.stream_item.specs.declared.ItemIndex.the-variants as index
@@ -31,7 +30,7 @@ use Rattle.claim_model.proofs.IdEqual.{id-same}
 use Rattle.claim_model.specs.Run.{Lent}
 use Rattle.claim_model.proofs.ItemsEqual.{part-length}
 
-as-id : (b : List ℕ) (a : Answer (List (Value Part))) → asId b (then a (λ vs. answered (id vs))) ≡ shownBy (idShown b) a
+as-id : (b : List ℕ) (a : Answer (List Shown)) → asId b (then a (λ vs. answered (id vs))) ≡ shownBy (idShown b) a
 as-id b (answered vs) = refl
 as-id b (refused n d) = refl
 

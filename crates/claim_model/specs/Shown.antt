@@ -18,7 +18,7 @@ use Rattle.stream_finder.specs.Finder.{State, Found}
 use Rattle.field.specs.Indices.{idOption}
 use Rattle.field_text.specs.declared.RawString.{RawString}
 use Rattle.answer.specs.Refusals.{no}
-use Rattle.record_layout.specs.Fields.{Value}
+use Rattle.record_layout.specs.Fields.{Shown}
 use Rattle.record_layout.specs.Values.{nth, numberIn, optionIn, stringIn}
 use Rattle.stream_header.specs.Header.{longest}
 use Rattle.stream_header.specs.declared.Slice.{Slice as PortSlice}
@@ -136,14 +136,14 @@ unfoldable pub elements : ℕ → List ℕ → ℕ → List ℕ
 elements zero s p = []
 elements (suc n) s p = littleAt 4 s p ∷ elements n s (p + 4)
 
-abbrev pub textIn : List ℕ → Value Part → List ℕ
+abbrev pub textIn : List ℕ → Shown → List ℕ
 textIn s v = front (stringIn v .length) (drop (stringIn v .place) s)
 
-abbrev pub elementsIn : List ℕ → Value Part → Value Part → List ℕ
+abbrev pub elementsIn : List ℕ → Shown → Shown → List ℕ
 elementsIn s count v = elements (numberIn count) s (stringIn v .place)
 
 -- an id record's leaf and values, in the order of its layout, as the crate's data
-abbrev pub idShown : List ℕ → List (Value Part) → IdData
+abbrev pub idShown : List ℕ → List Shown → IdData
 idShown s vs =
     let leaf = numberIn (nth 0 vs) in
     let a = nth 1 vs in

@@ -4,7 +4,7 @@ use Rattle.stream_finder.specs.Finder.{state, createBy, updateOf}
 use mathlib.Core.Path.{sym, ap, _∙_}
 use Rattle.stream_index.specs.Walk.{turnOf, saidEnd}
 use Rattle.record_list.specs.Lists.{stepOf}
-use Rattle.claim_promises.proofs.ReadingRefuses.{fixed-refuses, signed-refuses, optional-refuses, string-refuses, counted-refuses, string-of-refuses, bytes-refuses, padding-refuses, numeric-refuses, size-refuses}
+use Rattle.claim_promises.proofs.ReadingRefuses.{fixed-refuses, signed-refuses, optional-refuses, string-refuses, counted-refuses, string-of-refuses, bytes-refuses, padding-refuses, numeral-refuses, sized-refuses}
 use Rattle.claim_promises.proofs.StreamRefuses.{primitive-refuses, kind-refuses, mode-refuses, to-member-refuses, reference-refuses, pointer-size-refuses, header-refuses, iter-refuses, len-refuses, is-empty-refuses, next-refuses, view-refuses, raw-kind-refuses, create-refuses, create-by-refuses, update-refuses, find-refuses, turn-refuses, type-refuses, id-refuses, member-refuses, method-refuses, start-refuses, step-refuses, element-by-refuses, element-refuses, element-ids-refuses, parse-refuses}
 use Rattle.claim_promises.proofs.LeftAlone.{leaves-alone, changes-nothing, leads-nowhere, steps-nowhere}
 use Rattle.claim_promises.specs.Demand1.{Demand1}
@@ -20,8 +20,8 @@ demand1 = record {
   strings-by-leaf = string-of-refuses;
   runs = bytes-refuses;
   paddings = padding-refuses;
-  numbers = numeric-refuses;
-  sizes = size-refuses;
+  numbers = numeral-refuses;
+  sizes = sized-refuses;
   primitives = primitive-refuses;
   pointer-kinds = kind-refuses;
   pointer-modes = mode-refuses;

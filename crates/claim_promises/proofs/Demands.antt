@@ -1,4 +1,6 @@
 -- All that is promised is proved. Assumes nothing.
+use Rattle.field_number.proofs.FormsProof.{shortest-form, width-said, as-before}
+use Rattle.record_layout.proofs.AsIn01.{as-in-01}
 use Rattle.claim_model.proofs.Demand2.{demand2}
 use Rattle.stream_finder.proofs.DemandProof.{demand3, demand3-every, not-indexed, not-indexed-every}
 use Rattle.stream_finder.proofs.SharedProof.{shared}
@@ -18,6 +20,10 @@ demands = record {
   third-every = demand3-every;
   exactly-if-every = not-indexed-every;
   shared-by-many = shared;
+  shortest-form = shortest-form;
+  width-said = width-said;
+  numbers-as-before = as-before;
+  layouts-as-before = as-in-01;
   shown = examples-hold;
   one = one-outcome;
 }

@@ -9,7 +9,6 @@ use Rattle.answer.specs.Answer.{Answer, answered, refused, then, got}
 use Rattle.answer.specs.Tables.{find, among}
 use Rattle.field.specs.Fields.{littleAt}
 use Rattle.field.proofs.FieldLaws.{field-there}
-use Rattle.field_text.specs.Texts.{Part}
 use Rattle.stream_header.specs.Header.{longest}
 use Rattle.stream_item.specs.Iterator.{Next, yielded, nextOf}
 use Rattle.stream_item.specs.declared.Item.{Item}
@@ -17,7 +16,7 @@ use Rattle.stream_item.specs.declared.Entry.{Entry}
 use Rattle.stream_item.specs.declared.iter.ItemIter.{ItemIter}
 use Rattle.stream_finder.specs.Finder.{State, updateOf}
 use Rattle.stream_index.specs.Walk.{updating, turnOf}
-use Rattle.record_layout.specs.Fields.{Value, Field, wordAfter, readField, readFields}
+use Rattle.record_layout.specs.Fields.{Field, wordAfter, readField, readFields, Shown, readFieldsBy}
 use Rattle.record_layout.specs.Layouts.{Layout, Table, readLeaf, leafOf, recordOf}
 use Rattle.record_list.specs.Lists.{stepOf, elementBy}
 use Rattle.record_list.specs.declared.ListCursor.{ListCursor}
@@ -47,12 +46,12 @@ unfolding recordOf leafOf readLeaf
 records-fields table s fs a e = rw (sym (field-there 2 s 0 (littleAt 2 s 0) a refl), e) (carried _ (then (readFields fs 0 s 2) _) ∙ carried _ (readFields fs 0 s 2))
 
 fields-first : (f : Field) (fs : Layout) (w : ℕ) (s : List ℕ) (p n : ℕ) (d : List ℕ) → readField f w s p ≡ refused n d → readFields (f ∷ fs) w s p ≡ refused n d
-unfolding readFields
+unfolding readFieldsBy
 fields-first f fs w s p n d e = rw e refl
 
-fields-later : (f : Field) (fs : Layout) (w : ℕ) (s : List ℕ) (p : ℕ) (v : Value Part) (q : ℕ) → readField f w s p ≡ got v q
+fields-later : (f : Field) (fs : Layout) (w : ℕ) (s : List ℕ) (p : ℕ) (v : Shown) (q : ℕ) → readField f w s p ≡ got v q
     → refusalOf (readFields (f ∷ fs) w s p) ≡ refusalOf (readFields fs (wordAfter f v w) s q)
-unfolding readFields
+unfolding readFieldsBy
 fields-later f fs w s p v q e = rw e (carried _ (readFields fs (wordAfter f v w) s q))
 
 elements-here : (s : List ℕ) (c : ListCursor) → refusalOf (elementBy (stepOf s) 0 c) ≡ refusalOf (stepOf s c)

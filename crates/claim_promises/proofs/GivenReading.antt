@@ -17,9 +17,10 @@ use Rattle.field.specs.Fields.{littleAt, fixedAt, signedAt, twos}
 use Rattle.field.specs.Indices.{optionalOf, optionalAt}
 use Rattle.field.specs.Runs.{bytesAfter}
 use Rattle.field.proofs.FieldLaws.{There, field-there, field-got}
-use Rattle.field_text.specs.Texts.{Part, toZero, partOr, stringAt, countedStringAt, more, pad, paddingAfter}
+use Rattle.field_text.specs.Texts.{toZero, partOr, stringAt, countedStringAt, more, pad, paddingAfter}
 use Rattle.field_text.proofs.PadLaws.{pad-end, pad-stop, pad-more, pad-cut}
 use Rattle.field_number.specs.Numbers.{Wide, signed, unsigned, prefixes, unsignedAt, wideAt, numericAt, natural, sizeAt}
+use Rattle.field_number.specs.Forms.{numeralBy, numeralAt, sizedBy, sizedAt}
 use Rattle.word_primitive.specs.Kinds.{kinds, indirections}
 use Rattle.word_primitive.specs.Primitive.{unknown, known, primitiveOf}
 use Rattle.word_primitive.specs.declared.PrimitiveKind.{PrimitiveKind}
@@ -29,7 +30,7 @@ use Rattle.word_attributes.specs.Bits.{bits}
 use Rattle.word_attributes.specs.declared.PointerKind.{PointerKind}
 use Rattle.word_attributes.specs.declared.PointerMode.{PointerMode}
 use Rattle.word_attributes.specs.Pointers.{pointerKinds, pointerModes, good, kindOf, modeOf, toMemberOf, referenceOf, kindSize, sizeOf}
-use Rattle.record_layout.specs.Fields.{Value, number, Elements, types, ids, runBytes, Field, fixed, type, id, stringReference, optionalType, optionalId, word, gap, numeric, size, string, run, methods, members, when, wordAfter, readField, readFields}
+use Rattle.record_layout.specs.Fields.{number, Elements, types, ids, runBytes, Field, fixed, type, id, stringReference, optionalType, optionalId, word, gap, numeric, size, string, run, methods, members, when, wordAfter, readField, readFields, Shown, readFieldBy, readFieldsBy}
 use Rattle.record_layout.specs.Layouts.{always, T, pointer, memberO, Layout, Table, isAnswered, typeLeaves, memberLeaves, method, idLeaves, byLayout, readLeaf, readRecord, leafOf, recordOf}
 use Rattle.record_list.specs.Lists.{ElementValues, typeElement, idElement, inCounted, countedBy, counted, startTypes, startIds, startOf, countedStep, methodStep, memberStep, nextMember, stepOf, elementBy, elementOf}
 use Rattle.record_list.specs.declared.ListCursor.{ListCursor}
@@ -166,9 +167,9 @@ wide-none none s p e = refl
 wide-none (some (signed k)) s p e = denied 11 refl (signed-refuses k s p) e
 wide-none (some (unsigned k)) s p e = at-then 11 (fixedAt k s p) _ (λ x. denied 11 refl (fixed-refuses k s p) x) (λ _ _. off) e
 
-pub numbers-11 : (s : List ℕ) (p : ℕ) → Given 11 [] (numericAt s p) ((p + 2 ≤ length s) × (0x8000 ≤ littleAt 2 s p) × (find (littleAt 2 s p) prefixes ≡ none))
+number-11 : (s : List ℕ) (p : ℕ) → Given 11 [] (numericAt s p) ((p + 2 ≤ length s) × (0x8000 ≤ littleAt 2 s p) × (find (littleAt 2 s p) prefixes ≡ none))
 unfolding numericAt among
-numbers-11 s p = record {
+number-11 s p = record {
   when = λ (a, b, c). rw (sym (field-there 2 s p (littleAt 2 s p) a refl), le-ltb _ _ b, c) refl;
   only = at-then 11 (fixedAt 2 s p) _ (λ x. denied 11 refl (fixed-refuses 2 s p) x) (λ g e.
       let v = field-got 2 s p (g .value) (g .next) e in
@@ -188,16 +189,25 @@ below : (z : ℤ) (q : ℕ) → by 11 (natural z q) ≡ true → Below z
 below (pos n) q e = off e
 below (negsuc n) q e = tt
 
-pub sizes-11 : (s : List ℕ) (p : ℕ) → Given 11 [] (sizeAt s p) ((numericAt s p ≡ refused 11 []) ⊎ Negative (numericAt s p))
+-- what is said of a number's form refuses nothing
+pub numbers-11 : (s : List ℕ) (p : ℕ) → Given 11 [] (numeralAt s p) ((p + 2 ≤ length s) × (0x8000 ≤ littleAt 2 s p) × (find (littleAt 2 s p) prefixes ≡ none))
+unfolding numeralBy
+numbers-11 s p = given-then _ (number-11 s p) (λ v. refl)
+
+size-11 : (s : List ℕ) (p : ℕ) → Given 11 [] (sizeAt s p) ((numericAt s p ≡ refused 11 []) ⊎ Negative (numericAt s p))
 unfolding sizeAt
-sizes-11 s p = record {
+size-11 s p = record {
   when = go;
-  only = at-then 11 (numericAt s p) _ (λ e. inl (numbers-11 s p .when (numbers-11 s p .only e))) (λ g e b. inr (rw e (below (g .value) (g .next) b)));
+  only = at-then 11 (numericAt s p) _ (λ e. inl (number-11 s p .when (number-11 s p .only e))) (λ g e b. inr (rw e (below (g .value) (g .next) b)));
 }
   where
     go : (numericAt s p ≡ refused 11 []) ⊎ Negative (numericAt s p) → then (numericAt s p) (λ g. natural (g .value) (g .next)) ≡ refused 11 []
     go (inl e) = ap (λ a. then a (λ g. natural (g .value) (g .next))) e
     go (inr n) = negative (numericAt s p) n
+
+pub sizes-11 : (s : List ℕ) (p : ℕ) → Given 11 [] (sizedAt s p) ((numericAt s p ≡ refused 11 []) ⊎ Negative (numericAt s p))
+unfolding sizedBy
+sizes-11 s p = given-then _ (size-11 s p) (λ v. refl)
 
 -- ---- tables: whose keys are the numbers below m
 
@@ -403,7 +413,7 @@ module _ (s : List ℕ) where
   no-12 w p = denied 12 refl (fields-refuse (1 ∷ []) (memberO ∷ []) w s p (refl & no-more))
 
   word-12 : (b : Bool) → leb 10 (length s) ≡ b → by 12 (readFields (pointer ∷ memberO ∷ []) 0 s 6) ≡ true → BadWord
-  unfolding readFields readField
+  unfolding readFieldsBy readFieldBy
   word-12 true a x =
       let ten = field-there 4 s 6 (littleAt 4 s 6) (leb-true _ _ a) refl in
       let good = both (isAnswered (kindOf (littleAt 4 s 6))) (isAnswered (modeOf (littleAt 4 s 6))) in
@@ -414,7 +424,7 @@ module _ (s : List ℕ) where
   word-12 false a x = off (rw (fields 4 s 6 .when (leb-false _ _ a)) at x)
 
   type-12 : (b : Bool) → leb 6 (length s) ≡ b → by 12 (readFields pointerLayout 0 s 2) ≡ true → BadWord
-  unfolding readFields readField
+  unfolding readFieldsBy readFieldBy
   type-12 true a x =
       let six = field-there 4 s 2 (littleAt 4 s 2) (leb-true _ _ a) refl in
       at-then 12 (readFields (pointer ∷ memberO ∷ []) 0 s 6) _ (word-12 (leb 10 (length s)) refl) (λ _ _. off) (rw (sym six) at x)
@@ -429,7 +439,7 @@ module _ (s : List ℕ) where
   leaf-12 leaf false a x = off (rw (fields 2 s 0 .when (leb-false _ _ a)) at x)
 
   pub pointers-12 : littleAt 2 s 0 ≡ 0x1002 → Given 12 [] (recordOf typeLeaves s) BadWord
-  unfolding recordOf leafOf readLeaf typeLeaves find readFields readField
+  unfolding recordOf leafOf readLeaf typeLeaves find readFieldsBy readFieldBy
   pointers-12 leaf = record {
     when = λ (a, b).
         let two = field-there 2 s 0 (littleAt 2 s 0) (omega arith) refl in
@@ -491,7 +501,7 @@ id-lists-10 s = record {
       (v .room, rw (sym (v .value), a, b) refl))));
 }
 
-counted-step-15 : (f : Field) (element : List (Value Part) → ElementValues) (leaf : ℕ) (s : List ℕ) (p left : ℕ) → Given 15 [] (countedStep f element leaf s p left) (left ≡ 0)
+counted-step-15 : (f : Field) (element : List Shown → ElementValues) (leaf : ℕ) (s : List ℕ) (p left : ℕ) → Given 15 [] (countedStep f element leaf s p left) (left ≡ 0)
 unfolding countedStep
 counted-step-15 f element leaf s p left = record {
   when = λ e. simp (eq-eqb _ _ e);
@@ -563,11 +573,11 @@ one-on n k g = record {
 }
 
 -- a list whose elements are fields of four bytes, all there
-module _ (s : List ℕ) (f : Field) (element : List (Value Part) → ElementValues) (leaf : ℕ)
+module _ (s : List ℕ) (f : Field) (element : List Shown → ElementValues) (leaf : ℕ)
     (steps : (p n : ℕ) → stepOf s (inCounted leaf p n) ≡ countedStep f element leaf s p n)
     (four : (p : ℕ) → readField f 0 s p ≡ then (fixedAt 4 s p) (λ g. got (number (g .value)) (g .next))) where
   element-15 : (k n p : ℕ) → p + 4 * n ≤ length s → Given 15 [] (elementBy (stepOf s) k (inCounted leaf p n)) (n ≤ k)
-  unfolding elementBy countedStep readFields
+  unfolding elementBy countedStep readFieldsBy
   element-15 zero zero p h = rw (steps p 0) (record { when = λ l. refl; only = λ e. omega arith })
   element-15 (suc k) zero p h = rw (steps p 0) (record { when = λ l. refl; only = λ e. omega arith })
   element-15 zero (suc n) p h =
@@ -582,11 +592,11 @@ module _ (s : List ℕ) (w : ℕ) (e : Elements) (four : (n : ℕ) → runBytes 
   start = countedBy (word w always ∷ run e ∷ []) leaf s 2
 
   count-there : 2 + w + 4 * littleAt w s 2 ≤ length s → start ≡ answered (inCounted leaf (2 + w) (littleAt w s 2))
-  unfolding countedBy readFields readField bytesAfter
+  unfolding countedBy readFieldsBy readFieldBy bytesAfter
   count-there a = rw (sym (field-there w s 2 (littleAt w s 2) (omega arith) refl), four (littleAt w s 2), le-ltb _ _ a) refl
 
   count-short : length s < 2 + w + 4 * littleAt w s 2 → start ≡ refused 1 []
-  unfolding countedBy readFields readField bytesAfter
+  unfolding countedBy readFieldsBy readFieldBy bytesAfter
   count-short a = go (leb (2 + w) (length s)) refl
     where
       go : (b : Bool) → leb (2 + w) (length s) ≡ b → start ≡ refused 1 []
@@ -613,7 +623,7 @@ module _ (s : List ℕ) where
   cut-15 e never = rw e (record { when = λ p. absurd (never p); only = off })
 
   pub arguments-15 : littleAt 2 s 0 ≡ 0x1201 → (k : ℕ) → Given 15 [] (elementOf stream.Types s k) ((6 + 4 * littleAt 4 s 2 ≤ length s) × (littleAt 4 s 2 ≤ k))
-  unfolding elementOf startOf startTypes stepOf counted find typeLeaves readField
+  unfolding elementOf startOf startTypes stepOf counted find typeLeaves readFieldBy
   arguments-15 leaf k = go (leb 2 (length s)) refl
     where
       go : (b : Bool) → leb 2 (length s) ≡ b → Given 15 [] (elementOf stream.Types s k) ((6 + 4 * littleAt 4 s 2 ≤ length s) × (littleAt 4 s 2 ≤ k))
@@ -621,7 +631,7 @@ module _ (s : List ℕ) where
       go false q = let h = leb-false _ _ q in cut-15 (rw (fields 2 s 0 .when h) refl) (λ (a, _). omega arith)
 
   pub build-arguments-15 : littleAt 2 s 0 ≡ 0x1603 → (k : ℕ) → Given 15 [] (elementOf stream.Ids s k) ((4 + 4 * littleAt 2 s 2 ≤ length s) × (littleAt 2 s 2 ≤ k))
-  unfolding elementOf startOf startIds stepOf counted find idLeaves readField
+  unfolding elementOf startOf startIds stepOf counted find idLeaves readFieldBy
   build-arguments-15 leaf k = go (leb 2 (length s)) refl
     where
       go : (b : Bool) → leb 2 (length s) ≡ b → Given 15 [] (elementOf stream.Ids s k) ((4 + 4 * littleAt 2 s 2 ≤ length s) × (littleAt 2 s 2 ≤ k))
@@ -629,7 +639,7 @@ module _ (s : List ℕ) where
       go false q = let h = leb-false _ _ q in cut-15 (rw (fields 2 s 0 .when h) refl) (λ (a, _). omega arith)
 
   pub substrings-15 : littleAt 2 s 0 ≡ 0x1604 → (k : ℕ) → Given 15 [] (elementOf stream.Ids s k) ((6 + 4 * littleAt 4 s 2 ≤ length s) × (littleAt 4 s 2 ≤ k))
-  unfolding elementOf startOf startIds stepOf counted find idLeaves readField
+  unfolding elementOf startOf startIds stepOf counted find idLeaves readFieldBy
   substrings-15 leaf k = go (leb 2 (length s)) refl
     where
       go : (b : Bool) → leb 2 (length s) ≡ b → Given 15 [] (elementOf stream.Ids s k) ((6 + 4 * littleAt 4 s 2 ≤ length s) × (littleAt 4 s 2 ≤ k))

@@ -15,8 +15,9 @@ use Rattle.field.specs.Indices.{noType, noId, optionalAt}
 use Rattle.field.specs.Runs.{bytesAfter}
 use Rattle.field_text.specs.Texts.{toZero, partOr, stringAt, countedStringAt, stringOf, pad, more, paddingAfter}
 use Rattle.field_number.specs.Numbers.{Wide, signed, unsigned, prefixes, unsignedAt, wideAt, numericAt, natural, sizeAt}
+use Rattle.field_number.specs.Forms.{numeralBy, numeralAt, sizedBy, sizedAt}
 use Rattle.word_attributes.specs.Pointers.{kindOf, modeOf}
-use Rattle.record_layout.specs.Fields.{Field, fixed, type, id, stringReference, optionalType, optionalId, word, gap, numeric, size, string, run, methods, members, when, runBytes, wordAfter, readField, readFields}
+use Rattle.record_layout.specs.Fields.{Field, fixed, type, id, stringReference, optionalType, optionalId, word, gap, numeric, size, string, run, methods, members, when, runBytes, wordAfter, readField, readFields, readFieldBy, readFieldsBy}
 use Rattle.record_layout.specs.Layouts.{Layout, Table, class as classLayout, isAnswered, typeLeaves, memberLeaves, method, idLeaves, byLayout, readLeaf, readRecord, leafOf, recordOf}
 use Rattle.claim_promises.specs.ByTable.{fits, gives, refuses, Refuses}
 use Rattle.claim_promises.proofs.ByTable.{by-pick, by-stop, by-then, within, wider}
@@ -75,7 +76,7 @@ wide-refuses none s p = refuses refl
 wide-refuses (some (signed k)) s p = wider refl (signed-refuses k s p)
 wide-refuses (some (unsigned k)) s p = by-then (wider refl (fixed-refuses k s p)) (λ g. gives)
 
-pub numeric-refuses : (s : List ℕ) (p : ℕ) → Refuses (1 ∷ 11 ∷ []) (numericAt s p)
+numeric-refuses : (s : List ℕ) (p : ℕ) → Refuses (1 ∷ 11 ∷ []) (numericAt s p)
 unfolding numericAt within among
 numeric-refuses s p = by-then (wider refl (fixed-refuses 2 s p)) (λ g. by-pick (ltb (g .value) 0x8000) gives (wide-refuses (find (g .value) prefixes) s (g .next)))
 
@@ -84,9 +85,13 @@ unfolding fits among listed find inTable refusals
 natural-refuses (pos n) q = gives
 natural-refuses (negsuc n) q = refuses refl
 
-pub size-refuses : (s : List ℕ) (p : ℕ) → Refuses (1 ∷ 11 ∷ []) (sizeAt s p)
-unfolding sizeAt
-size-refuses s p = by-then (numeric-refuses s p) (λ g. natural-refuses (g .value) (g .next))
+pub numeral-refuses : (s : List ℕ) (p : ℕ) → Refuses (1 ∷ 11 ∷ []) (numeralAt s p)
+unfolding numeralBy
+numeral-refuses s p = by-then (numeric-refuses s p) (λ g. gives)
+
+pub sized-refuses : (s : List ℕ) (p : ℕ) → Refuses (1 ∷ 11 ∷ []) (sizedAt s p)
+unfolding sizedBy sizeAt
+sized-refuses s p = by-then (by-then (numeric-refuses s p) (λ g. natural-refuses (g .value) (g .next))) (λ g. gives)
 
 -- Layouts: what a field has to have among the numbers, and a layout, all its fields
 
@@ -119,7 +124,7 @@ word-refuses true h r = r
 word-refuses false h r = wider h (refuses refl)
 
 field-refuses : (ns : List ℕ) (f : Field) (w : ℕ) (s : List ℕ) (p : ℕ) → Takes ns f → Refuses ns (readField f w s p)
-unfolding readField
+unfolding readFieldBy
 field-refuses ns (fixed k) w s p h = by-then (wider h (fixed-refuses k s p)) (λ g. gives)
 field-refuses ns type w s p h = by-then (wider h (fixed-refuses 4 s p)) (λ g. gives)
 field-refuses ns id w s p h = by-then (wider h (fixed-refuses 4 s p)) (λ g. gives)
@@ -128,8 +133,8 @@ field-refuses ns optionalType w s p h = by-then (wider h (optional-refuses noTyp
 field-refuses ns optionalId w s p h = by-then (wider h (optional-refuses noId s p)) (λ g. gives)
 field-refuses ns (word k good) w s p h = by-then (wider (h .0) (fixed-refuses k s p)) (λ g. word-refuses (good (g .value)) (h .1 (g .value)) gives)
 field-refuses ns (gap k) w s p h = by-then (wider h (fixed-refuses k s p)) (λ g. gives)
-field-refuses ns numeric w s p h = by-then (wider h (numeric-refuses s p)) (λ g. gives)
-field-refuses ns size w s p h = by-then (wider h (size-refuses s p)) (λ g. gives)
+field-refuses ns numeric w s p h = by-then (wider h (numeral-refuses s p)) (λ g. gives)
+field-refuses ns size w s p h = by-then (wider h (sized-refuses s p)) (λ g. gives)
 field-refuses ns string w s p h = by-then (wider h (string-refuses s p)) (λ g. gives)
 field-refuses ns (run e) w s p h = by-then (wider h (bytes-refuses (runBytes e w) s p)) (λ g. gives)
 field-refuses ns methods w s p h = gives
@@ -137,7 +142,7 @@ field-refuses ns members w s p h = gives
 field-refuses ns (when there f) w s p h = by-pick (there w) (field-refuses ns f w s p h) gives
 
 pub fields-refuse : (ns : List ℕ) (fs : List Field) (w : ℕ) (s : List ℕ) (p : ℕ) → TakesAll ns fs → Refuses ns (readFields fs w s p)
-unfolding readFields
+unfolding readFieldsBy
 fields-refuse ns [] w s p no-more = gives
 fields-refuse ns (f ∷ fs) w s p (h & hs) =
     by-then (field-refuses ns f w s p h) (λ g.

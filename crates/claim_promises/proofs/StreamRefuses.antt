@@ -34,7 +34,7 @@ use Rattle.stream_item.specs.declared.link.Hit.{Hit}
 use Rattle.stream_item.specs.declared.link.Hit.the-variants.{Landed, Missed}
 use Rattle.stream_finder.specs.Finder.{State, blockOf, distance, begunBy, createOf, createBy, due, updateOf, landed, maxIndexOf, lookOf, findOf}
 use Rattle.stream_index.specs.Walk.{Turn, updating, turnOf}
-use Rattle.record_layout.specs.Fields.{Value, Field, id, run, types, ids, readFields}
+use Rattle.record_layout.specs.Fields.{Field, id, run, types, ids, readFields, Shown}
 use Rattle.record_layout.specs.Values.{nth, numberIn as countIn, stringIn}
 use Rattle.record_layout.specs.Layouts.{T, count16, count32, Layout, typeLeaves, idLeaves, memberLeaves, method, readRecord, recordOf}
 use Rattle.field_text.specs.Texts.{Part}
@@ -277,7 +277,7 @@ ofIdSteps = 15 ∷ 1 ∷ 10 ∷ []
 abbrev pub ofSteps : List ℕ
 ofSteps = 15 ∷ 1 ∷ 10 ∷ 11 ∷ []
 
-counted-step-refuses : (f : Field) (entry : List (Value Part) → ElementValues) (leaf : ℕ) (s : List ℕ) (p left : ℕ) → TakesAll ofIdSteps (f ∷ []) → Refuses ofIdSteps (countedStep f entry leaf s p left)
+counted-step-refuses : (f : Field) (entry : List Shown → ElementValues) (leaf : ℕ) (s : List ℕ) (p left : ℕ) → TakesAll ofIdSteps (f ∷ []) → Refuses ofIdSteps (countedStep f entry leaf s p left)
 unfolding countedStep fits among listed find inTable refusals
 counted-step-refuses f entry leaf s p left h = by-stop (eqb left 0) 15 refl (by-then (fields-refuse _ (f ∷ []) 0 s p h) (λ g. gives))
 
@@ -320,21 +320,21 @@ data Stays (leaf : ℕ) : Answer Step → Type 0 where
   stays : {e : ElementValues} {p n : ℕ} → Stays leaf (answered (record { element = e; next = inCounted leaf p n }))
   ends : {n : ℕ} {d : List ℕ} → fits elsewhere ofIdSteps n d ≡ true → Stays leaf (refused n d)
 
-counted-stays : (f : Field) (element : List (Value Part) → ElementValues) (leaf : ℕ) (s : List ℕ) (p left : ℕ) → TakesAll ofIdSteps (f ∷ [])
+counted-stays : (f : Field) (element : List Shown → ElementValues) (leaf : ℕ) (s : List ℕ) (p left : ℕ) → TakesAll ofIdSteps (f ∷ [])
     → Stays leaf (countedStep f element leaf s p left)
 unfolding countedStep fits among listed find inTable refusals
 counted-stays f element leaf s p left h = go (eqb left 0) (fields-refuse _ (f ∷ []) 0 s p h)
   where
-    read : {a : Read (List (Value Part))} → Refuses ofIdSteps a → Stays leaf (and-then a (λ vs e. stepTo (element vs) (inCounted leaf e (left - 1))))
+    read : {a : Read (List Shown)} → Refuses ofIdSteps a → Stays leaf (and-then a (λ vs e. stepTo (element vs) (inCounted leaf e (left - 1))))
     read gives = stays
     read (refuses q) = ends q
 
-    go : (b : Bool) {a : Read (List (Value Part))} → Refuses ofIdSteps a → Stays leaf (stop b 15 (and-then a (λ vs e. stepTo (element vs) (inCounted leaf e (left - 1)))))
+    go : (b : Bool) {a : Read (List Shown)} → Refuses ofIdSteps a → Stays leaf (stop b 15 (and-then a (λ vs e. stepTo (element vs) (inCounted leaf e (left - 1)))))
     go true r = ends refl
     go false r = read r
 
 -- element k, of a list whose steps are those of a counted list
-module _ (s : List ℕ) (f : Field) (element : List (Value Part) → ElementValues) (leaf : ℕ)
+module _ (s : List ℕ) (f : Field) (element : List Shown → ElementValues) (leaf : ℕ)
     (goes : (p left : ℕ) → stepOf s (inCounted leaf p left) ≡ countedStep f element leaf s p left) (h : TakesAll ofIdSteps (f ∷ [])) where
   counted-elements-refuse : (k p left : ℕ) → Refuses ofIdSteps (elementBy (stepOf s) k (inCounted leaf p left))
   unfolding elementBy
@@ -355,12 +355,12 @@ started : (s : List ℕ) → Started (startIds s)
 unfolding startIds counted countedBy idLeaves fits within among listed find inTable refusals
 started s = leaf-read (wider refl (fixed-refuses 2 s 0))
   where
-    ids-read : {a : Read (List (Value Part))} → Refuses ofIdSteps a
+    ids-read : {a : Read (List Shown)} → Refuses ofIdSteps a
         → Started (and-then a (λ vs e. answered (inCounted 0x1603 (stringIn (nth 1 vs) .place) (countIn (nth 0 vs)))))
     ids-read gives = of-ids
     ids-read (refuses q) = nowhere q
 
-    types-read : {a : Read (List (Value Part))} → Refuses ofIdSteps a
+    types-read : {a : Read (List Shown)} → Refuses ofIdSteps a
         → Started (and-then a (λ vs e. answered (inCounted 0x1604 (stringIn (nth 1 vs) .place) (countIn (nth 0 vs)))))
     types-read gives = of-types
     types-read (refuses q) = nowhere q

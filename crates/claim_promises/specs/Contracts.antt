@@ -26,7 +26,7 @@ use Rattle.field.specs.declared.index.ReadStringRef.{ReadStringRef}
 use Rattle.field.specs.declared.index.ReadType.{ReadType}
 use Rattle.field.specs.declared.index.TypeIndex.{TypeIndex}
 use Rattle.field.specs.declared.run.After.{After}
-use Rattle.field_number.specs.Numbers.{numericAt, saidSize as saidSize-of-field-number, saidVariant, sizeAt}
+use Rattle.field_number.specs.Forms.{numeralAt, saidSize as saidSize-of-field-number, saidVariant, sizedAt}
 use Rattle.field_number.specs.declared.ReadSize.{ReadSize}
 use Rattle.field_number.specs.declared.ReadVariant.{ReadVariant}
 use Rattle.field_text.specs.Texts.{paddingAfter, saidString, stringAt, stringOf, stringOption}
@@ -173,11 +173,11 @@ field-run-bytes-at s p n r = r ≡ bytesAt n s p
 
 -- field_number::number_at
 abbrev pub field-number-number-at : (s : List ℕ) (p : ℕ) → ReadVariant → Type 0
-field-number-number-at s p r = saidVariant r ≡ numericAt s p
+field-number-number-at s p r = saidVariant r ≡ numeralAt s p
 
 -- field_number::size_at
 abbrev pub field-number-size-at : (s : List ℕ) (p : ℕ) → ReadSize → Type 0
-field-number-size-at s p r = saidSize-of-field-number r ≡ sizeAt s p
+field-number-size-at s p r = saidSize-of-field-number r ≡ sizedAt s p
 
 -- field_text::string_at
 abbrev pub field-text-string-at : (s : List ℕ) (p : ℕ) → ReadString → Type 0

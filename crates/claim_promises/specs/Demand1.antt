@@ -14,7 +14,7 @@ use Rattle.field.specs.Fields.{fixedAt, signedAt}
 use Rattle.field.specs.Indices.{optionalAt}
 use Rattle.field.specs.Runs.{bytesAfter}
 use Rattle.field_text.specs.Texts.{stringAt, countedStringAt, stringOf, paddingAfter}
-use Rattle.field_number.specs.Numbers.{numericAt, sizeAt}
+use Rattle.field_number.specs.Forms.{numeralAt, sizedAt}
 use Rattle.word_primitive.specs.Primitive.{primitiveOf}
 use Rattle.word_attributes.specs.Pointers.{kindOf, modeOf, toMemberOf, referenceOf, sizeOf}
 use Rattle.stream_header.specs.Header.{headerOf}
@@ -60,8 +60,8 @@ pub record Demand1 : Type 0 where
   pub strings-by-leaf : (leaf : ℕ) (s : List ℕ) (p : ℕ) → Refuses (1 ∷ []) (stringOf leaf s p)
   pub runs : (n : ℕ) (s : List ℕ) (p : ℕ) → Refuses (1 ∷ []) (bytesAfter n s p)
   pub paddings : (s : List ℕ) (p : ℕ) → Refuses (1 ∷ []) (paddingAfter s p)
-  pub numbers : (s : List ℕ) (p : ℕ) → Refuses (1 ∷ 11 ∷ []) (numericAt s p)
-  pub sizes : (s : List ℕ) (p : ℕ) → Refuses (1 ∷ 11 ∷ []) (sizeAt s p)
+  pub numbers : (s : List ℕ) (p : ℕ) → Refuses (1 ∷ 11 ∷ []) (numeralAt s p)
+  pub sizes : (s : List ℕ) (p : ℕ) → Refuses (1 ∷ 11 ∷ []) (sizedAt s p)
   -- primitives, and what a pointer word answers
   pub primitives : (i : ℕ) → Refuses (8 ∷ []) (primitiveOf i)
   pub pointer-kinds : (w : ℕ) → Refuses (12 ∷ []) (kindOf w)

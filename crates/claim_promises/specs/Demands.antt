@@ -3,6 +3,8 @@
 -- `demands : Demands` (proofs/Demands.antt) is its proof.
 use mathlib.Core.Path.{_≡_}
 use mathlib.Core.List.{map}
+use Rattle.field_number.specs.Forms.{ShortestForm, WidthSaid, AsBefore}
+use Rattle.record_layout.specs.Fields.{AsIn01}
 use Rattle.claim_model.specs.Demand2.{Demand2}
 use Rattle.stream_finder.specs.Demand.{Demand3, Demand3Every, NotIndexed, NotIndexedEvery}
 use Rattle.stream_finder.specs.Shared.{Shared}
@@ -31,6 +33,12 @@ pub record Demands : Type 1 where
   pub exactly-if-every : NotIndexedEvery
   -- document 02, R-11: "any order of updates to a finder fresh on this stream, from any number of cursors ..": crates/stream_finder/specs/Shared.antt
   pub shared-by-many : Shared
+  -- document 02, R-4: what is said of the form of a number, "and whether a shorter form existed under R-1's rule": crates/field_number/specs/Forms.antt.
+  -- "Values and refusals of 01 stay", of a numeric leaf and of every layout: crates/record_layout/specs/Fields.antt
+  pub shortest-form : ShortestForm
+  pub width-said : WidthSaid
+  pub numbers-as-before : AsBefore
+  pub layouts-as-before : AsIn01
   -- "P marks those proved, together as one statement over their list": Examples.antt
   pub shown : map asked examples ≡ map answers examples
   -- "For each, show that the contract admits one outcome": OneOutcome.antt

@@ -15,8 +15,9 @@ use Rattle.answer.specs.Tables.{find, among}
 use Rattle.field.specs.Fields.{littleAt, fixedAt, signedAt}
 use Rattle.field.specs.Indices.{optionalAt}
 use Rattle.field.specs.Runs.{bytesAfter}
-use Rattle.field_text.specs.Texts.{Part, stringAt, countedStringAt, more, paddingAfter}
-use Rattle.field_number.specs.Numbers.{prefixes, numericAt, sizeAt}
+use Rattle.field_text.specs.Texts.{stringAt, countedStringAt, more, paddingAfter}
+use Rattle.field_number.specs.Numbers.{prefixes, numericAt}
+use Rattle.field_number.specs.Forms.{numeralAt, sizedAt}
 use Rattle.word_primitive.specs.Kinds.{kinds}
 use Rattle.word_primitive.specs.Primitive.{primitiveOf}
 use Rattle.word_attributes.specs.Bits.{bits}
@@ -39,7 +40,7 @@ use Rattle.stream_item.specs.declared.link.Hit.the-variants.{Landed, Missed}
 use Rattle.stream_view.specs.Views.{named, viewOf, rawKindOf}
 use Rattle.stream_finder.specs.Finder.{State, blockOf, createBy, updateOf, maxIndexOf, findOf}
 use Rattle.stream_index.specs.Walk.{turnOf}
-use Rattle.record_layout.specs.Fields.{Value, Field, wordAfter, readField, readFields}
+use Rattle.record_layout.specs.Fields.{Field, wordAfter, readField, readFields, Shown}
 use Rattle.record_layout.specs.Layouts.{Layout, Table, typeLeaves, readRecord, recordOf}
 use Rattle.record_list.specs.Lists.{startOf, Step, stepOf, elementBy, elementOf}
 use Rattle.record_list.specs.declared.ListCursor.{ListCursor}
@@ -173,8 +174,8 @@ pub record ExactlyWhen : Type 0 where
       ((2 ≤ length s) × (among (littleAt 2 s 0) (0x1201 ∷ 0x1206 ∷ 0x1203 ∷ []) ≡ false))
   pub id-lists-10 : (s : List ℕ) → Given 10 (littleAt 2 s 0 ∷ []) (startOf stream.Ids s) ((2 ≤ length s) × (among (littleAt 2 s 0) (0x1603 ∷ 0x1604 ∷ []) ≡ false))
   -- 11, number bad: "numeric prefix unknown, or negative where a size or offset is wanted"
-  pub numbers-11 : (s : List ℕ) (p : ℕ) → Given 11 [] (numericAt s p) ((p + 2 ≤ length s) × (0x8000 ≤ littleAt 2 s p) × (find (littleAt 2 s p) prefixes ≡ none))
-  pub sizes-11 : (s : List ℕ) (p : ℕ) → Given 11 [] (sizeAt s p) ((numericAt s p ≡ refused 11 []) ⊎ Negative (numericAt s p))
+  pub numbers-11 : (s : List ℕ) (p : ℕ) → Given 11 [] (numeralAt s p) ((p + 2 ≤ length s) × (0x8000 ≤ littleAt 2 s p) × (find (littleAt 2 s p) prefixes ≡ none))
+  pub sizes-11 : (s : List ℕ) (p : ℕ) → Given 11 [] (sizedAt s p) ((numericAt s p ≡ refused 11 []) ⊎ Negative (numericAt s p))
   -- 12, pointer word: "kind 13 to 31 where the kind is needed, mode 5 to 7 where the mode is"
   pub kinds-12 : (w : ℕ) → Given 12 [] (kindOf w) (13 ≤ bits 0 4 w)
   pub modes-12 : (w : ℕ) → Given 12 [] (modeOf w) (5 ≤ bits 5 7 w)
@@ -221,7 +222,7 @@ pub record ExactlyWhen : Type 0 where
   pub turns-update : (s : List ℕ) (σ : State) (c : ItemIter) (i : Item) (c′ : ItemIter) → nextOf s c ≡ answered (yielded i c′) → refusalOf (turnOf s σ c) ≡ refusalOf (updateOf σ c′)
   pub records-fields : (table : Table) (s : List ℕ) (fs : Layout) → 2 ≤ length s → find (littleAt 2 s 0) table ≡ some fs → refusalOf (recordOf table s) ≡ refusalOf (readFields fs 0 s 2)
   pub fields-first : (f : Field) (fs : Layout) (w : ℕ) (s : List ℕ) (p n : ℕ) (d : List ℕ) → readField f w s p ≡ refused n d → readFields (f ∷ fs) w s p ≡ refused n d
-  pub fields-later : (f : Field) (fs : Layout) (w : ℕ) (s : List ℕ) (p : ℕ) (v : Value Part) (q : ℕ) → readField f w s p ≡ got v q
+  pub fields-later : (f : Field) (fs : Layout) (w : ℕ) (s : List ℕ) (p : ℕ) (v : Shown) (q : ℕ) → readField f w s p ≡ got v q
       → refusalOf (readFields (f ∷ fs) w s p) ≡ refusalOf (readFields fs (wordAfter f v w) s q)
   pub elements-here : (s : List ℕ) (c : ListCursor) → refusalOf (elementBy (stepOf s) 0 c) ≡ refusalOf (stepOf s c)
   pub elements-before : (s : List ℕ) (c : ListCursor) (k n : ℕ) (d : List ℕ) → stepOf s c ≡ refused n d → elementBy (stepOf s) k c ≡ refused n d

@@ -5,7 +5,8 @@ use mathlib.Core.Path.{_≡_, refl, ap}
 use lib.IntN.{ℤ, pos, negsuc}
 use Rattle.answer.specs.Answer.{answered, refused, Read}
 use Rattle.answer.proofs.OneOutcome.{one-of, refusal-back, refusalIn}
-use Rattle.field_number.specs.Numbers.{numberValue, saidVariant, saidSize}
+use Rattle.field_number.specs.Numbers.{numberValue}
+use Rattle.field_number.specs.Forms.{Form, Numeral, saidVariant, saidSize}
 use Rattle.field_number.specs.declared.Number.{Number}
 use Rattle.field_number.specs.declared.Number.the-variants as number
 use Rattle.field_number.specs.declared.ReadVariant.{ReadVariant}
@@ -24,8 +25,8 @@ back-number (number.Negative n) = refl
 pub one-number : (r q : Number) → numberValue r ≡ numberValue q → r ≡ q
 one-number = one-of numberValue hear-number back-number
 
-abbrev hear-variant : Read ℤ → ReadVariant
-hear-variant (answered g) = rvariant.Got (record { value = hear-number (g .value) }) (g .next)
+abbrev hear-variant : Read (Numeral ℤ Form) → ReadVariant
+hear-variant (answered g) = let x = g .value in rvariant.Got (record { value = hear-number (x .value); width = x .form .width; shorter = x .form .shorter }) (g .next)
 hear-variant (refused n d) = rvariant.Refused (refusalIn n d)
 
 back-variant : (r : ReadVariant) → hear-variant (saidVariant r) ≡ r
@@ -35,8 +36,8 @@ back-variant (rvariant.Refused e) = ap rvariant.Refused (refusal-back e)
 pub one-variant : (r q : ReadVariant) → saidVariant r ≡ saidVariant q → r ≡ q
 one-variant = one-of saidVariant hear-variant back-variant
 
-abbrev hear-size : Read ℕ → ReadSize
-hear-size (answered g) = rsize.Got (record { value = g .value }) (g .next)
+abbrev hear-size : Read (Numeral ℕ Form) → ReadSize
+hear-size (answered g) = let x = g .value in rsize.Got (record { value = x .value; width = x .form .width; shorter = x .form .shorter }) (g .next)
 hear-size (refused n d) = rsize.Refused (refusalIn n d)
 
 back-size : (r : ReadSize) → hear-size (saidSize r) ≡ r

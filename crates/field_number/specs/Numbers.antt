@@ -10,10 +10,8 @@ use Rattle.answer.specs.Refusals.{no}
 use Rattle.field.specs.Fields.{fixedAt, signedAt}
 use Rattle.field_number.specs.declared.Number.{Number}
 use Rattle.field_number.specs.declared.Number.the-variants as number
-use Rattle.field_number.specs.declared.ReadVariant.{ReadVariant}
-use Rattle.field_number.specs.declared.ReadVariant.the-variants as rvariant
-use Rattle.field_number.specs.declared.ReadSize.{ReadSize}
-use Rattle.field_number.specs.declared.ReadSize.the-variants as rsize
+use Rattle.field_number.specs.declared.ReadNumber.{ReadNumber}
+use Rattle.field_number.specs.declared.ReadNumber.the-variants as rnumber
 
 -- what follows a prefix: a number of so many bytes
 pub data Wide : Type 0 where
@@ -55,15 +53,11 @@ natural (negsuc n) q = refused 11 []
 unfoldable pub sizeAt : List ℕ → ℕ → Read ℕ
 sizeAt s p = and-then (numericAt s p) natural
 
--- what the answers say
+-- what a number of the code is
 abbrev pub numberValue : Number → ℤ
 numberValue (number.Natural n) = pos n
 numberValue (number.Negative n) = negsuc n
 
-abbrev pub saidVariant : ReadVariant → Read ℤ
-saidVariant (rvariant.Got v p) = got (numberValue (v .value)) p
-saidVariant (rvariant.Refused e) = no e
-
-abbrev pub saidSize : ReadSize → Read ℕ
-saidSize (rsize.Got v p) = got (v .value) p
-saidSize (rsize.Refused e) = no e
+abbrev pub saidNumber : ReadNumber → Read ℤ
+saidNumber (rnumber.Got n p) = got (numberValue n) p
+saidNumber (rnumber.Refused e) = no e

@@ -5,12 +5,11 @@ use mathlib.Core.List.{List}
 use lib.Dec.{eqb}
 use Rattle.answer.specs.Answer.{Answer, answered, refused, pick}
 use Rattle.answer.proofs.OneOutcome.{one-of, refusalIn, refusal-back}
-use Rattle.field_text.specs.Texts.{Part}
 use Rattle.field.proofs.OneOutcome.{hear-optional-type}
 use Rattle.field.specs.declared.index.OptTypeIndex.{OptTypeIndex}
-use Rattle.record_layout.specs.Fields.{Value, number, integer, absent, many}
+use Rattle.record_layout.specs.Fields.{number, numeral, absent, many, Shown}
 use Rattle.record_layout.specs.Values.{nth, numberIn, stringIn, optionIn}
-use Rattle.record_layout.proofs.OneOutcome.{type-back}
+use Rattle.record_layout.proofs.OneOutcome.{sizeIn, type-back}
 use Rattle.record_data.specs.Said.{stringValue, classFrom, fieldsFrom, kindValues, typeValues, saidTypeData}
 use Rattle.record_data.specs.declared.ClassKind.{ClassKind}
 use Rattle.record_data.specs.declared.ClassKind.the-variants as kind
@@ -22,10 +21,10 @@ use Rattle.record_data.specs.declared.TypeData.the-variants as type
 use Rattle.record_data.specs.declared.TypeAnswer.{TypeAnswer}
 use Rattle.record_data.specs.declared.TypeAnswer.the-variants as answer
 
-abbrev optIn : Value Part → OptString
+abbrev optIn : Shown → OptString
 optIn (many x) = opt.Some (record { place = x .place; length = x .length })
 optIn (number n) = opt.None
-optIn (integer z) = opt.None
+optIn (numeral z f) = opt.None
 optIn absent = opt.None
 
 opt-back : (t : OptString) → optIn (stringValue t) ≡ t
@@ -35,10 +34,10 @@ opt-back (opt.Some t) = refl
 pub one-name : (r q : OptString) → stringValue r ≡ stringValue q → r ≡ q
 one-name = one-of stringValue optIn opt-back
 
-abbrev typeIn : Value Part → OptTypeIndex
+abbrev typeIn : Shown → OptTypeIndex
 typeIn v = hear-optional-type (optionIn v)
 
-abbrev classIn : ClassKind → List (Value Part) → TypeData
+abbrev classIn : ClassKind → List Shown → TypeData
 classIn k vs = type.Class (record {
   kind = k;
   count = numberIn (nth 1 vs);
@@ -46,12 +45,12 @@ classIn k vs = type.Class (record {
   fields = typeIn (nth 3 vs);
   «derived_from» = typeIn (nth 4 vs);
   «vtable_shape» = typeIn (nth 5 vs);
-  size = record { value = numberIn (nth 6 vs) };
+  size = sizeIn (nth 6 vs);
   name = stringIn (nth 7 vs);
   «unique_name» = optIn (nth 8 vs);
 })
 
-abbrev pub dataIn : List (Value Part) → TypeData
+abbrev pub dataIn : List Shown → TypeData
 dataIn vs =
     let leaf = numberIn (nth 0 vs) in
     let n1 = numberIn (nth 1 vs) in
@@ -71,7 +70,7 @@ dataIn vs =
       «this_adjustment» = numberIn (nth 7 vs);
     }))
     (pick (eqb leaf 0x1205) (type.Bitfield (record { «underlying_type» = record { 0 = n1 }; length = n2; position = n3 }))
-    (pick (eqb leaf 0x1503) (type.Array (record { «element_type» = record { 0 = n1 }; «indexing_type» = record { 0 = n2 }; size = record { value = n3 }; name = stringIn (nth 4 vs) }))
+    (pick (eqb leaf 0x1503) (type.Array (record { «element_type» = record { 0 = n1 }; «indexing_type» = record { 0 = n2 }; size = sizeIn (nth 3 vs); name = stringIn (nth 4 vs) }))
     (pick (eqb leaf 0x1504) (classIn kind.Class vs)
     (pick (eqb leaf 0x1505) (classIn kind.Struct vs)
     (pick (eqb leaf 0x1519) (classIn kind.Interface vs)
@@ -79,7 +78,7 @@ dataIn vs =
       count = n1;
       properties = record { 0 = n2 };
       fields = record { 0 = n3 };
-      size = record { value = n4 };
+      size = sizeIn (nth 4 vs);
       name = stringIn (nth 5 vs);
       «unique_name» = optIn (nth 6 vs);
     }))
@@ -98,7 +97,7 @@ dataIn vs =
       fields = typeIn (nth 3 vs);
       «derived_from» = typeIn (nth 4 vs);
       «vtable_shape» = typeIn (nth 5 vs);
-      size = record { value = numberIn (nth 7 vs) };
+      size = sizeIn (nth 7 vs);
       name = stringIn (nth 8 vs);
       «unique_name» = optIn (nth 9 vs);
     }))
@@ -128,7 +127,7 @@ data-back type.FieldList = refl
 data-back (type.ArgumentList r) = refl
 data-back type.MethodList = refl
 
-abbrev hear-data : Answer (List (Value Part)) → TypeAnswer
+abbrev hear-data : Answer (List Shown) → TypeAnswer
 hear-data (answered vs) = answer.Answered (dataIn vs)
 hear-data (refused n d) = answer.Refused (refusalIn n d)
 

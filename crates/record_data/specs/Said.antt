@@ -6,11 +6,12 @@ use mathlib.Core.Option.{Option, none, some}
 use Rattle.answer.specs.Answer.{Answer, answered, Read, got, ended}
 use Rattle.answer.specs.Refusals.{no}
 use Rattle.answer.specs.Tables.{Line, _is_, find}
-use Rattle.field_text.specs.Texts.{Part, part}
+use Rattle.field_text.specs.Texts.{part}
 use Rattle.field.specs.Indices.{typeOption}
 use Rattle.field.specs.declared.index.ReadOptType.{ReadOptType}
 use Rattle.field.specs.declared.index.ReadOptType.the-variants as rtype
-use Rattle.record_layout.specs.Fields.{Value, number, absent, many, numberOr, orAbsent}
+use Rattle.record_layout.specs.Fields.{number, absent, many, numberOr, orAbsent, Shown}
+use Rattle.record_layout.specs.Values.{sizeValue}
 use Rattle.record_data.specs.declared.ClassKind.{ClassKind}
 use Rattle.record_data.specs.declared.ClassKind.the-variants as kind
 use Rattle.field_text.specs.declared.OptString.{OptString}
@@ -27,26 +28,26 @@ use Rattle.record_data.specs.declared.TypeAnswer.{TypeAnswer}
 use Rattle.record_data.specs.declared.TypeAnswer.the-variants as answer
 
 -- a string that may be absent
-abbrev pub stringValue : OptString → Value Part
+abbrev pub stringValue : OptString → Shown
 stringValue opt.None = absent
 stringValue (opt.Some t) = many (part t)
 
-abbrev pub saidOptString : ReadOptString → Read (Value Part)
+abbrev pub saidOptString : ReadOptString → Read Shown
 saidOptString (ropt.Got t p) = got (stringValue t) p
 saidOptString ropt.Ended = ended
 
 -- a pointer's class that may be absent
-abbrev pub saidContaining : ReadOptType → Read (Value Part)
+abbrev pub saidContaining : ReadOptType → Read Shown
 saidContaining (rtype.Got t p) = got (orAbsent (typeOption t)) p
 saidContaining rtype.Ended = ended
 
 -- count, properties, O, O, O, N, S, and a second S
-abbrev pub classValues : ClassFields → List (Value Part)
+abbrev pub classValues : ClassFields → List Shown
 classValues r =
     number (r .count) ∷ number (r .properties) ∷ orAbsent (typeOption (r .fields)) ∷ orAbsent (typeOption (r .«derived_from»)) ∷ orAbsent (typeOption (r .«vtable_shape»))
-    ∷ number (r .size .value) ∷ many (part (r .name)) ∷ stringValue (r .«unique_name») ∷ []
+    ∷ sizeValue (r .size) ∷ many (part (r .name)) ∷ stringValue (r .«unique_name») ∷ []
 
-abbrev pub saidClassFields : ReadClassFields → Read (List (Value Part))
+abbrev pub saidClassFields : ReadClassFields → Read (List Shown)
 saidClassFields (rclass.Got f p) = got (classValues f) p
 saidClassFields (rclass.Refused e) = no e
 
@@ -76,15 +77,15 @@ fieldsFrom r = record {
 }
 
 -- the leaf of each kind, and its values: 0x1609 has its properties first, in a u32, and its count after the indices
-abbrev pub kindValues : ClassKind → ClassType → List (Value Part)
+abbrev pub kindValues : ClassKind → ClassType → List Shown
 kindValues kind.Class r = number 0x1504 ∷ classValues (fieldsFrom r)
 kindValues kind.Struct r = number 0x1505 ∷ classValues (fieldsFrom r)
 kindValues kind.Interface r = number 0x1519 ∷ classValues (fieldsFrom r)
 kindValues kind.Struct19 r =
     number 0x1609 ∷ number (r .properties .0) ∷ absent ∷ orAbsent (typeOption (r .fields)) ∷ orAbsent (typeOption (r .«derived_from»)) ∷ orAbsent (typeOption (r .«vtable_shape»))
-    ∷ number (r .count) ∷ number (r .size .value) ∷ many (part (r .name)) ∷ stringValue (r .«unique_name») ∷ []
+    ∷ number (r .count) ∷ sizeValue (r .size) ∷ many (part (r .name)) ∷ stringValue (r .«unique_name») ∷ []
 
-abbrev pub typeValues : TypeData → List (Value Part)
+abbrev pub typeValues : TypeData → List Shown
 typeValues (type.Class r) = kindValues (r .kind) r
 typeValues (type.MemberFunction r) =
     number 0x1009 ∷ number (r .«return_type» .0) ∷ number (r .«class_type» .0) ∷ orAbsent (typeOption (r .«this_pointer_type»)) ∷ number (r .attributes .0)
@@ -95,16 +96,16 @@ typeValues (type.Pointer r) = number 0x1002 ∷ number (r .«underlying_type» .
 typeValues (type.Modifier r) = number 0x1001 ∷ number (r .«underlying_type» .0) ∷ number (r .flags .0) ∷ []
 typeValues (type.Enumeration r) =
     number 0x1507 ∷ number (r .count) ∷ number (r .properties .0) ∷ number (r .«underlying_type» .0) ∷ number (r .fields .0) ∷ many (part (r .name)) ∷ stringValue (r .«unique_name») ∷ []
-typeValues (type.Array r) = number 0x1503 ∷ number (r .«element_type» .0) ∷ number (r .«indexing_type» .0) ∷ number (r .size .value) ∷ many (part (r .name)) ∷ []
+typeValues (type.Array r) = number 0x1503 ∷ number (r .«element_type» .0) ∷ number (r .«indexing_type» .0) ∷ sizeValue (r .size) ∷ many (part (r .name)) ∷ []
 typeValues (type.Union r) =
-    number 0x1506 ∷ number (r .count) ∷ number (r .properties .0) ∷ number (r .fields .0) ∷ number (r .size .value) ∷ many (part (r .name)) ∷ stringValue (r .«unique_name») ∷ []
+    number 0x1506 ∷ number (r .count) ∷ number (r .properties .0) ∷ number (r .fields .0) ∷ sizeValue (r .size) ∷ many (part (r .name)) ∷ stringValue (r .«unique_name») ∷ []
 typeValues (type.Bitfield r) = number 0x1205 ∷ number (r .«underlying_type» .0) ∷ number (r .length) ∷ number (r .position) ∷ []
 typeValues (type.VirtualTableShape r) = number 0x000a ∷ number (r .count) ∷ many (record { place = r .place; length = (r .count + 1) / 2 }) ∷ []
 typeValues type.FieldList = number 0x1203 ∷ absent ∷ []
 typeValues (type.ArgumentList r) = number 0x1201 ∷ number (r .count) ∷ many (record { place = r .place; length = 4 * r .count }) ∷ []
 typeValues type.MethodList = number 0x1206 ∷ absent ∷ []
 
-abbrev pub saidTypeData : TypeAnswer → Answer (List (Value Part))
+abbrev pub saidTypeData : TypeAnswer → Answer (List Shown)
 saidTypeData (answer.Answered d) = answered (typeValues d)
 saidTypeData (answer.Refused e) = no e
 
@@ -116,16 +117,16 @@ unfoldable pub namePlaces : List (Line ℕ)
 namePlaces = (0x1504 is 6) ∷ (0x1505 is 6) ∷ (0x1519 is 6) ∷ (0x1506 is 4) ∷ (0x1507 is 4) ∷ (0x1609 is 7) ∷ []
 
 -- the value at place k of a layout
-unfoldable pub valueAt : ℕ → List (Value Part) → Value Part
+unfoldable pub valueAt : ℕ → List Shown → Shown
 valueAt k [] = absent
 valueAt zero (v ∷ vs) = v
 valueAt (suc k) (v ∷ vs) = valueAt k vs
 
-abbrev pub nameBy : Option ℕ → List (Value Part) → Value Part
+abbrev pub nameBy : Option ℕ → List Shown → Shown
 nameBy none vs = absent
 nameBy (some k) vs = valueAt k vs
 
 -- the name of a type, by the leaf that its values begin with
-unfoldable pub typeName : List (Value Part) → Value Part
+unfoldable pub typeName : List Shown → Shown
 typeName [] = absent
 typeName (leaf ∷ vs) = nameBy (find (numberOr leaf 0) namePlaces) vs

@@ -5,9 +5,8 @@ use mathlib.Core.List.{List}
 use lib.Dec.{eqb}
 use Rattle.answer.specs.Answer.{Answer, answered, refused, pick}
 use Rattle.answer.proofs.OneOutcome.{one-of, refusalIn, refusal-back}
-use Rattle.field_text.specs.Texts.{Part}
 use Rattle.field.proofs.OneOutcome.{hear-optional-id}
-use Rattle.record_layout.specs.Fields.{Value}
+use Rattle.record_layout.specs.Fields.{Shown}
 use Rattle.record_layout.specs.Values.{nth, numberIn, stringIn, optionIn}
 use Rattle.record_layout.proofs.OneOutcome.{id-back}
 use Rattle.record_id.specs.Said.{sourceValues, idValues, saidIdData}
@@ -19,7 +18,7 @@ use Rattle.record_id.specs.declared.IdData.the-variants as id
 use Rattle.record_id.specs.declared.IdAnswer.{IdAnswer}
 use Rattle.record_id.specs.declared.IdAnswer.the-variants as answer
 
-abbrev pub idIn : List (Value Part) → IdData
+abbrev pub idIn : List Shown → IdData
 idIn vs =
     let leaf = numberIn (nth 0 vs) in
     let n1 = numberIn (nth 1 vs) in
@@ -45,7 +44,7 @@ id-data-back (id.StringList r) = refl
 id-data-back (id.String r) = rw (id-back (r .substrings))
 id-data-back (id.UserDefinedTypeSource r) = source-back (r .udt .0) (r .«source_file») (r .line)
 
-abbrev hear-id : Answer (List (Value Part)) → IdAnswer
+abbrev hear-id : Answer (List Shown) → IdAnswer
 hear-id (answered vs) = answer.Answered (idIn vs)
 hear-id (refused n d) = answer.Refused (refusalIn n d)
 

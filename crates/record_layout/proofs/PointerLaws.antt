@@ -7,9 +7,8 @@ use mathlib.Core.List.{List, [], _∷_}
 use Rattle.answer.specs.Answer.{Answer, answered, refused, Got, Read, both}
 use Rattle.answer.specs.Tables.{find}
 use Rattle.field.specs.Fields.{fixedAt}
-use Rattle.field_text.specs.Texts.{Part}
 use Rattle.word_attributes.specs.Pointers.{kindOf, modeOf}
-use Rattle.record_layout.specs.Fields.{Value, readField, readFields}
+use Rattle.record_layout.specs.Fields.{Shown, readField, readFieldBy, readFieldsBy}
 use Rattle.record_layout.specs.Values.{nth, numberIn}
 use Rattle.record_layout.specs.Layouts.{isAnswered, memberO, typeLeaves, readLeaf, leafOf}
 
@@ -17,23 +16,23 @@ use Rattle.record_layout.specs.Layouts.{isAnswered, memberO, typeLeaves,
 abbrev pub Good : ℕ → Type 0
 Good w = both (isAnswered (kindOf w)) (isAnswered (modeOf w)) ≡ true
 
-abbrev flag : Answer (List (Value Part)) → ℕ
+abbrev flag : Answer (List Shown) → ℕ
 flag (answered vs) = 1
 flag (refused n d) = 0
 
-abbrev word-in : Answer (List (Value Part)) → ℕ
+abbrev word-in : Answer (List Shown) → ℕ
 word-in (answered vs) = numberIn (nth 2 vs)
 word-in (refused n d) = 0
 
-never : {X : Type 0} (n : ℕ) (d : List ℕ) (vs : List (Value Part)) → refused n d ≡ answered vs → X
+never : {X : Type 0} (n : ℕ) (d : List ℕ) (vs : List Shown) → refused n d ≡ answered vs → X
 never n d vs e = let z : _≡_ {A = ℕ} 0 1 = ap flag e in absurd (omega arith)
 
-pub pointer-answered : (s : List ℕ) (p : ℕ) (vs : List (Value Part)) → leafOf typeLeaves 0x1002 s p ≡ answered vs → Good (numberIn (nth 2 vs))
-unfolding leafOf readLeaf find typeLeaves readFields readField
+pub pointer-answered : (s : List ℕ) (p : ℕ) (vs : List Shown) → leafOf typeLeaves 0x1002 s p ≡ answered vs → Good (numberIn (nth 2 vs))
+unfolding leafOf readLeaf find typeLeaves readFieldsBy readFieldBy
 pointer-answered s p vs e = type-read (fixedAt 4 s p) refl
   where
     class-read : (t w : Got ℕ) → fixedAt 4 s p ≡ answered t → fixedAt 4 s (t .next) ≡ answered w → Good (w .value)
-        → (a : Read (Value Part)) → readField memberO (w .value) s (w .next) ≡ a → Good (numberIn (nth 2 vs))
+        → (a : Read Shown) → readField memberO (w .value) s (w .next) ≡ a → Good (numberIn (nth 2 vs))
     class-read t w ht hw good (answered g) h = subst Good (ap word-in (rw (ht, hw, good, h) at e)) good
     class-read t w ht hw good (refused n d) h = never n d vs (rw (ht, hw, good, h) at e)
 

@@ -6,11 +6,10 @@ use mathlib.Core.Option.{Option, none, some}
 use Rattle.answer.specs.Answer.{Answer, answered, refused, Read, Got, got, both, then, and-then}
 use Rattle.answer.specs.Tables.{Line, _is_, find}
 use Rattle.field.specs.Fields.{fixedAt}
-use Rattle.field_text.specs.Texts.{Part}
 use Rattle.word_attributes.specs.Bits.{bit}
 use Rattle.word_attributes.specs.Words.{introducing}
 use Rattle.word_attributes.specs.Pointers.{kindOf, modeOf, toMemberOf}
-use Rattle.record_layout.specs.Fields.{Value, number, Field, fixed, type, id, stringReference, optionalType, optionalId, word, gap, numeric, size, string, run, types, ids, slots, methods, members, when, readFields}
+use Rattle.record_layout.specs.Fields.{Shown, number, Field, fixed, type, id, stringReference, optionalType, optionalId, word, gap, numeric, size, string, run, types, ids, slots, methods, members, when, readFields}
 
 -- 01's names of fields --------------------------------------------------------------------------------------------------------
 
@@ -158,22 +157,22 @@ idLeaves =
 
 -- Reading by a table ---------------------------------------------------------------------------------------------------------
 
-abbrev pub byLayout : Option Layout → ℕ → List ℕ → ℕ → Read (List (Value Part))
+abbrev pub byLayout : Option Layout → ℕ → List ℕ → ℕ → Read (List Shown)
 byLayout none leaf s p = refused 10 (leaf ∷ [])
 byLayout (some fs) leaf s p = and-then (readFields fs 0 s p) (λ vs e. got (number leaf ∷ vs) e)
 
 -- the record of this leaf whose fields stand at p: the leaf and the values of its fields; 10 if the table does not have the leaf
-unfoldable pub readLeaf : Table → ℕ → List ℕ → ℕ → Read (List (Value Part))
+unfoldable pub readLeaf : Table → ℕ → List ℕ → ℕ → Read (List Shown)
 readLeaf table leaf s p = byLayout (find leaf table) leaf s p
 
 -- the record at p, its leaf read first
-unfoldable pub readRecord : Table → List ℕ → ℕ → Read (List (Value Part))
+unfoldable pub readRecord : Table → List ℕ → ℕ → Read (List Shown)
 readRecord table s p = and-then (fixedAt 2 s p) (λ leaf q. readLeaf table leaf s q)
 
 -- the same without the place after it, which a whole record has no use for
-unfoldable pub leafOf : Table → ℕ → List ℕ → ℕ → Answer (List (Value Part))
+unfoldable pub leafOf : Table → ℕ → List ℕ → ℕ → Answer (List Shown)
 leafOf table leaf s p = and-then (readLeaf table leaf s p) (λ vs e. answered vs)
 
 -- the record that these bytes are
-unfoldable pub recordOf : Table → List ℕ → Answer (List (Value Part))
+unfoldable pub recordOf : Table → List ℕ → Answer (List Shown)
 recordOf table s = and-then (fixedAt 2 s 0) (λ leaf p. leafOf table leaf s p)

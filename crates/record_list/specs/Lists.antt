@@ -8,10 +8,10 @@ use lib.Dec.{leb, eqb}
 use Rattle.answer.specs.Answer.{Answer, answered, refused, pick, stop, then, and-then}
 use Rattle.answer.specs.Tables.{find}
 use Rattle.field.specs.Fields.{fixedAt}
-use Rattle.field_text.specs.Texts.{Part, paddingAfter}
+use Rattle.field_text.specs.Texts.{paddingAfter}
 use Rattle.stream_item.specs.declared.Stream.{Stream}
 use Rattle.stream_item.specs.declared.Stream.the-variants as stream
-use Rattle.record_layout.specs.Fields.{Value, Field, id, readFields}
+use Rattle.record_layout.specs.Fields.{Field, id, readFields, Shown}
 use Rattle.record_layout.specs.Values.{nth, numberIn, stringIn}
 use Rattle.record_layout.specs.Layouts.{T, Layout, Table, typeLeaves, idLeaves, memberLeaves, method, readRecord}
 use Rattle.record_member.specs.Said.{leafIn}
@@ -19,7 +19,7 @@ use Rattle.record_list.specs.declared.ListCursor.{ListCursor}
 
 -- an element: a type index, an id index, a method of 0x1206 or a member of 0x1203, with the values of its layout, for a member its leaf first
 pub data ElementValues : Type 0 where
-  typeElement idElement methodElement memberElement : List (Value Part) → ElementValues
+  typeElement idElement methodElement memberElement : List Shown → ElementValues
 
 -- an element, and the cursor for the next one
 pub record Step : Type 0 where
@@ -82,7 +82,7 @@ startOf stream.Ids s = startIds s
 -- One element -------------------------------------------------------------------------------------------------------------------
 
 -- a field each, so many as are left
-unfoldable pub countedStep : Field → (List (Value Part) → ElementValues) → ℕ → List ℕ → ℕ → ℕ → Answer Step
+unfoldable pub countedStep : Field → (List Shown → ElementValues) → ℕ → List ℕ → ℕ → ℕ → Answer Step
 countedStep f element leaf s p left =
     stop (eqb left 0) 15
     (and-then (readFields (f ∷ []) 0 s p) (λ vs e.
@@ -96,7 +96,7 @@ methodStep s p =
     stepTo (methodElement vs) (toTheEnd 0x1206 e)))
 
 -- 0x1404 is an element that ends the list
-abbrev pub leftAfter : List (Value Part) → ℕ
+abbrev pub leftAfter : List Shown → ℕ
 leftAfter vs = pick (eqb (leafIn vs) 0x1404) 0 1
 
 -- 0x1203 to the end

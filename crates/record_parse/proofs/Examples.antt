@@ -11,7 +11,7 @@ use Rattle.word_primitive.specs.Kinds.{kinds, indirections}
 use Rattle.word_primitive.specs.declared.PrimitiveKind.the-variants.{I32}
 use Rattle.word_primitive.specs.declared.Indirection.the-variants.{Near64}
 use Rattle.word_attributes.specs.Pointers.{pointerKinds, pointerModes, kindOf, modeOf, toMemberOf}
-use Rattle.record_layout.specs.Fields.{number, absent, readField, readFields}
+use Rattle.record_layout.specs.Fields.{number, absent, readFieldBy, readFieldsBy}
 use Rattle.record_layout.specs.Layouts.{typeLeaves, readLeaf, leafOf, recordOf}
 use Rattle.stream_item.specs.declared.ItemIndex.the-variants as index
 use Rattle.stream_item.specs.declared.Entry.the-variants as entry
@@ -20,7 +20,7 @@ use Rattle.record_parse.specs.Record.{primitive, type, typeBytes, typeIt
 -- record 4097 of E, payload 68 to 78: a 64-bit pointer to 4096
 pub parses-4097 : parseOf streamE [] (entry.Record (record { index = index.Types (record { 0 = 4097 }); place = 68; length = 10 }))
     ≡ answered (type (number 0x1002 ∷ number 0x1000 ∷ number 0x0001000c ∷ absent ∷ []))
-unfolding parseOf typeItem typeBytes recordOf leafOf readLeaf littleAt fixedAt find readField readFields typeLeaves kindOf modeOf toMemberOf pointerKinds pointerModes
+unfolding parseOf typeItem typeBytes recordOf leafOf readLeaf littleAt fixedAt find readFieldBy readFieldsBy typeLeaves kindOf modeOf toMemberOf pointerKinds pointerModes
 parses-4097 = refl
 
 -- a type item below 0x1000 is a primitive, wherever it is said to lie

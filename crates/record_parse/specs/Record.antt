@@ -5,10 +5,9 @@ use lib.ListN.{length, take, drop}
 use lib.Dec.{ltb}
 use Rattle.answer.specs.Answer.{Answer, answered, refused, pick, stop, then}
 use Rattle.answer.specs.Refusals.{no}
-use Rattle.field_text.specs.Texts.{Part}
 use Rattle.word_primitive.specs.Primitive.{primitiveOf}
 use Rattle.word_primitive.specs.declared.PrimitiveType.{PrimitiveType}
-use Rattle.record_layout.specs.Fields.{Value}
+use Rattle.record_layout.specs.Fields.{Shown}
 use Rattle.record_layout.specs.Layouts.{recordOf, typeLeaves, idLeaves}
 use Rattle.record_data.specs.Said.{typeValues}
 use Rattle.record_id.specs.Said.{idValues}
@@ -23,8 +22,8 @@ use Rattle.record_parse.specs.declared.ParseAnswer.the-variants as parse
 -- a primitive, or the leaf and the values of a type record or of an id record
 pub data Parsed : Type 0 where
   primitive : PrimitiveType → Parsed
-  type : List (Value Part) → Parsed
-  id : List (Value Part) → Parsed
+  type : List Shown → Parsed
+  id : List Shown → Parsed
 
 -- n bytes of s from place p
 abbrev pub bytes : List ℕ → ℕ → ℕ → List ℕ

@@ -16,7 +16,7 @@ enum Onward {
 
 fn data_line<'a>(tpi: &'a [u8], ipi: &'a [u8], e: Entry) {
     lines::put(b"  ");
-    record_lines::entry(tpi, ipi, e, stream_view::bytes_of(tpi, ipi, e));
+    record_lines::entry(tpi, ipi, e, stream_view::bytes_of(tpi, ipi, e), false);
 }
 
 // A record's line, and under it its data if they are asked for.
@@ -89,17 +89,17 @@ pub fn walk_ids(s: &[u8], data: bool) {
     );
 }
 
-// An item of this index whose bytes are all of s.
-pub fn alone(s: &[u8], ids: bool, n: u32) {
+// An item of this index whose bytes are all of s; w is whether the forms of its numeric leaves are shown.
+pub fn alone(s: &[u8], ids: bool, n: u32, w: bool) {
     let i = Item {
         index: stream_lines::index_in(ids, n),
         place: 0,
         length: s.len(),
     };
     if ids {
-        record_lines::entry(&s[0..0], s, Entry::Record(i), s);
+        record_lines::entry(&s[0..0], s, Entry::Record(i), s, w);
     } else {
-        record_lines::entry(s, &s[0..0], Entry::Record(i), s);
+        record_lines::entry(s, &s[0..0], Entry::Record(i), s, w);
     }
 }
 
@@ -107,5 +107,5 @@ pub fn alone(s: &[u8], ids: bool, n: u32) {
 pub fn marker(none: &[u8], ids: bool, n: u32) {
     let e = Entry::Marker(stream_lines::index_in(ids, n));
     stream_lines::marker(none, e);
-    record_lines::entry(none, none, e, none);
+    record_lines::entry(none, none, e, none, false);
 }

@@ -35,13 +35,14 @@ pub fn number(n: u64) {
 //   #   a number
 //   ?   a number, or `-` for NONE
 //   @   two numbers as place+length, or `-` where the place is NONE
+//   &   a numeric leaf: its number, and its form: see `form_number`
 //   ~   the bits of an i32
 //   !   a number, or `r` and the refusal's number: see `refused`
 //   %   a leaf in hex
 
 fn is_mark(code: u8) -> bool {
     if code < 64 {
-        return code == 35 || code == 63 || code == 33 || code == 37;
+        return code == 35 || code == 63 || code == 33 || code == 37 || code == 38;
     }
     code == 64 || code == 126
 }
@@ -81,6 +82,31 @@ pub fn part(place: u64, length: u64) {
     }
 }
 
+// The form of a numeric leaf as a number of a form: 0 where it is not asked for, else twice its width, and 1 more if a shorter form existed.
+pub fn form_number(asked: bool, width: u8, shorter: bool) -> u64 {
+    if !asked {
+        return 0;
+    }
+    if shorter {
+        return (width as u64) * 2 + 1;
+    }
+    (width as u64) * 2
+}
+
+pub fn put_form(form: u64) {
+    if form != 0 {
+        put(b"/");
+        number(form / 2);
+        put(b"/");
+        number(form % 2);
+    }
+}
+
+fn numeral(n: u64, form: u64) {
+    number(n);
+    put_form(form);
+}
+
 fn by_bits(n: u64) {
     if n < 2147483648 {
         number(n);
@@ -111,6 +137,7 @@ fn mark(code: u8, a: u64, b: u64) {
         35 => number(a),
         63 => optional(a),
         64 => part(a, b),
+        38 => numeral(a, b),
         126 => by_bits(a),
         33 => or_refused(a),
         _ => leaf(a),
@@ -127,6 +154,9 @@ fn past_mark(code: u8, k: usize) -> usize {
         return k;
     }
     if code == 64 {
+        return k + 2;
+    }
+    if code == 38 {
         return k + 2;
     }
     k + 1

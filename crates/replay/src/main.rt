@@ -33,12 +33,12 @@ fn on_bytes(command: u8, s: &[u8]) {
         1 => items::walk(s, false),
         2 => items::walk(s, true),
         3 => items::walk_ids(s, true),
-        4 => items::alone(s, false, 4096),
-        5 => items::alone(s, true, 4096),
+        4 => items::alone(s, false, 4096, false),
+        5 => items::alone(s, true, 4096, false),
         6 => stream_lines::raw_kind(s),
         7 => numbers::padding(s),
-        8 => numbers::unsigned(s),
-        _ => numbers::signed(s),
+        8 => numbers::unsigned(s, false),
+        _ => numbers::signed(s, false),
     }
 }
 
@@ -56,10 +56,10 @@ fn on_numbers(command: u8, n: &[u64; 8]) {
 // A number and bytes.
 fn on_number_and_bytes(command: u8, n: u64, s: &[u8]) {
     match command {
-        15 => items::alone(s, false, input::low32(n)),
-        16 => items::alone(s, true, input::low32(n)),
+        15 => items::alone(s, false, input::low32(n), false),
+        16 => items::alone(s, true, input::low32(n), false),
         17 => numbers::string((n % 65536) as u16, s),
-        18 => record_lines::nth(s, input::low32(n)),
+        18 => record_lines::nth(s, input::low32(n), false),
         _ => record_lines::nth_id(s, input::low32(n)),
     }
 }
@@ -126,6 +126,16 @@ fn on_shifts(command: u8, s: &[u8], t: &mut [u32], held: usize, n: &[u64; 8]) {
         35 => update(t, held, finder_by(shift, n[1], n[2], n[3]), n[4], n[5]),
         36 => find_lent(s, t, held, finder_by(shift, n[1], n[2], n[3]), n[4]),
         _ => stream_lines::max_index(finder_by(shift, n[1], n[2], n[3])),
+    }
+}
+
+// Commands that show the forms of numeric leaves.
+fn with_forms(command: u8, s: &[u8], n: &[u64; 8]) {
+    match command {
+        39 => numbers::unsigned(s, true),
+        40 => numbers::signed(s, true),
+        41 => items::alone(s, false, 4096, true),
+        _ => record_lines::nth(s, input::low32(n[0]), true),
     }
 }
 
@@ -230,7 +240,8 @@ fn name_of(letters: &[u8; 16], n: usize) -> Name {
           itemtype:na itemid:na string:na element:na idelement:na \
           next:ann create:at update:nnntnn findin:annntn view:abwnn marker:wn find:aun findids:aun \
           count:a cross:n item:wnnn name:a membername:na idat:na \
-          createby:nat updateby:nnnntnn findinby:nannntn maxindexby:nnnn findby:naun ",
+          createby:nat updateby:nnnntnn findinby:nannntn maxindexby:nnnn findby:naun \
+          wunsigned:a wsigned:a wtype:a welement:na ",
     )
 }
 
@@ -268,7 +279,11 @@ fn carry_out<'a>(
         on_shifts(command, tpi, places, a.places, n);
         return a.input;
     }
-    find_by(buffer, a.input, tpi, places, n)
+    if command == 38 {
+        return find_by(buffer, a.input, tpi, places, n);
+    }
+    with_forms(command, tpi, n);
+    a.input
 }
 
 // A command that has a name, and the input behind its words. Where its bytes are not good, that is its answer.

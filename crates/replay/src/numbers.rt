@@ -82,20 +82,31 @@ pub fn padding(s: &[u8]) {
     }
 }
 
-pub fn unsigned(s: &[u8]) {
+// Numeric leaves; w is whether their forms are shown.
+
+pub fn unsigned(s: &[u8], w: bool) {
     match field_number::size_at(s, 0) {
-        ReadSize::Got(n, q) => lines::form2(b"0 # next=#", &[n.value, q as u64]),
+        ReadSize::Got(n, q) => lines::form4(
+            b"0 & next=#",
+            &[
+                n.value,
+                lines::form_number(w, n.width, n.shorter),
+                q as u64,
+                0,
+            ],
+        ),
         ReadSize::Refused(e) => lines::refusal(e),
     }
     lines::put(b"\n");
 }
 
-pub fn signed(s: &[u8]) {
+pub fn signed(s: &[u8], w: bool) {
     match field_number::number_at(s, 0) {
         ReadVariant::Got(v, q) => {
             let value = v.value;
             lines::put(b"0 ");
             lines::integer(value);
+            lines::put_form(lines::form_number(w, v.width, v.shorter));
             lines::field(b" next=", q as u64);
         }
         ReadVariant::Refused(e) => lines::refusal(e),

@@ -3,6 +3,7 @@
 use crate::lines;
 use answer::Refusal;
 use field::index::TypeIndex;
+use field_number::Size;
 use field_text::OptString;
 use field_text::RawString;
 use record_data::ArrayType;
@@ -61,6 +62,11 @@ fn length(t: OptString) -> u64 {
     }
 }
 
+// The form of a numeric leaf, as a form takes it; w is whether it is asked for.
+fn form(n: Size, w: bool) -> u64 {
+    lines::form_number(w, n.width, n.shorter)
+}
+
 // Type records.
 
 fn class_head(k: ClassKind) {
@@ -72,7 +78,7 @@ fn class_head(k: ClassKind) {
     }
 }
 
-fn class(r: ClassType) {
+fn class(r: ClassType, w: bool) {
     let kind = r.kind;
     let fields = r.fields;
     let derived_from = r.derived_from;
@@ -81,7 +87,7 @@ fn class(r: ClassType) {
     let unique_name = r.unique_name;
     class_head(kind);
     lines::form16(
-        b" count=# props=# fields=? derived=? shape=? size=# name=@ unique=@",
+        b" count=# props=# fields=? derived=? shape=? size=& name=@ unique=@",
         &[
             r.count as u64,
             r.properties.0 as u64,
@@ -89,11 +95,11 @@ fn class(r: ClassType) {
             lines::type_number(derived_from),
             lines::type_number(vtable_shape),
             r.size.value,
+            form(r.size, w),
             name.place as u64,
             name.length as u64,
             place(unique_name),
             length(unique_name),
-            0,
             0,
             0,
             0,
@@ -177,35 +183,43 @@ fn enumeration(r: EnumerationType) {
     );
 }
 
-fn union(r: UnionType) {
+fn union(r: UnionType, w: bool) {
     let name = r.name;
     let unique_name = r.unique_name;
-    lines::form8(
-        b"0 1506 count=# props=# fields=# size=# name=@ unique=@",
+    lines::form16(
+        b"0 1506 count=# props=# fields=# size=& name=@ unique=@",
         &[
             r.count as u64,
             r.properties.0 as u64,
             r.fields.0 as u64,
             r.size.value,
+            form(r.size, w),
             name.place as u64,
             name.length as u64,
             place(unique_name),
             length(unique_name),
+            0,
+            0,
+            0,
+            0,
+            0,
+            0,
+            0,
         ],
     );
 }
 
-fn array(r: ArrayType) {
+fn array(r: ArrayType, w: bool) {
     let name = r.name;
     lines::form8(
-        b"0 1503 elem=# idx=# size=# name=@",
+        b"0 1503 elem=# idx=# size=& name=@",
         &[
             r.element_type.0 as u64,
             r.indexing_type.0 as u64,
             r.size.value,
+            form(r.size, w),
             name.place as u64,
             name.length as u64,
-            0,
             0,
             0,
         ],
@@ -240,10 +254,10 @@ fn counted(leaf: u64, count: u32) {
     lines::form2(b"0 % count=#", &[leaf, count as u64]);
 }
 
-fn other_fields(d: TypeData) {
+fn other_fields(d: TypeData, w: bool) {
     match d {
-        TypeData::Array(r) => array(r),
-        TypeData::Union(r) => union(r),
+        TypeData::Array(r) => array(r, w),
+        TypeData::Union(r) => union(r, w),
         TypeData::Bitfield(r) => bitfield(r),
         TypeData::VirtualTableShape(r) => table_shape(r),
         TypeData::FieldList => head(0x1203),
@@ -253,15 +267,15 @@ fn other_fields(d: TypeData) {
 }
 
 // A type record's line, without its elements. Two matches of half the cases are proved in less time than one.
-fn type_fields(d: TypeData) {
+fn type_fields(d: TypeData, w: bool) {
     match d {
-        TypeData::Class(r) => class(r),
+        TypeData::Class(r) => class(r, w),
         TypeData::MemberFunction(r) => member_function(r),
         TypeData::Procedure(r) => procedure(r),
         TypeData::Pointer(r) => pointer(r),
         TypeData::Modifier(r) => modifier(r),
         TypeData::Enumeration(r) => enumeration(r),
-        _ => other_fields(d),
+        _ => other_fields(d, w),
     }
 }
 
@@ -274,14 +288,14 @@ fn offset(t: OptOffset) -> u64 {
     }
 }
 
-fn base_class(r: BaseClassType) {
+fn base_class(r: BaseClassType, w: bool) {
     lines::form4(
-        b"1400 a=# t=# off=#",
+        b"1400 a=# t=# off=&",
         &[
             r.attributes.0 as u64,
             r.base_class.0 as u64,
             r.offset.value,
-            0,
+            form(r.offset, w),
         ],
     );
 }
@@ -294,44 +308,45 @@ fn virtual_leaf(direct: bool) {
     }
 }
 
-fn virtual_base_class(r: VirtualBaseClassType) {
+fn virtual_base_class(r: VirtualBaseClassType, w: bool) {
     virtual_leaf(r.direct);
     lines::form8(
-        b" a=# t=# p=# off=# voff=#",
+        b" a=# t=# p=# off=& voff=&",
         &[
             r.attributes.0 as u64,
             r.base_class.0 as u64,
             r.base_pointer.0 as u64,
             r.base_pointer_offset.value,
+            form(r.base_pointer_offset, w),
             r.virtual_base_offset.value,
-            0,
-            0,
+            form(r.virtual_base_offset, w),
             0,
         ],
     );
 }
 
-fn enumerate(r: EnumerateType) {
+fn enumerate(r: EnumerateType, w: bool) {
     let held = r.value;
     let value = held.value;
     let name = r.name;
     lines::field(b"1502 a=", r.attributes.0 as u64);
     lines::put(b" v=");
     lines::integer(value);
+    lines::put_form(lines::form_number(w, held.width, held.shorter));
     lines::form2(b" name=@", &[name.place as u64, name.length as u64]);
 }
 
-fn data_member(r: MemberType) {
+fn data_member(r: MemberType, w: bool) {
     let name = r.name;
     lines::form8(
-        b"150d a=# t=# off=# name=@",
+        b"150d a=# t=# off=& name=@",
         &[
             r.attributes.0 as u64,
             r.field_type.0 as u64,
             r.offset.value,
+            form(r.offset, w),
             name.place as u64,
             name.length as u64,
-            0,
             0,
             0,
         ],
@@ -407,12 +422,12 @@ fn other_member(m: Member) {
     }
 }
 
-fn member(m: Member) {
+fn member(m: Member, w: bool) {
     match m {
-        Member::BaseClass(r) => base_class(r),
-        Member::VirtualBaseClass(r) => virtual_base_class(r),
-        Member::Enumerate(r) => enumerate(r),
-        Member::Member(r) => data_member(r),
+        Member::BaseClass(r) => base_class(r, w),
+        Member::VirtualBaseClass(r) => virtual_base_class(r, w),
+        Member::Enumerate(r) => enumerate(r, w),
+        Member::Member(r) => data_member(r, w),
         Member::Method(r) => single_method(r),
         _ => other_member(m),
     }
@@ -431,12 +446,12 @@ fn method(r: MethodListEntry) {
     );
 }
 
-fn element(e: Element) {
+fn element(e: Element, w: bool) {
     match e {
         Element::Type(t) => lines::number(t.0 as u64),
         Element::Id(i) => lines::number(i.0 as u64),
         Element::Method(r) => method(r),
-        Element::Member(m) => member(m),
+        Element::Member(m) => member(m, w),
     }
 }
 
@@ -455,10 +470,10 @@ fn list_end(e: Refusal) {
 
 // Type indices are read by `step`, the elements of other lists by steps of a reader in place: each is tried.
 
-fn list_next(s: &[u8], c: ListCursor) -> Onward {
+fn list_next(s: &[u8], c: ListCursor, w: bool) -> Onward {
     match record_list::step(s, c) {
         StepAnswer::Answered(e, behind) => {
-            element(e);
+            element(e, w);
             Onward::To(behind)
         }
         StepAnswer::Refused(e) => {
@@ -468,13 +483,13 @@ fn list_next(s: &[u8], c: ListCursor) -> Onward {
     }
 }
 
-fn list_step(s: &[u8], c: ListCursor) -> Onward {
+fn list_step(s: &[u8], c: ListCursor, w: bool) -> Onward {
     let t = record_reader::step_of(s, c);
     let behind = t.cursor;
     let answer = t.answer;
     match answer {
         ElementAnswer::Answered(e) => {
-            element(e);
+            element(e, w);
             Onward::To(behind)
         }
         ElementAnswer::Refused(e) => {
@@ -484,24 +499,24 @@ fn list_step(s: &[u8], c: ListCursor) -> Onward {
     }
 }
 
-fn list_turn(s: &[u8], c: ListCursor) -> Onward {
+fn list_turn(s: &[u8], c: ListCursor, w: bool) -> Onward {
     lines::put(b" ; ");
     if c.leaf == LF_ARGLIST {
-        return list_next(s, c);
+        return list_next(s, c, w);
     }
     if c.leaf == LF_SUBSTR_LIST {
-        return list_next(s, c);
+        return list_next(s, c, w);
     }
-    list_step(s, c)
+    list_step(s, c, w)
 }
 
 // Each element takes two bytes at least, so that 65,536 bytes end before the turns do.
-fn list_walk(s: &[u8], from: ListCursor) {
+fn list_walk(s: &[u8], from: ListCursor, w: bool) {
     let mut c = from;
     let mut turns: u32 = 65536;
     while 0 < turns {
         turns -= 1;
-        let t = list_turn(s, c);
+        let t = list_turn(s, c, w);
         let Onward::To(behind) = t else {
             return;
         };
@@ -509,9 +524,9 @@ fn list_walk(s: &[u8], from: ListCursor) {
     }
 }
 
-fn elements(stream: Stream, s: &[u8]) {
+fn elements(stream: Stream, s: &[u8], w: bool) {
     match record_list::start(stream, s) {
-        StartAnswer::Answered(c) => list_walk(s, c),
+        StartAnswer::Answered(c) => list_walk(s, c, w),
         StartAnswer::Refused(_) => {}
     }
 }
@@ -595,14 +610,14 @@ enum Lists {
     Ids,
 }
 
-fn fields(a: ParseAnswer) -> Lists {
+fn fields(a: ParseAnswer, w: bool) -> Lists {
     match a {
         ParseAnswer::Primitive(p) => {
             lines::primitive(p);
             Lists::None
         }
         ParseAnswer::Type(d) => {
-            type_fields(d);
+            type_fields(d, w);
             Lists::Types
         }
         ParseAnswer::Id(d) => {
@@ -616,33 +631,33 @@ fn fields(a: ParseAnswer) -> Lists {
     }
 }
 
-// The line of an entry whose record is the bytes s.
-pub fn entry(tpi: &[u8], ipi: &[u8], e: Entry, s: &[u8]) {
-    match fields(record_parse::parse(tpi, ipi, e)) {
+// The line of an entry whose record is the bytes s; w is whether the forms of its numeric leaves are shown.
+pub fn entry(tpi: &[u8], ipi: &[u8], e: Entry, s: &[u8], w: bool) {
+    match fields(record_parse::parse(tpi, ipi, e), w) {
         Lists::None => {}
-        Lists::Types => elements(Stream::Types, s),
-        Lists::Ids => elements(Stream::Ids, s),
+        Lists::Types => elements(Stream::Types, s, w),
+        Lists::Ids => elements(Stream::Ids, s, w),
     }
     lines::put(b"\n");
 }
 
 // One element by its number.
 
-fn nth_in(stream: Stream, s: &[u8], k: u32) {
+fn nth_in(stream: Stream, s: &[u8], k: u32, w: bool) {
     match record_reader::nth(stream, s, k) {
         ElementAnswer::Answered(e) => {
             lines::put(b"0 ");
-            element(e);
+            element(e, w);
         }
         ElementAnswer::Refused(e) => lines::refusal(e),
     }
     lines::put(b"\n");
 }
 
-pub fn nth(s: &[u8], k: u32) {
-    nth_in(Stream::Types, s, k);
+pub fn nth(s: &[u8], k: u32, w: bool) {
+    nth_in(Stream::Types, s, k, w);
 }
 
 pub fn nth_id(s: &[u8], k: u32) {
-    nth_in(Stream::Ids, s, k);
+    nth_in(Stream::Ids, s, k, false);
 }

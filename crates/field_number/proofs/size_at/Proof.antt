@@ -1,27 +1,27 @@
 -- `field_number::size_at` meets its contract: a numeric leaf that is not negative. Assumes nothing.
 use borrow.Author.Needs.{needs}
-use Rattle.field_number.specs.Numbers.{sizeAt, saidVariant}
+use mathlib.Core.Path.{ap}
 use Rattle.answer.proofs.Told.{told}
+use Rattle.field_number.specs.Numbers.{numberValue}
+use Rattle.field_number.specs.Forms.{saidVariant}
+use Rattle.field_number.proofs.FormLaws.{size-refused, size-natural, size-negative}
 use Rattle.field_number.proofs.size_at.Statement.{statement}
 use Rattle.field_number.proofs.size_at.Tie as tie
 
 returns : tie.Need-returns
-unfolding sizeAt
-returns c = rw (told saidVariant (c .before .before .before .number-at .ensures) (c .before .e .given .1))
+returns c = size-refused _ _ _ _ (told saidVariant (c .before .before .before .number-at .ensures) (c .before .e .given .1))
 
 returns-2 : tie.Need-returns-2
-unfolding sizeAt
-returns-2 c = rw (
-  told saidVariant (c .before .before .before .before .before .before .number-at .ensures) (c .before .before .before .before .v .given .1),
-  c .before .n .given .1,
-)
+returns-2 c =
+    size-natural _ _ _ _ _
+    (told saidVariant (c .before .before .before .before .before .before .number-at .ensures) (c .before .before .before .before .v .given .1))
+    (ap numberValue (c .before .n .given .1))
 
 returns-3 : tie.Need-returns-3
-unfolding sizeAt
-returns-3 c = rw (
-  told saidVariant (c .before .before .before .before .before .number-at .ensures) (c .before .before .before .v .given .1),
-  c .enum-told .given .1,
-)
+returns-3 c =
+    size-negative _ _ _ _ _
+    (told saidVariant (c .before .before .before .before .before .number-at .ensures) (c .before .before .before .v .given .1))
+    (ap numberValue (c .enum-told .given .1))
 
 pub size-at-spec : {M : Type 1} → statement M
 size-at-spec =

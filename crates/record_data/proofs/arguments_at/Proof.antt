@@ -3,7 +3,7 @@
 use borrow.Author.Needs.{needs}
 use Rattle.answer.specs.Tables.{find}
 use Rattle.record_layout.specs.Layouts.{leafOf, readLeaf, typeLeaves}
-use Rattle.record_layout.specs.Fields.{readFields, readField}
+use Rattle.record_layout.specs.Fields.{readFieldBy, readFieldsBy}
 use Rattle.field.specs.Fields.{said32}
 use Rattle.field.specs.Runs.{saidAfter}
 use Rattle.answer.proofs.Told.{told}
@@ -11,18 +11,18 @@ use Rattle.record_data.proofs.arguments_at.Statement.{statement}
 use Rattle.record_data.proofs.arguments_at.Tie as tie
 
 returns : tie.Need-returns
-unfolding find leafOf readLeaf typeLeaves readFields readField
+unfolding find leafOf readLeaf typeLeaves readFieldsBy readFieldBy
 returns c = rw (told said32 (c .before .before .u32-at .ensures) (c .enum-told .given .1))
 
 returns-2 : tie.Need-returns-2
-unfolding find leafOf readLeaf typeLeaves readFields readField
+unfolding find leafOf readLeaf typeLeaves readFieldsBy readFieldBy
 returns-2 c = rw (
   told said32 (c .before .before .before .before .before .before .u32-at .ensures) (c .before .before .before .before .count .given .1),
   told saidAfter (c .before .before .after-bytes .ensures) (c .enum-told3 .given .1),
 )
 
 returns-3 : tie.Need-returns-3
-unfolding find leafOf readLeaf typeLeaves readFields readField
+unfolding find leafOf readLeaf typeLeaves readFieldsBy readFieldBy
 returns-3 c = rw (
   told said32 (c .before .before .before .before .before .before .u32-at .ensures) (c .before .before .before .before .count .given .1),
   told saidAfter (c .before .before .after-bytes .ensures) (c .enum-told2 .given .1),

@@ -3,27 +3,27 @@
 use borrow.Author.Needs.{needs}
 use Rattle.answer.specs.Tables.{find}
 use Rattle.record_layout.specs.Layouts.{leafOf, readLeaf, typeLeaves}
-use Rattle.record_layout.specs.Fields.{readFields, readField}
+use Rattle.record_layout.specs.Fields.{readFieldBy, readFieldsBy}
 use Rattle.field.specs.Indices.{saidType}
-use Rattle.field_number.specs.Numbers.{saidSize}
+use Rattle.field_number.specs.Forms.{saidSize}
 use Rattle.field_text.specs.Texts.{saidString}
 use Rattle.answer.proofs.Told.{told}
 use Rattle.record_data.proofs.array_at.Statement.{statement}
 use Rattle.record_data.proofs.array_at.Tie as tie
 
 returns : tie.Need-returns
-unfolding find leafOf readLeaf typeLeaves readFields readField
+unfolding find leafOf readLeaf typeLeaves readFieldsBy readFieldBy
 returns c = rw (told saidType (c .before .before .type-at .ensures) (c .enum-told .given .1))
 
 returns-2 : tie.Need-returns-2
-unfolding find leafOf readLeaf typeLeaves readFields readField
+unfolding find leafOf readLeaf typeLeaves readFieldsBy readFieldBy
 returns-2 c = rw (
   told saidType (c .before .before .before .before .before .before .type-at .ensures) (c .before .before .before .before .element-type .given .1),
   told saidType (c .before .before .type-at2 .ensures) (c .enum-told2 .given .1),
 )
 
 returns-3 : tie.Need-returns-3
-unfolding find leafOf readLeaf typeLeaves readFields readField
+unfolding find leafOf readLeaf typeLeaves readFieldsBy readFieldBy
 returns-3 c = rw (
   told saidType (c .before .before .before .before .before .before .before .before .before .before .before .before .before .before .type-at .ensures) (c .before .before .before .before .before .before .before .before .before .before .before .before .element-type .given .1),
   told saidType (c .before .before .before .before .before .before .before .before .before .before .type-at2 .ensures) (c .before .before .before .before .before .before .before .before .indexing-type .given .1),
@@ -32,7 +32,7 @@ returns-3 c = rw (
 )
 
 returns-4 : tie.Need-returns-4
-unfolding find leafOf readLeaf typeLeaves readFields readField
+unfolding find leafOf readLeaf typeLeaves readFieldsBy readFieldBy
 returns-4 c = rw (
   told saidType (c .before .before .before .before .before .before .before .before .before .before .before .type-at .ensures) (c .before .before .before .before .before .before .before .before .before .element-type .given .1),
   told saidType (c .before .before .before .before .before .before .before .type-at2 .ensures) (c .before .before .before .before .before .indexing-type .given .1),
@@ -40,7 +40,7 @@ returns-4 c = rw (
 )
 
 returns-5 : tie.Need-returns-5
-unfolding find leafOf readLeaf typeLeaves readFields readField
+unfolding find leafOf readLeaf typeLeaves readFieldsBy readFieldBy
 returns-5 c = rw (
   told saidType (c .before .before .before .before .before .before .before .before .before .before .before .before .before .before .before .type-at .ensures) (c .before .before .before .before .before .before .before .before .before .before .before .before .before .element-type .given .1),
   told saidType (c .before .before .before .before .before .before .before .before .before .before .before .type-at2 .ensures) (c .before .before .before .before .before .before .before .before .before .indexing-type .given .1),

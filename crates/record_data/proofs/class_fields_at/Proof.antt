@@ -1,10 +1,10 @@
 -- Written by tools/record_proof.py with tools/records.ini and tools/record_data.ini.
 -- `record_data::class_fields_at` meets its contract: at each return the readers so far have said what its layout says. Assumes nothing.
 use borrow.Author.Needs.{needs}
-use Rattle.record_layout.specs.Fields.{readFields, readField}
+use Rattle.record_layout.specs.Fields.{readFieldBy, readFieldsBy}
 use Rattle.field.specs.Fields.{said16}
 use Rattle.field.specs.Indices.{saidOptType}
-use Rattle.field_number.specs.Numbers.{saidSize}
+use Rattle.field_number.specs.Forms.{saidSize}
 use Rattle.field_text.specs.Texts.{saidString}
 use Rattle.record_data.specs.Said.{saidOptString}
 use Rattle.answer.proofs.Told.{told}
@@ -12,18 +12,18 @@ use Rattle.record_data.proofs.class_fields_at.Statement.{statement}
 use Rattle.record_data.proofs.class_fields_at.Tie as tie
 
 returns : tie.Need-returns
-unfolding readFields readField
+unfolding readFieldsBy readFieldBy
 returns c = rw (told said16 (c .before .before .u16-at .ensures) (c .enum-told .given .1))
 
 returns-2 : tie.Need-returns-2
-unfolding readFields readField
+unfolding readFieldsBy readFieldBy
 returns-2 c = rw (
   told said16 (c .before .before .before .before .before .before .u16-at .ensures) (c .before .before .before .before .count .given .1),
   told said16 (c .before .before .u16-at2 .ensures) (c .enum-told2 .given .1),
 )
 
 returns-3 : tie.Need-returns-3
-unfolding readFields readField
+unfolding readFieldsBy readFieldBy
 returns-3 c = rw (
   told said16 (c .before .before .before .before .before .before .before .before .before .before .u16-at .ensures) (c .before .before .before .before .before .before .before .before .count .given .1),
   told said16 (c .before .before .before .before .before .before .u16-at2 .ensures) (c .before .before .before .before .properties .given .1),
@@ -31,7 +31,7 @@ returns-3 c = rw (
 )
 
 returns-4 : tie.Need-returns-4
-unfolding readFields readField
+unfolding readFieldsBy readFieldBy
 returns-4 c = rw (
   told said16 (c .before .before .before .before .before .before .before .before .before .before .before .before .before .before .u16-at .ensures) (c .before .before .before .before .before .before .before .before .before .before .before .before .count .given .1),
   told said16 (c .before .before .before .before .before .before .before .before .before .before .u16-at2 .ensures) (c .before .before .before .before .before .before .before .before .properties .given .1),
@@ -40,7 +40,7 @@ returns-4 c = rw (
 )
 
 returns-5 : tie.Need-returns-5
-unfolding readFields readField
+unfolding readFieldsBy readFieldBy
 returns-5 c = rw (
   told said16 (c .before .before .before .before .before .before .before .before .before .before .before .before .before .before .before .before .before .before .u16-at .ensures) (c .before .before .before .before .before .before .before .before .before .before .before .before .before .before .before .before .count .given .1),
   told said16 (c .before .before .before .before .before .before .before .before .before .before .before .before .before .before .u16-at2 .ensures) (c .before .before .before .before .before .before .before .before .before .before .before .before .properties .given .1),
@@ -50,7 +50,7 @@ returns-5 c = rw (
 )
 
 returns-6 : tie.Need-returns-6
-unfolding readFields readField
+unfolding readFieldsBy readFieldBy
 returns-6 c = rw (
   told said16 (c .before .before .before .before .before .before .before .before .before .before .before .before .before .before .before .before .before .before .before .before .before .before .before .before .before .before .u16-at .ensures) (c .before .before .before .before .before .before .before .before .before .before .before .before .before .before .before .before .before .before .before .before .before .before .before .before .count .given .1),
   told said16 (c .before .before .before .before .before .before .before .before .before .before .before .before .before .before .before .before .before .before .before .before .before .before .u16-at2 .ensures) (c .before .before .before .before .before .before .before .before .before .before .before .before .before .before .before .before .before .before .before .before .properties .given .1),
@@ -62,7 +62,7 @@ returns-6 c = rw (
 )
 
 returns-7 : tie.Need-returns-7
-unfolding readFields readField
+unfolding readFieldsBy readFieldBy
 returns-7 c = rw (
   told said16 (c .before .before .before .before .before .before .before .before .before .before .before .before .before .before .before .before .before .before .before .before .before .before .before .before .before .before .before .before .before .before .u16-at .ensures) (c .before .before .before .before .before .before .before .before .before .before .before .before .before .before .before .before .before .before .before .before .before .before .before .before .before .before .before .before .count .given .1),
   told said16 (c .before .before .before .before .before .before .before .before .before .before .before .before .before .before .before .before .before .before .before .before .before .before .before .before .before .before .u16-at2 .ensures) (c .before .before .before .before .before .before .before .before .before .before .before .before .before .before .before .before .before .before .before .before .before .before .before .before .properties .given .1),
@@ -75,7 +75,7 @@ returns-7 c = rw (
 )
 
 returns-8 : tie.Need-returns-8
-unfolding readFields readField
+unfolding readFieldsBy readFieldBy
 returns-8 c = rw (
   told said16 (c .before .before .before .before .before .before .before .before .before .before .before .before .before .before .before .before .before .before .before .before .before .before .before .u16-at .ensures) (c .before .before .before .before .before .before .before .before .before .before .before .before .before .before .before .before .before .before .before .before .before .count .given .1),
   told said16 (c .before .before .before .before .before .before .before .before .before .before .before .before .before .before .before .before .before .before .before .u16-at2 .ensures) (c .before .before .before .before .before .before .before .before .before .before .before .before .before .before .before .before .before .properties .given .1),
@@ -86,7 +86,7 @@ returns-8 c = rw (
 )
 
 returns-9 : tie.Need-returns-9
-unfolding readFields readField
+unfolding readFieldsBy readFieldBy
 returns-9 c = rw (
   told said16 (c .before .before .before .before .before .before .before .before .before .before .before .before .before .before .before .before .before .before .before .before .before .before .before .before .before .before .before .before .before .before .before .u16-at .ensures) (c .before .before .before .before .before .before .before .before .before .before .before .before .before .before .before .before .before .before .before .before .before .before .before .before .before .before .before .before .before .count .given .1),
   told said16 (c .before .before .before .before .before .before .before .before .before .before .before .before .before .before .before .before .before .before .before .before .before .before .before .before .before .before .before .u16-at2 .ensures) (c .before .before .before .before .before .before .before .before .before .before .before .before .before .before .before .before .before .before .before .before .before .before .before .before .before .properties .given .1),

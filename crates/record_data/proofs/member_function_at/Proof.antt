@@ -3,7 +3,7 @@
 use borrow.Author.Needs.{needs}
 use Rattle.answer.specs.Tables.{find}
 use Rattle.record_layout.specs.Layouts.{leafOf, readLeaf, typeLeaves}
-use Rattle.record_layout.specs.Fields.{readFields, readField}
+use Rattle.record_layout.specs.Fields.{readFieldBy, readFieldsBy}
 use Rattle.field.specs.Indices.{saidType, saidOptType}
 use Rattle.field.specs.Fields.{said16, said32}
 use Rattle.answer.proofs.Told.{told}
@@ -11,18 +11,18 @@ use Rattle.record_data.proofs.member_function_at.Statement.{statement}
 use Rattle.record_data.proofs.member_function_at.Tie as tie
 
 returns : tie.Need-returns
-unfolding find leafOf readLeaf typeLeaves readFields readField
+unfolding find leafOf readLeaf typeLeaves readFieldsBy readFieldBy
 returns c = rw (told saidType (c .before .before .type-at .ensures) (c .enum-told .given .1))
 
 returns-2 : tie.Need-returns-2
-unfolding find leafOf readLeaf typeLeaves readFields readField
+unfolding find leafOf readLeaf typeLeaves readFieldsBy readFieldBy
 returns-2 c = rw (
   told saidType (c .before .before .before .before .before .before .type-at .ensures) (c .before .before .before .before .return-type .given .1),
   told saidType (c .before .before .type-at2 .ensures) (c .enum-told2 .given .1),
 )
 
 returns-3 : tie.Need-returns-3
-unfolding find leafOf readLeaf typeLeaves readFields readField
+unfolding find leafOf readLeaf typeLeaves readFieldsBy readFieldBy
 returns-3 c = rw (
   told saidType (c .before .before .before .before .before .before .before .before .before .before .type-at .ensures) (c .before .before .before .before .before .before .before .before .return-type .given .1),
   told saidType (c .before .before .before .before .before .before .type-at2 .ensures) (c .before .before .before .before .class-type .given .1),
@@ -30,7 +30,7 @@ returns-3 c = rw (
 )
 
 returns-4 : tie.Need-returns-4
-unfolding find leafOf readLeaf typeLeaves readFields readField
+unfolding find leafOf readLeaf typeLeaves readFieldsBy readFieldBy
 returns-4 c = rw (
   told saidType (c .before .before .before .before .before .before .before .before .before .before .before .before .before .before .type-at .ensures) (c .before .before .before .before .before .before .before .before .before .before .before .before .return-type .given .1),
   told saidType (c .before .before .before .before .before .before .before .before .before .before .type-at2 .ensures) (c .before .before .before .before .before .before .before .before .class-type .given .1),
@@ -39,7 +39,7 @@ returns-4 c = rw (
 )
 
 returns-5 : tie.Need-returns-5
-unfolding find leafOf readLeaf typeLeaves readFields readField
+unfolding find leafOf readLeaf typeLeaves readFieldsBy readFieldBy
 returns-5 c = rw (
   told saidType (c .before .before .before .before .before .before .before .before .before .before .before .before .before .before .before .before .before .before .type-at .ensures) (c .before .before .before .before .before .before .before .before .before .before .before .before .before .before .before .before .return-type .given .1),
   told saidType (c .before .before .before .before .before .before .before .before .before .before .before .before .before .before .type-at2 .ensures) (c .before .before .before .before .before .before .before .before .before .before .before .before .class-type .given .1),
@@ -49,7 +49,7 @@ returns-5 c = rw (
 )
 
 returns-6 : tie.Need-returns-6
-unfolding find leafOf readLeaf typeLeaves readFields readField
+unfolding find leafOf readLeaf typeLeaves readFieldsBy readFieldBy
 returns-6 c = rw (
   told saidType (c .before .before .before .before .before .before .before .before .before .before .before .before .before .before .before .before .before .before .before .before .before .before .type-at .ensures) (c .before .before .before .before .before .before .before .before .before .before .before .before .before .before .before .before .before .before .before .before .return-type .given .1),
   told saidType (c .before .before .before .before .before .before .before .before .before .before .before .before .before .before .before .before .before .before .type-at2 .ensures) (c .before .before .before .before .before .before .before .before .before .before .before .before .before .before .before .before .class-type .given .1),
@@ -60,7 +60,7 @@ returns-6 c = rw (
 )
 
 returns-7 : tie.Need-returns-7
-unfolding find leafOf readLeaf typeLeaves readFields readField
+unfolding find leafOf readLeaf typeLeaves readFieldsBy readFieldBy
 returns-7 c = rw (
   told saidType (c .before .before .before .before .before .before .before .before .before .before .before .before .before .before .before .before .before .before .before .before .before .before .before .before .before .before .type-at .ensures) (c .before .before .before .before .before .before .before .before .before .before .before .before .before .before .before .before .before .before .before .before .before .before .before .before .return-type .given .1),
   told saidType (c .before .before .before .before .before .before .before .before .before .before .before .before .before .before .before .before .before .before .before .before .before .before .type-at2 .ensures) (c .before .before .before .before .before .before .before .before .before .before .before .before .before .before .before .before .before .before .before .before .class-type .given .1),
@@ -72,7 +72,7 @@ returns-7 c = rw (
 )
 
 returns-8 : tie.Need-returns-8
-unfolding find leafOf readLeaf typeLeaves readFields readField
+unfolding find leafOf readLeaf typeLeaves readFieldsBy readFieldBy
 returns-8 c = rw (
   told saidType (c .before .before .before .before .before .before .before .before .before .before .before .before .before .before .before .before .before .before .before .before .before .before .before .before .before .before .before .type-at .ensures) (c .before .before .before .before .before .before .before .before .before .before .before .before .before .before .before .before .before .before .before .before .before .before .before .before .before .return-type .given .1),
   told saidType (c .before .before .before .before .before .before .before .before .before .before .before .before .before .before .before .before .before .before .before .before .before .before .before .type-at2 .ensures) (c .before .before .before .before .before .before .before .before .before .before .before .before .before .before .before .before .before .before .before .before .before .class-type .given .1),

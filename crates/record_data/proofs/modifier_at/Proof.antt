@@ -3,7 +3,7 @@
 use borrow.Author.Needs.{needs}
 use Rattle.answer.specs.Tables.{find}
 use Rattle.record_layout.specs.Layouts.{leafOf, readLeaf, typeLeaves}
-use Rattle.record_layout.specs.Fields.{readFields, readField}
+use Rattle.record_layout.specs.Fields.{readFieldBy, readFieldsBy}
 use Rattle.field.specs.Indices.{saidType}
 use Rattle.field.specs.Fields.{said16}
 use Rattle.answer.proofs.Told.{told}
@@ -11,18 +11,18 @@ use Rattle.record_data.proofs.modifier_at.Statement.{statement}
 use Rattle.record_data.proofs.modifier_at.Tie as tie
 
 returns : tie.Need-returns
-unfolding find leafOf readLeaf typeLeaves readFields readField
+unfolding find leafOf readLeaf typeLeaves readFieldsBy readFieldBy
 returns c = rw (told saidType (c .before .before .type-at .ensures) (c .enum-told .given .1))
 
 returns-2 : tie.Need-returns-2
-unfolding find leafOf readLeaf typeLeaves readFields readField
+unfolding find leafOf readLeaf typeLeaves readFieldsBy readFieldBy
 returns-2 c = rw (
   told saidType (c .before .before .before .before .before .before .type-at .ensures) (c .before .before .before .before .underlying-type .given .1),
   told said16 (c .before .before .u16-at .ensures) (c .enum-told2 .given .1),
 )
 
 returns-3 : tie.Need-returns-3
-unfolding find leafOf readLeaf typeLeaves readFields readField
+unfolding find leafOf readLeaf typeLeaves readFieldsBy readFieldBy
 returns-3 c = rw (
   told saidType (c .before .before .before .before .before .before .before .type-at .ensures) (c .before .before .before .before .before .underlying-type .given .1),
   told said16 (c .before .before .before .u16-at .ensures) (c .before .flags .given .1),

@@ -3,7 +3,7 @@
 use borrow.Author.Needs.{needs}
 use Rattle.answer.specs.Tables.{find}
 use Rattle.record_layout.specs.Layouts.{leafOf, readLeaf, typeLeaves}
-use Rattle.record_layout.specs.Fields.{readFields, readField}
+use Rattle.record_layout.specs.Fields.{readFieldBy, readFieldsBy}
 use Rattle.field.specs.Indices.{saidType}
 use Rattle.field.specs.Fields.{said32}
 use Rattle.word_attributes.specs.Said.{saidKind, saidMode}
@@ -13,18 +13,18 @@ use Rattle.record_data.proofs.pointer_at.Statement.{statement}
 use Rattle.record_data.proofs.pointer_at.Tie as tie
 
 returns : tie.Need-returns
-unfolding find leafOf readLeaf typeLeaves readFields readField
+unfolding find leafOf readLeaf typeLeaves readFieldsBy readFieldBy
 returns c = rw (told saidType (c .before .before .type-at .ensures) (c .enum-told .given .1))
 
 returns-2 : tie.Need-returns-2
-unfolding find leafOf readLeaf typeLeaves readFields readField
+unfolding find leafOf readLeaf typeLeaves readFieldsBy readFieldBy
 returns-2 c = rw (
   told saidType (c .before .before .before .before .before .before .type-at .ensures) (c .before .before .before .before .underlying-type .given .1),
   told said32 (c .before .before .u32-at .ensures) (c .enum-told2 .given .1),
 )
 
 returns-3 : tie.Need-returns-3
-unfolding find leafOf readLeaf typeLeaves readFields readField
+unfolding find leafOf readLeaf typeLeaves readFieldsBy readFieldBy
 returns-3 c = rw (
   told saidType (c .before .before .before .before .before .before .before .before .before .before .type-at .ensures) (c .before .before .before .before .before .before .before .before .underlying-type .given .1),
   told said32 (c .before .before .before .before .before .before .u32-at .ensures) (c .before .before .before .before .word .given .1),
@@ -32,7 +32,7 @@ returns-3 c = rw (
 )
 
 returns-4 : tie.Need-returns-4
-unfolding find leafOf readLeaf typeLeaves readFields readField
+unfolding find leafOf readLeaf typeLeaves readFieldsBy readFieldBy
 returns-4 c = rw (
   told saidType (c .before .before .before .before .before .before .before .before .before .before .before .before .before .type-at .ensures) (c .before .before .before .before .before .before .before .before .before .before .before .underlying-type .given .1),
   told said32 (c .before .before .before .before .before .before .before .before .before .u32-at .ensures) (c .before .before .before .before .before .before .before .word .given .1),
@@ -41,7 +41,7 @@ returns-4 c = rw (
 )
 
 returns-5 : tie.Need-returns-5
-unfolding find leafOf readLeaf typeLeaves readFields readField
+unfolding find leafOf readLeaf typeLeaves readFieldsBy readFieldBy
 returns-5 c = rw (
   told saidType (c .before .before .before .before .before .before .before .before .before .before .before .before .before .before .before .before .type-at .ensures) (c .before .before .before .before .before .before .before .before .before .before .before .before .before .before .underlying-type .given .1),
   told said32 (c .before .before .before .before .before .before .before .before .before .before .before .before .u32-at .ensures) (c .before .before .before .before .before .before .before .before .before .before .word .given .1),
@@ -51,7 +51,7 @@ returns-5 c = rw (
 )
 
 returns-6 : tie.Need-returns-6
-unfolding find leafOf readLeaf typeLeaves readFields readField
+unfolding find leafOf readLeaf typeLeaves readFieldsBy readFieldBy
 returns-6 c = rw (
   told saidType (c .before .before .before .before .before .before .before .before .before .before .before .before .before .before .before .before .before .type-at .ensures) (c .before .before .before .before .before .before .before .before .before .before .before .before .before .before .before .underlying-type .given .1),
   told said32 (c .before .before .before .before .before .before .before .before .before .before .before .before .before .u32-at .ensures) (c .before .before .before .before .before .before .before .before .before .before .before .word .given .1),

@@ -3,7 +3,7 @@
 use borrow.Author.Needs.{needs}
 use Rattle.answer.specs.Tables.{find}
 use Rattle.record_layout.specs.Layouts.{recordOf, leafOf, readLeaf, typeLeaves}
-use Rattle.record_layout.specs.Fields.{readFields, readField}
+use Rattle.record_layout.specs.Fields.{readFieldBy, readFieldsBy}
 use Rattle.field.specs.Fields.{said16}
 use Rattle.answer.proofs.Told.{told}
 use borrow.Author.Tests.{ne-eqb}
@@ -11,18 +11,18 @@ use Rattle.record_data.proofs.type_data.Statement.{statement}
 use Rattle.record_data.proofs.type_data.Tie as tie
 
 returns : tie.Need-returns
-unfolding find recordOf leafOf readLeaf typeLeaves readFields readField
+unfolding find recordOf leafOf readLeaf typeLeaves readFieldsBy readFieldBy
 returns c = rw (told said16 (c .before .before .u16-at .ensures) (c .enum-told .given .1))
 
 returns-2 : tie.Need-returns-2
-unfolding find recordOf leafOf readLeaf typeLeaves readFields readField
+unfolding find recordOf leafOf readLeaf typeLeaves readFieldsBy readFieldBy
 returns-2 c = rw (
   told said16 (c .before .before .before .before .before .u16-at .ensures) (c .before .before .before .leaf .given .1),
   (c .before .if1 .taken),
 ) (c .modifier-at .ensures)
 
 returns-3 : tie.Need-returns-3
-unfolding find recordOf leafOf readLeaf typeLeaves readFields readField
+unfolding find recordOf leafOf readLeaf typeLeaves readFieldsBy readFieldBy
 returns-3 c = rw (
   told said16 (c .before .before .before .before .before .before .u16-at .ensures) (c .before .before .before .before .leaf .given .1),
   ne-eqb _ _ (c .before .before .if1 .left),
@@ -30,7 +30,7 @@ returns-3 c = rw (
 ) (c .pointer-at .ensures)
 
 returns-4 : tie.Need-returns-4
-unfolding find recordOf leafOf readLeaf typeLeaves readFields readField
+unfolding find recordOf leafOf readLeaf typeLeaves readFieldsBy readFieldBy
 returns-4 c = rw (
   told said16 (c .before .before .before .before .before .before .before .u16-at .ensures) (c .before .before .before .before .before .leaf .given .1),
   ne-eqb _ _ (c .before .before .before .if1 .left),
@@ -39,7 +39,7 @@ returns-4 c = rw (
 ) (c .procedure-at .ensures)
 
 returns-5 : tie.Need-returns-5
-unfolding find recordOf leafOf readLeaf typeLeaves readFields readField
+unfolding find recordOf leafOf readLeaf typeLeaves readFieldsBy readFieldBy
 returns-5 c = rw (
   told said16 (c .before .before .before .before .before .before .before .before .u16-at .ensures) (c .before .before .before .before .before .before .leaf .given .1),
   ne-eqb _ _ (c .before .before .before .before .if1 .left),
@@ -49,7 +49,7 @@ returns-5 c = rw (
 ) (c .member-function-at .ensures)
 
 returns-6 : tie.Need-returns-6
-unfolding find recordOf leafOf readLeaf typeLeaves readFields readField
+unfolding find recordOf leafOf readLeaf typeLeaves readFieldsBy readFieldBy
 returns-6 c = rw (
   told said16 (c .before .before .before .before .before .before .before .before .before .u16-at .ensures) (c .before .before .before .before .before .before .before .leaf .given .1),
   ne-eqb _ _ (c .before .before .before .before .before .if1 .left),
@@ -60,7 +60,7 @@ returns-6 c = rw (
 ) (c .bitfield-at .ensures)
 
 returns-7 : tie.Need-returns-7
-unfolding find recordOf leafOf readLeaf typeLeaves readFields readField
+unfolding find recordOf leafOf readLeaf typeLeaves readFieldsBy readFieldBy
 returns-7 c = rw (
   told said16 (c .before .before .before .before .before .before .before .before .before .before .u16-at .ensures) (c .before .before .before .before .before .before .before .before .leaf .given .1),
   ne-eqb _ _ (c .before .before .before .before .before .before .if1 .left),
@@ -72,7 +72,7 @@ returns-7 c = rw (
 ) (c .array-at .ensures)
 
 returns-8 : tie.Need-returns-8
-unfolding find recordOf leafOf readLeaf typeLeaves readFields readField
+unfolding find recordOf leafOf readLeaf typeLeaves readFieldsBy readFieldBy
 returns-8 c = rw (
   told said16 (c .before .before .before .before .before .before .before .before .before .before .before .u16-at .ensures) (c .before .before .before .before .before .before .before .before .before .leaf .given .1),
   ne-eqb _ _ (c .before .before .before .before .before .before .before .if1 .left),
@@ -85,7 +85,7 @@ returns-8 c = rw (
 ) (c .class-at .ensures)
 
 returns-9 : tie.Need-returns-9
-unfolding find recordOf leafOf readLeaf typeLeaves readFields readField
+unfolding find recordOf leafOf readLeaf typeLeaves readFieldsBy readFieldBy
 returns-9 c = rw (
   told said16 (c .before .before .before .before .before .before .before .before .before .before .before .before .u16-at .ensures) (c .before .before .before .before .before .before .before .before .before .before .leaf .given .1),
   ne-eqb _ _ (c .before .before .before .before .before .before .before .before .if1 .left),
@@ -99,7 +99,7 @@ returns-9 c = rw (
 ) (c .structure-at .ensures)
 
 returns-10 : tie.Need-returns-10
-unfolding find recordOf leafOf readLeaf typeLeaves readFields readField
+unfolding find recordOf leafOf readLeaf typeLeaves readFieldsBy readFieldBy
 returns-10 c = rw (
   told said16 (c .before .before .before .before .before .before .before .before .before .before .before .before .before .u16-at .ensures) (c .before .before .before .before .before .before .before .before .before .before .before .leaf .given .1),
   ne-eqb _ _ (c .before .before .before .before .before .before .before .before .before .if1 .left),
@@ -114,7 +114,7 @@ returns-10 c = rw (
 ) (c .interface-at .ensures)
 
 returns-11 : tie.Need-returns-11
-unfolding find recordOf leafOf readLeaf typeLeaves readFields readField
+unfolding find recordOf leafOf readLeaf typeLeaves readFieldsBy readFieldBy
 returns-11 c = rw (
   told said16 (c .before .before .before .before .before .before .before .before .before .before .before .before .before .before .u16-at .ensures) (c .before .before .before .before .before .before .before .before .before .before .before .before .leaf .given .1),
   ne-eqb _ _ (c .before .before .before .before .before .before .before .before .before .before .if1 .left),
@@ -130,7 +130,7 @@ returns-11 c = rw (
 ) (c .union-at .ensures)
 
 returns-12 : tie.Need-returns-12
-unfolding find recordOf leafOf readLeaf typeLeaves readFields readField
+unfolding find recordOf leafOf readLeaf typeLeaves readFieldsBy readFieldBy
 returns-12 c = rw (
   told said16 (c .before .before .before .before .before .before .before .before .before .before .before .before .before .before .before .u16-at .ensures) (c .before .before .before .before .before .before .before .before .before .before .before .before .before .leaf .given .1),
   ne-eqb _ _ (c .before .before .before .before .before .before .before .before .before .before .before .if1 .left),
@@ -147,7 +147,7 @@ returns-12 c = rw (
 ) (c .enumeration-at .ensures)
 
 returns-13 : tie.Need-returns-13
-unfolding find recordOf leafOf readLeaf typeLeaves readFields readField
+unfolding find recordOf leafOf readLeaf typeLeaves readFieldsBy readFieldBy
 returns-13 c = rw (
   told said16 (c .before .before .before .before .before .before .before .before .before .before .before .before .before .before .before .before .u16-at .ensures) (c .before .before .before .before .before .before .before .before .before .before .before .before .before .before .leaf .given .1),
   ne-eqb _ _ (c .before .before .before .before .before .before .before .before .before .before .before .before .if1 .left),
@@ -165,7 +165,7 @@ returns-13 c = rw (
 ) (c .structure19-at .ensures)
 
 returns-14 : tie.Need-returns-14
-unfolding find recordOf leafOf readLeaf typeLeaves readFields readField
+unfolding find recordOf leafOf readLeaf typeLeaves readFieldsBy readFieldBy
 returns-14 c = rw (
   told said16 (c .before .before .before .before .before .before .before .before .before .before .before .before .before .before .before .before .before .u16-at .ensures) (c .before .before .before .before .before .before .before .before .before .before .before .before .before .before .before .leaf .given .1),
   ne-eqb _ _ (c .before .before .before .before .before .before .before .before .before .before .before .before .before .if1 .left),
@@ -184,7 +184,7 @@ returns-14 c = rw (
 ) (c .shape-at .ensures)
 
 returns-15 : tie.Need-returns-15
-unfolding find recordOf leafOf readLeaf typeLeaves readFields readField
+unfolding find recordOf leafOf readLeaf typeLeaves readFieldsBy readFieldBy
 returns-15 c = rw (
   told said16 (c .before .before .before .before .before .before .before .before .before .before .before .before .before .before .before .before .before .before .u16-at .ensures) (c .before .before .before .before .before .before .before .before .before .before .before .before .before .before .before .before .leaf .given .1),
   ne-eqb _ _ (c .before .before .before .before .before .before .before .before .before .before .before .before .before .before .if1 .left),
@@ -204,7 +204,7 @@ returns-15 c = rw (
 ) (c .arguments-at .ensures)
 
 returns-16 : tie.Need-returns-16
-unfolding find recordOf leafOf readLeaf typeLeaves readFields readField
+unfolding find recordOf leafOf readLeaf typeLeaves readFieldsBy readFieldBy
 returns-16 c = rw (
   told said16 (c .before .before .before .before .before .before .before .before .before .before .before .before .before .before .before .before .before .before .u16-at .ensures) (c .before .before .before .before .before .before .before .before .before .before .before .before .before .before .before .before .leaf .given .1),
   ne-eqb _ _ (c .before .before .before .before .before .before .before .before .before .before .before .before .before .before .if1 .left),
@@ -225,7 +225,7 @@ returns-16 c = rw (
 )
 
 returns-17 : tie.Need-returns-17
-unfolding find recordOf leafOf readLeaf typeLeaves readFields readField
+unfolding find recordOf leafOf readLeaf typeLeaves readFieldsBy readFieldBy
 returns-17 c = rw (
   told said16 (c .before .before .before .before .before .before .before .before .before .before .before .before .before .before .before .before .before .before .before .u16-at .ensures) (c .before .before .before .before .before .before .before .before .before .before .before .before .before .before .before .before .before .leaf .given .1),
   ne-eqb _ _ (c .before .before .before .before .before .before .before .before .before .before .before .before .before .before .before .if1 .left),
@@ -247,7 +247,7 @@ returns-17 c = rw (
 )
 
 returns-18 : tie.Need-returns-18
-unfolding find recordOf leafOf readLeaf typeLeaves readFields readField
+unfolding find recordOf leafOf readLeaf typeLeaves readFieldsBy readFieldBy
 returns-18 c = rw (
   told said16 (c .before .before .before .before .before .before .before .before .before .before .before .before .before .before .before .before .before .before .before .u16-at .ensures) (c .before .before .before .before .before .before .before .before .before .before .before .before .before .before .before .before .before .leaf .given .1),
   ne-eqb _ _ (c .before .before .before .before .before .before .before .before .before .before .before .before .before .before .before .if1 .left),

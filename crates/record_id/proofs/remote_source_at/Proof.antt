@@ -3,7 +3,7 @@
 use borrow.Author.Needs.{needs}
 use Rattle.answer.specs.Tables.{find}
 use Rattle.record_layout.specs.Layouts.{leafOf, readLeaf, idLeaves}
-use Rattle.record_layout.specs.Fields.{readFields, readField}
+use Rattle.record_layout.specs.Fields.{readFieldBy, readFieldsBy}
 use Rattle.field.specs.Indices.{saidType, saidStringRef}
 use Rattle.field.specs.Fields.{said32, said16}
 use Rattle.answer.proofs.Told.{told}
@@ -11,18 +11,18 @@ use Rattle.record_id.proofs.remote_source_at.Statement.{statement}
 use Rattle.record_id.proofs.remote_source_at.Tie as tie
 
 returns : tie.Need-returns
-unfolding find leafOf readLeaf idLeaves readFields readField
+unfolding find leafOf readLeaf idLeaves readFieldsBy readFieldBy
 returns c = rw (told saidType (c .before .before .type-at .ensures) (c .enum-told .given .1))
 
 returns-2 : tie.Need-returns-2
-unfolding find leafOf readLeaf idLeaves readFields readField
+unfolding find leafOf readLeaf idLeaves readFieldsBy readFieldBy
 returns-2 c = rw (
   told saidType (c .before .before .before .before .before .before .type-at .ensures) (c .before .before .before .before .udt .given .1),
   told saidStringRef (c .before .before .string-ref-at .ensures) (c .enum-told2 .given .1),
 )
 
 returns-3 : tie.Need-returns-3
-unfolding find leafOf readLeaf idLeaves readFields readField
+unfolding find leafOf readLeaf idLeaves readFieldsBy readFieldBy
 returns-3 c = rw (
   told saidType (c .before .before .before .before .before .before .before .before .before .before .type-at .ensures) (c .before .before .before .before .before .before .before .before .udt .given .1),
   told saidStringRef (c .before .before .before .before .before .before .string-ref-at .ensures) (c .before .before .before .before .file .given .1),
@@ -30,7 +30,7 @@ returns-3 c = rw (
 )
 
 returns-4 : tie.Need-returns-4
-unfolding find leafOf readLeaf idLeaves readFields readField
+unfolding find leafOf readLeaf idLeaves readFieldsBy readFieldBy
 returns-4 c = rw (
   told saidType (c .before .before .before .before .before .before .before .before .before .before .before .before .before .before .type-at .ensures) (c .before .before .before .before .before .before .before .before .before .before .before .before .udt .given .1),
   told saidStringRef (c .before .before .before .before .before .before .before .before .before .before .string-ref-at .ensures) (c .before .before .before .before .before .before .before .before .file .given .1),
@@ -39,7 +39,7 @@ returns-4 c = rw (
 )
 
 returns-5 : tie.Need-returns-5
-unfolding find leafOf readLeaf idLeaves readFields readField
+unfolding find leafOf readLeaf idLeaves readFieldsBy readFieldBy
 returns-5 c = rw (
   told saidType (c .before .before .before .before .before .before .before .before .before .before .before .before .before .before .before .type-at .ensures) (c .before .before .before .before .before .before .before .before .before .before .before .before .before .udt .given .1),
   told saidStringRef (c .before .before .before .before .before .before .before .before .before .before .before .string-ref-at .ensures) (c .before .before .before .before .before .before .before .before .before .file .given .1),

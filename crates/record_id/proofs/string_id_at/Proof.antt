@@ -3,7 +3,7 @@
 use borrow.Author.Needs.{needs}
 use Rattle.answer.specs.Tables.{find}
 use Rattle.record_layout.specs.Layouts.{leafOf, readLeaf, idLeaves}
-use Rattle.record_layout.specs.Fields.{readFields, readField}
+use Rattle.record_layout.specs.Fields.{readFieldBy, readFieldsBy}
 use Rattle.field.specs.Indices.{saidOptId}
 use Rattle.field_text.specs.Texts.{saidString}
 use Rattle.answer.proofs.Told.{told}
@@ -11,18 +11,18 @@ use Rattle.record_id.proofs.string_id_at.Statement.{statement}
 use Rattle.record_id.proofs.string_id_at.Tie as tie
 
 returns : tie.Need-returns
-unfolding find leafOf readLeaf idLeaves readFields readField
+unfolding find leafOf readLeaf idLeaves readFieldsBy readFieldBy
 returns c = rw (told saidOptId (c .before .before .optional-id-at .ensures) (c .enum-told .given .1))
 
 returns-2 : tie.Need-returns-2
-unfolding find leafOf readLeaf idLeaves readFields readField
+unfolding find leafOf readLeaf idLeaves readFieldsBy readFieldBy
 returns-2 c = rw (
   told saidOptId (c .before .before .before .before .before .before .optional-id-at .ensures) (c .before .before .before .before .substrings .given .1),
   told saidString (c .before .before .string-at .ensures) (c .enum-told2 .given .1),
 )
 
 returns-3 : tie.Need-returns-3
-unfolding find leafOf readLeaf idLeaves readFields readField
+unfolding find leafOf readLeaf idLeaves readFieldsBy readFieldBy
 returns-3 c = rw (
   told saidOptId (c .before .before .before .before .before .before .before .optional-id-at .ensures) (c .before .before .before .before .before .substrings .given .1),
   told saidString (c .before .before .before .string-at .ensures) (c .before .name .given .1),

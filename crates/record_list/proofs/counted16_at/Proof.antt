@@ -1,7 +1,7 @@
 -- `record_list::counted16_at` meets its contract: at each return the readers so far have said what its layout says. Assumes nothing.
 use borrow.Author.Needs.{needs}
 use Rattle.record_list.specs.Lists.{countedBy}
-use Rattle.record_layout.specs.Fields.{readFields, readField}
+use Rattle.record_layout.specs.Fields.{readFieldBy, readFieldsBy}
 use Rattle.field.specs.Fields.{said16}
 use Rattle.field.specs.Runs.{saidAfter}
 use Rattle.answer.proofs.Told.{told}
@@ -9,18 +9,18 @@ use Rattle.record_list.proofs.counted16_at.Statement.{statement}
 use Rattle.record_list.proofs.counted16_at.Tie as tie
 
 returns : tie.Need-returns
-unfolding countedBy readFields readField
+unfolding countedBy readFieldsBy readFieldBy
 returns c = rw (told said16 (c .before .before .u16-at .ensures) (c .enum-told .given .1))
 
 returns-2 : tie.Need-returns-2
-unfolding countedBy readFields readField
+unfolding countedBy readFieldsBy readFieldBy
 returns-2 c = rw (
   told said16 (c .before .before .before .before .before .before .u16-at .ensures) (c .before .before .before .before .count .given .1),
   told saidAfter (c .before .before .after-bytes .ensures) (c .enum-told3 .given .1),
 )
 
 returns-3 : tie.Need-returns-3
-unfolding countedBy readFields readField
+unfolding countedBy readFieldsBy readFieldBy
 returns-3 c = rw (
   told said16 (c .before .before .before .before .before .before .u16-at .ensures) (c .before .before .before .before .count .given .1),
   told saidAfter (c .before .before .after-bytes .ensures) (c .enum-told2 .given .1),

@@ -1,7 +1,7 @@
 -- `record_list::type_step` meets its contract: at each return its definition computes by the tests passed and by what the readers so far have said. Assumes nothing.
 use borrow.Author.Needs.{needs}
 use Rattle.record_list.specs.Lists.{countedStep}
-use Rattle.record_layout.specs.Fields.{readFields, readField}
+use Rattle.record_layout.specs.Fields.{readFieldBy, readFieldsBy}
 use Rattle.field.specs.Indices.{saidType}
 use Rattle.answer.proofs.Told.{told}
 use borrow.Author.Tests.{eq-eqb, ne-eqb}
@@ -9,18 +9,18 @@ use Rattle.record_list.proofs.type_step.Statement.{statement}
 use Rattle.record_list.proofs.type_step.Tie as tie
 
 returns : tie.Need-returns
-unfolding countedStep readFields readField
+unfolding countedStep readFieldsBy readFieldBy
 returns c = rw (eq-eqb _ _ (c .if1 .taken))
 
 returns-2 : tie.Need-returns-2
-unfolding countedStep readFields readField
+unfolding countedStep readFieldsBy readFieldBy
 returns-2 c = rw (
   ne-eqb _ _ (c .before .before .before .if1 .left),
   told saidType (c .before .before .type-at .ensures) (c .enum-told .given .1),
 )
 
 returns-3 : tie.Need-returns-3
-unfolding countedStep readFields readField
+unfolding countedStep readFieldsBy readFieldBy
 returns-3 c = rw (
   ne-eqb _ _ (c .before .before .before .before .if1 .left),
   told saidType (c .before .before .before .type-at .ensures) (c .before .t .given .1),

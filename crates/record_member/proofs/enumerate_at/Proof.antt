@@ -3,20 +3,20 @@
 use borrow.Author.Needs.{needs}
 use Rattle.answer.specs.Tables.{find}
 use Rattle.record_layout.specs.Layouts.{readLeaf, memberLeaves}
-use Rattle.record_layout.specs.Fields.{readFields, readField}
+use Rattle.record_layout.specs.Fields.{readFieldBy, readFieldsBy}
 use Rattle.field.specs.Fields.{said16}
 use Rattle.field_text.specs.Texts.{saidString}
-use Rattle.field_number.specs.Numbers.{saidVariant}
+use Rattle.field_number.specs.Forms.{saidVariant}
 use Rattle.answer.proofs.Told.{told}
 use Rattle.record_member.proofs.enumerate_at.Statement.{statement}
 use Rattle.record_member.proofs.enumerate_at.Tie as tie
 
 returns : tie.Need-returns
-unfolding find readLeaf memberLeaves readFields readField
+unfolding find readLeaf memberLeaves readFieldsBy readFieldBy
 returns c = rw (told said16 (c .before .before .u16-at .ensures) (c .enum-told .given .1))
 
 returns-2 : tie.Need-returns-2
-unfolding find readLeaf memberLeaves readFields readField
+unfolding find readLeaf memberLeaves readFieldsBy readFieldBy
 returns-2 c = rw (
   told said16 (c .before .before .before .before .before .before .before .before .before .before .u16-at .ensures) (c .before .before .before .before .before .before .before .before .attributes .given .1),
   told saidVariant (c .before .before .before .before .before .before .number-at .ensures) (c .before .before .before .before .value .given .1),
@@ -24,14 +24,14 @@ returns-2 c = rw (
 )
 
 returns-3 : tie.Need-returns-3
-unfolding find readLeaf memberLeaves readFields readField
+unfolding find readLeaf memberLeaves readFieldsBy readFieldBy
 returns-3 c = rw (
   told said16 (c .before .before .before .before .before .before .before .u16-at .ensures) (c .before .before .before .before .before .attributes .given .1),
   told saidVariant (c .before .before .before .number-at .ensures) (c .before .e .given .1),
 )
 
 returns-4 : tie.Need-returns-4
-unfolding find readLeaf memberLeaves readFields readField
+unfolding find readLeaf memberLeaves readFieldsBy readFieldBy
 returns-4 c = rw (
   told said16 (c .before .before .before .before .before .before .before .before .before .before .before .u16-at .ensures) (c .before .before .before .before .before .before .before .before .before .attributes .given .1),
   told saidVariant (c .before .before .before .before .before .before .before .number-at .ensures) (c .before .before .before .before .before .value .given .1),

@@ -3,7 +3,7 @@
 use borrow.Author.Needs.{needs}
 use Rattle.answer.specs.Tables.{find}
 use Rattle.record_layout.specs.Layouts.{readLeaf, memberLeaves}
-use Rattle.record_layout.specs.Fields.{readFields, readField}
+use Rattle.record_layout.specs.Fields.{readFieldBy, readFieldsBy}
 use Rattle.field.specs.Fields.{said16}
 use Rattle.field.specs.Indices.{saidType}
 use Rattle.field_text.specs.Texts.{saidString}
@@ -12,18 +12,18 @@ use Rattle.record_member.proofs.overloaded_method_at.Statement.{stateme
 use Rattle.record_member.proofs.overloaded_method_at.Tie as tie
 
 returns : tie.Need-returns
-unfolding find readLeaf memberLeaves readFields readField
+unfolding find readLeaf memberLeaves readFieldsBy readFieldBy
 returns c = rw (told said16 (c .before .before .u16-at .ensures) (c .enum-told .given .1))
 
 returns-2 : tie.Need-returns-2
-unfolding find readLeaf memberLeaves readFields readField
+unfolding find readLeaf memberLeaves readFieldsBy readFieldBy
 returns-2 c = rw (
   told said16 (c .before .before .before .before .before .before .u16-at .ensures) (c .before .before .before .before .count .given .1),
   told saidType (c .before .before .type-at .ensures) (c .enum-told2 .given .1),
 )
 
 returns-3 : tie.Need-returns-3
-unfolding find readLeaf memberLeaves readFields readField
+unfolding find readLeaf memberLeaves readFieldsBy readFieldBy
 returns-3 c = rw (
   told said16 (c .before .before .before .before .before .before .before .before .before .before .u16-at .ensures) (c .before .before .before .before .before .before .before .before .count .given .1),
   told saidType (c .before .before .before .before .before .before .type-at .ensures) (c .before .before .before .before .method-list .given .1),
@@ -31,7 +31,7 @@ returns-3 c = rw (
 )
 
 returns-4 : tie.Need-returns-4
-unfolding find readLeaf memberLeaves readFields readField
+unfolding find readLeaf memberLeaves readFieldsBy readFieldBy
 returns-4 c = rw (
   told said16 (c .before .before .before .before .before .before .before .before .before .before .before .u16-at .ensures) (c .before .before .before .before .before .before .before .before .before .count .given .1),
   told saidType (c .before .before .before .before .before .before .before .type-at .ensures) (c .before .before .before .before .before .method-list .given .1),

@@ -1,27 +1,27 @@
 -- Written by tools/record_proof.py with tools/records.ini and tools/record_member.ini.
 -- `record_member::virtual_base_class_at` meets its contract: at each return the readers so far have said what its layout says. Assumes nothing.
 use borrow.Author.Needs.{needs}
-use Rattle.record_layout.specs.Fields.{readFields, readField}
+use Rattle.record_layout.specs.Fields.{readFieldBy, readFieldsBy}
 use Rattle.field.specs.Fields.{said16}
 use Rattle.field.specs.Indices.{saidType}
-use Rattle.field_number.specs.Numbers.{saidSize}
+use Rattle.field_number.specs.Forms.{saidSize}
 use Rattle.answer.proofs.Told.{told}
 use Rattle.record_member.proofs.virtual_base_class_at.Statement.{statement}
 use Rattle.record_member.proofs.virtual_base_class_at.Tie as tie
 
 returns : tie.Need-returns
-unfolding readFields readField
+unfolding readFieldsBy readFieldBy
 returns c = rw (told said16 (c .before .before .u16-at .ensures) (c .enum-told .given .1))
 
 returns-2 : tie.Need-returns-2
-unfolding readFields readField
+unfolding readFieldsBy readFieldBy
 returns-2 c = rw (
   told said16 (c .before .before .before .before .before .before .u16-at .ensures) (c .before .before .before .before .attributes .given .1),
   told saidType (c .before .before .type-at .ensures) (c .enum-told2 .given .1),
 )
 
 returns-3 : tie.Need-returns-3
-unfolding readFields readField
+unfolding readFieldsBy readFieldBy
 returns-3 c = rw (
   told said16 (c .before .before .before .before .before .before .before .before .before .before .u16-at .ensures) (c .before .before .before .before .before .before .before .before .attributes .given .1),
   told saidType (c .before .before .before .before .before .before .type-at .ensures) (c .before .before .before .before .base-class .given .1),
@@ -29,7 +29,7 @@ returns-3 c = rw (
 )
 
 returns-4 : tie.Need-returns-4
-unfolding readFields readField
+unfolding readFieldsBy readFieldBy
 returns-4 c = rw (
   told said16 (c .before .before .before .before .before .before .before .before .before .before .before .before .before .before .before .u16-at .ensures) (c .before .before .before .before .before .before .before .before .before .before .before .before .before .attributes .given .1),
   told saidType (c .before .before .before .before .before .before .before .before .before .before .before .type-at .ensures) (c .before .before .before .before .before .before .before .before .before .base-class .given .1),
@@ -38,7 +38,7 @@ returns-4 c = rw (
 )
 
 returns-5 : tie.Need-returns-5
-unfolding readFields readField
+unfolding readFieldsBy readFieldBy
 returns-5 c = rw (
   told said16 (c .before .before .before .before .before .before .before .before .before .before .before .before .before .before .before .before .before .before .before .u16-at .ensures) (c .before .before .before .before .before .before .before .before .before .before .before .before .before .before .before .before .before .attributes .given .1),
   told saidType (c .before .before .before .before .before .before .before .before .before .before .before .before .before .before .before .type-at .ensures) (c .before .before .before .before .before .before .before .before .before .before .before .before .before .base-class .given .1),
@@ -48,7 +48,7 @@ returns-5 c = rw (
 )
 
 returns-6 : tie.Need-returns-6
-unfolding readFields readField
+unfolding readFieldsBy readFieldBy
 returns-6 c = rw (
   told said16 (c .before .before .before .before .before .before .before .before .before .before .before .before .before .before .before .before .before .before .before .u16-at .ensures) (c .before .before .before .before .before .before .before .before .before .before .before .before .before .before .before .before .before .attributes .given .1),
   told saidType (c .before .before .before .before .before .before .before .before .before .before .before .before .before .before .before .type-at .ensures) (c .before .before .before .before .before .before .before .before .before .before .before .before .before .base-class .given .1),

@@ -5,10 +5,10 @@ use Rattle.replay.proofs.record_lines.list_walk.Statement.{statement}
 use Rattle.replay.proofs.record_lines.list_walk.Tie as tie
 
 abbrev Inv-loop : tie.InvT-loop
-Inv-loop s c₀ turns₀ c turns = Unit {0}
+Inv-loop s w c₀ turns₀ c turns = Unit {0}
 
 abbrev μ-loop : tie.MeasureT-loop
-μ-loop s c₀ turns₀ c turns = turns
+μ-loop s w c₀ turns₀ c turns = turns
 
 pub list-walk-spec : {M : Type 1} → statement M
 list-walk-spec =
