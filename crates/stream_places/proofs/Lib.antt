@@ -1,2 +1,5 @@
 pub mod FileLaws
+pub mod BackLaws
 pub mod PlacesLaws
+pub mod ChainLaws
+pub mod KeptProof
