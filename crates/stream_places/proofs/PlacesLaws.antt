@@ -23,7 +23,7 @@ use Rattle.stream_item.proofs.LinkLaws.{WholeAt, whole-is}
 use Rattle.stream_item.proofs.NextLaws.{passed}
 use Rattle.stream_finder.specs.Finder.{State, state, holding}
 use Rattle.stream_places.specs.File.{wordBytes, trailerBytes, wordsAt, trailerOf}
-use Rattle.stream_places.specs.Places.{ends, follows, onChain, loadFor, loadOf, trailerFor, fileOf, saveFor, saveOf, sizeIn, bufferAfter, saidSave, Saves}
+use Rattle.stream_places.specs.Places.{ends, follows, onChain, Takes, loadFor, loadOf, trailerFor, fileOf, saveFor, saveOf, sizeIn, bufferAfter, saidSave, Saves}
 use Rattle.stream_places.specs.declared.trailer.Trailer.{Trailer}
 use Rattle.stream_places.specs.declared.SaveAnswer.{SaveAnswer}
 use Rattle.stream_places.specs.declared.SaveAnswer.the-variants as save
@@ -107,6 +107,21 @@ module _ (s : List ℕ) (b : ℕ) (n : ℕ) (f : List ℕ) where
   pub follows-end : (i p q : ℕ) → n ≤ i → true ≡ follows s b p (wordsAt (n - i) f q)
   unfolding follows
   follows-end i p q l = rw (words-none n f i q l)
+
+-- ---- places that are stored if they are on the chain
+module _ (t : List ℕ) (b : Bool) (ws : List ℕ) (r : Bool) (t′ : List ℕ) where
+  pub takes : r ≡ b → r ≡ true → t′ ≡ put t 0 ws → Takes t b ws r t′
+  takes e h q = record { test = e; table = rw (sym e ∙ h) q }
+
+  pub takes-none : r ≡ b → r ≡ false → t′ ≡ t → Takes t b ws r t′
+  takes-none e h q = record { test = e; table = rw (sym e ∙ h) q }
+
+  -- and back
+  pub taken-all : Takes t b ws r t′ → r ≡ true → t′ ≡ put t 0 ws
+  taken-all w h = rw (sym (w .test) ∙ h) at (w .table)
+
+  pub taken-none : Takes t b ws r t′ → r ≡ false → t′ ≡ t
+  taken-none w h = rw (sym (w .test) ∙ h) at (w .table)
 
 -- ---- the outcomes of loading
 module _ (s f t : List ℕ) (h : Header) (k : Trailer) where

@@ -9,7 +9,7 @@ use mathlib.Core.Bool.{Bool, true, false, not}
 use mathlib.Core.List.{List, [], _∷_, _++_}
 use lib.ListN.{length, take}
 use lib.Dec.{ltb, eqb}
-use Rattle.answer.specs.Answer.{Answer, answered, refused, stop, both, then}
+use Rattle.answer.specs.Answer.{Answer, answered, refused, pick, stop, both, then}
 use Rattle.answer.specs.Refusals.{no}
 use Rattle.field_put.specs.Bytes.{put}
 use Rattle.stream_header.specs.Header.{headerOf}
@@ -37,6 +37,11 @@ follows s b p (q ∷ qs) = both (ends (chain s p b) q) (follows s b q qs)
 unfoldable pub onChain : List ℕ → ℕ → ℕ → List ℕ → Bool
 onChain s b start [] = true
 onChain s b start (q ∷ qs) = both (eqb q start) (follows s b q qs)
+
+-- the contract of a function that is lent the table t and stores the places ws first in it if the test b passes: r is the test, t′ the table after it
+pub record Takes (t : List ℕ) (b : Bool) (ws : List ℕ) (r : Bool) (t′ : List ℕ) : Type 0 where
+  pub test : r ≡ b
+  pub table : t′ ≡ pick b (put t 0 ws) t
 
 -- ---- loading
 

@@ -17,7 +17,7 @@ ghost use Rattle.field_put.specs.Bytes.{put, Room, Puts};
 ghost use Rattle.stream_item.specs.Links.{chain};
 ghost use Rattle.stream_finder.specs.Finder.{state, Fills};
 ghost use Rattle.stream_places.specs.File.{wordsAt, wordBytes, trailerBytes};
-ghost use Rattle.stream_places.specs.Places.{ends, onChain, loadFor, loadOf, saveFor, saveOf, Saves};
+ghost use Rattle.stream_places.specs.Places.{ends, onChain, Takes, loadFor, loadOf, saveFor, saveOf, Saves};
 use answer::Refusal;
 use field::fixed;
 use field::fixed::Read8;
@@ -117,10 +117,9 @@ fn loaded(s: &[u8], f: &[u8], t: &mut [u32], h: Header, k: Trailer) -> FinderAns
     if t.len() < count {
         return FinderAnswer::Refused(Refusal::TableFull);
     }
-    if !on_chain(s, f, start as usize, count, before_last(shift)) {
+    if !taken(s, f, t, start as usize, count, before_last(shift)) {
         return FinderAnswer::Refused(Refusal::OffTheChain);
     }
-    fill(f, t, count);
     FinderAnswer::Answered(ItemFinder {
         minimum_index: minimum,
         maximum_index: maximum,
@@ -179,6 +178,19 @@ fn on_chain(s: &[u8], f: &[u8], start: usize, n: usize, k: u32) -> bool
         i += 1;
     }
     true
+}
+
+// The file's n places into the table, if they are on the chain: nothing is stored before that is known of all.
+fn taken(s: &[u8], f: &[u8], t: &mut [u32], start: usize, n: usize, k: u32) -> bool
+    requires { ⌜ (4 * n ≤ length (now f)) × (n ≤ length (now t)) ⌝ }
+    ensures { λ r. ⌜ Takes (now (t .entry)) (onChain (now (s .entry)) (k + 1) start (wordsAt n (now (f .entry)) 0)) (wordsAt n (now (f .entry)) 0) r (now (t .exit)) ⌝ }
+{
+    let good = on_chain(s, f, start, n, k);
+    if good {
+        fill(f, t, n);
+        return good;
+    }
+    good
 }
 
 // The file's n places into the table.

@@ -2,14 +2,15 @@
 use borrow.Author.Needs.{needs}
 use borrow.Author.Tests.{not-true, not-false}
 use native.Mathlib.Omega.{arith}
-use Prim.Native.Nat.{ℕ, _≤_}
-use mathlib.Core.Path.{refl, sym, ap, _∙_}
+use Prim.Native.Nat.{ℕ, _+_}
+use mathlib.Core.Bool.{Bool}
+use mathlib.Core.List.{List}
+use mathlib.Core.Path.{_≡_, refl, sym, ap, _∙_}
 use denote.Ref.{now}
-use lib.ListN.{length}
 use Rattle.stream_finder.proofs.FinderLaws.{leaves}
 use Rattle.stream_places.specs.File.{wordsAt}
 use Rattle.stream_places.specs.Places.{onChain}
-use Rattle.stream_places.proofs.PlacesLaws.{Ours, load-lacks, load-minimum, load-maximum, load-bytes, load-start, load-full, load-off, load-done}
+use Rattle.stream_places.proofs.PlacesLaws.{Ours, load-lacks, load-minimum, load-maximum, load-bytes, load-start, load-full, load-off, load-done, taken-all, taken-none}
 use Rattle.stream_places.proofs.loaded.Statement.{statement}
 use Rattle.stream_places.proofs.loaded.Tie as tie
 
@@ -35,30 +36,26 @@ ours c = record { some = (sym (c .before .before .before .before .before .before
 returns-6 : tie.Need-returns-6
 returns-6 c = leaves _ _ _ _ _ (load-full _ _ _ _ _ (ours (c .before)) (omega arith)) refl refl
 
+-- the test of all places, by the block's links as 02 has them
+on-chain-as : (s f : List ℕ) (start n k b : ℕ) (r : Bool) → k + 1 ≡ b → r ≡ onChain s (k + 1) start (wordsAt n f 0) → onChain s b start (wordsAt n f 0) ≡ r
+on-chain-as s f start n k b r e h = ap (λ (x : ℕ). onChain s x start (wordsAt n f 0)) (sym e) ∙ sym h
+
 returns-7 : tie.Need-returns-7
 returns-7 c =
-    let a = c .before .before .before .before .before .before .before .before .before .before .before .before .before .before .before .before .before .before .before .args in
+    let w = c .before .before .before .taken .ensures in
     leaves _ _ _ _ _
-    (load-off _ _ _ _ _ (ours (c .before .before .before .before)) (omega arith)
-    (ap (λ (b : ℕ). onChain (now (a .s)) b (a .h .«header_size») (wordsAt (a .k .count) (now (a .f)) 0)) (sym (c .before .before .before-last .ensures)) ∙ sym (c .before .on-chain .ensures) ∙ not-true _ (c .if7 .taken)))
-    refl refl
-
-fill-requires : tie.Need-fill-requires
-fill-requires c κs =
-    let a = c .before .before .before .before .before .before .before .before .before .before .before .before .before .before .before .before .before .before .before .before .args in
-    let r : a .k .count ≤ length (now (a .t)) = omega arith in
-    (c .before .before .before .before .before .before .before .before .before .before .before .before .before .before .before .before .before .before .before .before .pre .1, r)
+    (load-off _ _ _ _ _ (ours (c .before .before .before .before .before .before .before)) (omega arith) (on-chain-as _ _ _ _ _ _ _ (c .before .before .before .before .before-last .ensures) (w .test) ∙ not-true _ (c .if7 .taken)))
+    refl (taken-none _ _ _ _ _ w (not-true _ (c .if7 .taken)))
 
 returns-8 : tie.Need-returns-8
 returns-8 c =
-    let a = c .before .before .before .before .before .before .before .before .before .before .before .before .before .before .before .before .before .before .before .before .before .before .before .args in
+    let w = c .before .before .before .taken .ensures in
     leaves _ _ _ _ _
-    (load-done _ _ _ _ _ (ours (c .before .before .before .before .before .before .before .before)) (omega arith)
-    (ap (λ (b : ℕ). onChain (now (a .s)) b (a .h .«header_size») (wordsAt (a .k .count) (now (a .f)) 0)) (sym (c .before .before .before .before .before .before .before-last .ensures)) ∙ sym (c .before .before .before .before .before .on-chain .ensures) ∙ not-false _ (c .before .before .before .before .if7 .left)))
-    refl (c .before .before .fill .ensures)
+    (load-done _ _ _ _ _ (ours (c .before .before .before .before .before .before .before)) (omega arith) (on-chain-as _ _ _ _ _ _ _ (c .before .before .before .before .before-last .ensures) (w .test) ∙ not-false _ (c .if7 .left)))
+    refl (taken-all _ _ _ _ _ w (not-false _ (c .if7 .left)))
 
 pub loaded-spec : {M : Type 1} → statement M
 loaded-spec =
     tie.close (tie.spec
     (λ c. search needs) (λ c. search needs) (λ c κs. search needs) returns returns-2 returns-3 (λ c. search needs) returns-4 returns-5 returns-6
-    (λ c. search needs) (λ c κs. search needs) (λ c κs. search needs) returns-7 fill-requires (λ c. search needs) returns-8)
+    (λ c. search needs) (λ c κs. search needs) (λ c κs. search needs) (λ c. search needs) returns-7 (λ c. search needs) returns-8)
