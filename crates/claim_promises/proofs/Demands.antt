@@ -2,6 +2,7 @@
 use Rattle.claim_model.proofs.Demand2.{demand2}
 use Rattle.stream_finder.proofs.DemandProof.{demand3, demand3-every, not-indexed, not-indexed-every}
 use Rattle.stream_finder.proofs.SharedProof.{shared}
+use Rattle.stream_places.proofs.KeptProof.{load-serves, round-trip, one-encoding}
 use Rattle.claim_promises.proofs.Demand1.{demand1}
 use Rattle.claim_promises.proofs.ExactlyWhen.{exactly-when}
 use Rattle.claim_promises.proofs.Examples.{examples-hold}
@@ -18,6 +19,9 @@ demands = record {
   third-every = demand3-every;
   exactly-if-every = not-indexed-every;
   shared-by-many = shared;
+  loaded = load-serves;
+  saved-and-loaded = round-trip;
+  one-file = one-encoding;
   shown = examples-hold;
   one = one-outcome;
 }

@@ -1,6 +1,7 @@
 pub mod ByTable
 pub mod ReadingRefuses
 pub mod StreamRefuses
+pub mod PlacesRefuse
 pub mod LeftAlone
 pub mod Demand1
 pub mod Given
