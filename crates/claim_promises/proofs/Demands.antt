@@ -5,6 +5,7 @@ use Rattle.stream_finder.proofs.SharedProof.{shared}
 use Rattle.stream_places.proofs.KeptProof.{load-serves, round-trip, one-encoding}
 use Rattle.claim_promises.proofs.Demand1.{demand1}
 use Rattle.claim_promises.proofs.ExactlyWhen.{exactly-when}
+use Rattle.claim_promises.proofs.PlacesWhen.{places-when}
 use Rattle.claim_promises.proofs.Examples.{examples-hold}
 use Rattle.claim_promises.proofs.OneOutcome.{one-outcome}
 use Rattle.claim_promises.specs.Demands.{Demands}
@@ -22,6 +23,7 @@ demands = record {
   loaded = load-serves;
   saved-and-loaded = round-trip;
   one-file = one-encoding;
+  given-places = places-when;
   shown = examples-hold;
   one = one-outcome;
 }

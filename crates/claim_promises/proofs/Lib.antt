@@ -8,6 +8,7 @@ pub mod Given
 pub mod GivenStreams
 pub mod GivenReading
 pub mod ExactlyWhen
+pub mod PlacesWhen
 pub mod Idle
 pub mod Examples
 pub mod OneOutcome

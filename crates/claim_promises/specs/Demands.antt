@@ -9,6 +9,7 @@ use Rattle.stream_finder.specs.Shared.{Shared}
 use Rattle.stream_places.specs.Kept.{LoadServes, RoundTrip, OneEncoding}
 use Rattle.claim_promises.specs.Demand1.{Demand1}
 use Rattle.claim_promises.specs.ExactlyWhen.{ExactlyWhen}
+use Rattle.claim_promises.specs.PlacesWhen.{PlacesWhen}
 use Rattle.claim_promises.specs.Examples.{examples, asked, given as answers}
 use Rattle.claim_promises.specs.OneOutcome.{OneOutcome}
 
@@ -37,6 +38,8 @@ pub record Demands : Type 1 where
   pub loaded : LoadServes
   pub saved-and-loaded : RoundTrip
   pub one-file : OneEncoding
+  -- and when each of its numbers is given: PlacesWhen.antt
+  pub given-places : PlacesWhen
   -- "P marks those proved, together as one statement over their list": Examples.antt
   pub shown : map asked examples ≡ map answers examples
   -- "For each, show that the contract admits one outcome": OneOutcome.antt
