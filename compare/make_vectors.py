@@ -13,13 +13,14 @@ Where an expected line comes from:
   and an array shows its size and its name, where the crate shows dimensions: both lines are layouts.py's, held to the crate's answer by same_record.
 - A known difference: document 01's or 02's line, worked out by layouts.py or written out below, with the name of its line in docs/DIFFERENCES.md.
 - A command that the crate cannot be asked (next, create, update, findin, maxindex, view, marker, element, idelement, and all that end in `by`): 01's
-  rule, with 02's R-7 for a shift, written again below beside its sentence, in Python, apart from the Rattle sources.
+  rule, with 02's R-7 for a shift, written again below beside its sentence, in Python, apart from the Rattle sources; `save` and `load`: 02's R-3,
+  written again in places.py.
 - A command whose BYTES are none: `? bytes`, by PROTOCOL.md's sentence, written again below.
 - 01's examples and 02's words: their lines, written out below. They must be what the rules above give too.
 
 No expected line is taken from REPLAY. It is run at the end, and must answer every line. The exit status is 1, and nothing is written, if an answer
 of the crate is not explained, if an example fails, if REPLAY answers otherwise or has no call of some public function, or if the list lacks one of:
-a command of PROTOCOL.md; a number 0 to 16, or 26; every shift 0 to 7; a leaf of 01; every prefix of a good record of every leaf; a record of the crate's tests; the largest
+a command of PROTOCOL.md; a number 0 to 16, 19 to 22, or 26; every shift 0 to 7; a leaf of 01; every prefix of a good record of every leaf; a record of the crate's tests; the largest
 counts; a table exactly full and one short; bytes that are none, in every way, and as many bytes as there may be.
 """
 import os
@@ -33,6 +34,7 @@ sys.path.insert(0, os.path.dirname(os.path.abspath(__file__)))
 import compare
 import layouts
 import make_inputs
+import places
 from compare import TOP, blob
 
 HERE = os.path.dirname(os.path.abspath(__file__))
@@ -308,6 +310,10 @@ def by_rule(words, primitive):
         return str(highest(int(n[1]), int(n[3]), int(n[0])))
     if kind == "findby":
         return find_by_lines(blob(n[1]), int(n[0]), n[2], n[3])
+    if kind == "save":
+        return places.save_line(int(n[0]), int(n[1]), blob(n[2]), int(n[3]), int(n[4]), int(n[5]), table_of(n[6]))
+    if kind == "load":
+        return places.load_line(blob(n[0]), blob(n[1]), table_of(n[2]))
     if kind == "view":
         return view_line(blob(n[0] if n[2] == "t" else n[1]), int(n[3]), int(n[4]))
     if kind == "marker":
@@ -334,13 +340,14 @@ def by_rule(words, primitive):
 
 
 PORT_ONLY = ("next", "create", "update", "findin", "maxindex", "view", "marker", "element", "idelement", "count", "cross", "item",
-             "membername", "idat", "createby", "updateby", "findinby", "maxindexby", "findby", "wunsigned", "wsigned", "wtype", "welement")
+             "membername", "idat", "createby", "updateby", "findinby", "maxindexby", "findby", "wunsigned", "wsigned", "wtype", "welement", "save", "load")
 
 
 # ---- words that should be BYTES ----
 
 # Where a command has its BYTES, the command itself being word 0; most have them as word 1.
-BYTES_AT = {**dict.fromkeys(("itemtype", "itemid", "string", "element", "idelement", "idat", "membername", "createby", "findinby", "findby", "welement"), (2,)), "view": (1, 2),
+BYTES_AT = {**dict.fromkeys(("itemtype", "itemid", "string", "element", "idelement", "idat", "membername", "createby", "findinby", "findby", "welement"), (2,)),
+            "view": (1, 2), "load": (1, 2), "save": (3,),
             **dict.fromkeys(("prim", "word", "opttype", "optid", "update", "maxindex", "updateby", "maxindexby", "marker", "cross", "item"), ())}
 MOST_BYTES = 65536
 
@@ -502,7 +509,7 @@ NO_COMMANDS = ["frobnicate", "antidisestablishmentarianism 12"]
 # Words that should be bytes and are not: another letter, upper case, half a byte, a minus too many, a file, none at all, one byte too many.
 NO_BYTES = [f"{kind} {word}" for kind in ("header", "kind", "type") for word in
             ("zz", "0g", "011", "0", "01z", "0B", "0110AA", "--", "-00", "00-", "@e.tpi", "01,02", "")]
-NO_BYTES += ["createby 3 0 7", "findby 3 0g 0 0", "findinby 3 zz 4096 4120 0 - 4096", "find zz 0 0,1", "find 0 3 4096", "next 001 0 0", "create 0 7", "findin zz 4096 4120 0 - 4096", "view 0 01 t 0 0", "view 01 0 t 0 0",
+NO_BYTES += ["save 99 3 0 4096 4098 1 56", "load 0 - 7", "load - zz 7", "createby 3 0 7", "findby 3 0g 0 0", "findinby 3 zz 4096 4120 0 - 4096", "find zz 0 0,1", "find 0 3 4096", "next 001 0 0", "create 0 7", "findin zz 4096 4120 0 - 4096", "view 0 01 t 0 0", "view 01 0 t 0 0",
              "view zz zz i 0 0", "view 01", "string 4611 4", "element 0 031", "itemtype 4096 0X10", "membername 0 0", "count 5",
              "padding " + "00" * (MOST_BYTES + 1)]
 MOST = "padding " + "f1" * MOST_BYTES
@@ -842,6 +849,93 @@ def stream_commands(rng):
             yield f"{'findids' if ids else 'find'} {s.hex()} {(high - low) // 2} {low},{(low + high) // 2 + 9},{high - 1}"
 
 
+# ---- places files: 02's R-3 ----
+
+def place_streams():
+    """Streams to keep the places of: E; one of 70 records, short ones and one of no byte; one whose chain breaks after 13; one that counts no record
+    and has some; a header alone; the empty stream."""
+    seventy = header(4096, 4166) + b"".join(struct.pack("<H", n) + bytes(n) for n in (k % 5 for k in range(70)))
+    broken = header(4096, 4120) + b"".join(struct.pack("<H", 2) + bytes(2) for _ in range(13)) + b"\x09\x00\x01"
+    uncounted = header(4096, 4096) + struct.pack("<H", 3) + bytes(3)
+    return [E, seventy, broken, uncounted, header(4096, 4096), b""]
+
+
+def place_commands():
+    def load(s, file, t):
+        return f"load {hexed(s)} {hexed(file)} {','.join(str(n) for n in t) or '-'}"
+
+    def save(room, shift, s, low, high, held, t):
+        return f"save {room} {shift} {hexed(s)} {low} {high} {held} {','.join(str(n) for n in t) or '-'}"
+
+    for s in place_streams():
+        low, high, size = places.header(s)
+        for shift in SHIFTS:
+            p = places.walked(s, min(shift, 6))
+            whole = 4 * len(p) + 28
+            # room exactly, one byte short, more; a table exactly as long, longer, one short; other bounds; a claim
+            yield from (save(room, shift, s, low, high, len(p), p + [7]) for room in (whole, whole - 1, whole + 5, 0))
+            yield save(whole, shift, s, low, high, len(p), p)
+            yield from (save(70000, shift, s, low, high, held, p) for held in (len(p) + 1, 65535, 65536, 2 ** 64 - 1))
+            yield from (save(0, shift, s, low + a, high + b, len(p) + 1, p) for a, b in ((1, 0), (0, 1), (1, 1)))
+            yield save(whole, shift, s, low, high, 0, p)
+            file = places.file_of(p, shift, low, high, len(s), size)
+            yield from (load(s, file, t) for t in ([9] * len(p), [9] * (len(p) + 2), [9] * max(len(p) - 1, 0), []))
+            # the first places alone, and none
+            for n in range(min(len(p), 3)):
+                yield load(s, places.file_of(p[:n], shift, low, high, len(s), size), [9] * 3)
+            # a place of its own kind of wrong: one link on, one byte on or back, the one before it, past the end
+            for k in sorted({0, 1, len(p) - 1} & set(range(len(p)))):
+                for other in (places.links(s, p[k], 1), p[k] + 1, p[k] - 1, p[k - 1], len(s), 2 ** 32 - 1):
+                    if other is not None:
+                        yield load(s, places.file_of(p[:k] + [other] + p[k + 1:], shift, low, high, len(s), size), [9] * len(p))
+            # one place more than the chain has
+            yield load(s, places.file_of(p + [len(s)], shift, low, high, len(s), size), [9] * (len(p) + 1))
+    # every byte of a good trailer changed; the file cut at every length, at both ends, and longer
+    for s, shift in ((E, 3), (E, 0), (place_streams()[1], 4), (header(4096, 4096), 3), (b"", 3)):
+        low, high, size = places.header(s)
+        p = places.walked(s, shift)
+        file = places.file_of(p, shift, low, high, len(s), size)
+        for at in range(len(file)):
+            for change in (1, 0x80, 0xff) if at >= len(file) - 28 else (1,):
+                yield load(s, file[:at] + bytes([file[at] ^ change]) + file[at + 1:], [9] * len(p))
+        yield from (load(s, file[:n], [9] * len(p)) for n in range(len(file)))
+        yield from (load(s, file[n:], [9] * len(p)) for n in range(1, len(file)))
+        yield from (load(s, other, [9] * len(p)) for other in (file + b"\x00", b"\x00" + file, file + file, bytes(4) + file))
+    # the order of every pair: the stream's own, 20, 21, 13, 22
+    good, low, high = place_streams()[1], 4096, 4166
+    own = {"header small": header(4096, 4166, 55) + good[56:], "too few bytes": good[:40], "maximum low": header(4096, 4095) + good[56:]}
+    for shift in (3, 5):
+        p = places.walked(good, shift)
+        wrong = {"letters": lambda f: f[:-1] + b"Y", "zero": lambda f: f[:-25] + b"\x01" + f[-24:], "shift": lambda f: f[:-26] + b"\x07" + f[-25:],
+                 "distance": lambda f: f[:-8] + struct.pack("<I", len(f) - 4) + f[-4:], "count": lambda f: f[:-28] + struct.pack("<H", len(p) + 1) + f[-26:]}
+        other = {"minimum": (low + 1, high, len(good), 56), "maximum": (low, high + 1, len(good), 56), "length": (low, high, len(good) + 1, 56),
+                 "header size": (low, high, len(good), 60), "none": (low, high, len(good), 56)}
+        for their, (a, b, n, size) in other.items():
+            for off in (False, True):
+                file = places.file_of(p[:1] + [q + 1 for q in p[1:]] if off else p, shift, a, b, n, size)
+                for t in ([9] * len(p), [9] * (len(p) - 1)):
+                    yield load(good, file, t)
+                    yield from (load(good, change(file), t) for change in wrong.values())
+                    yield from (load(s, file, t) for s in own.values())
+                    yield from (load(s, wrong["letters"](file), t) for s in own.values())
+        # and of the writer: the stream's own, 21, 26, 13, 19
+        for s in [good] + list(own.values()):
+            for a, b in ((low, high), (low + 1, high), (low, high - 1)):
+                for by in (shift, 7):
+                    for held in (len(p), len(p) + 1):
+                        for room in (4 * held + 28, 4 * held + 27):
+                            yield save(room, by, s, a, b, held, p)
+    # places that a finder holds of a stream of the samples, saved and loaded
+    for name in ("plain-x64.tpi", "rich-x64.ipi", "hand.tpi"):
+        with open(os.path.join(HERE, "..", "samples", name), "rb") as f:
+            s = f.read()
+        low, high, size = places.header(s)
+        for shift in range(7):
+            p = places.walked(s, shift)
+            yield save(70000, shift, s, low, high, len(p), p)
+            yield load(s, places.file_of(p, shift, low, high, len(s), size), [0] * len(p))
+
+
 # ---- what the list must have ----
 
 def numbers_in(words, lines):
@@ -911,7 +1005,7 @@ def lacking(vectors):
         if not any(c.startswith(f"word {word} ") for c in asked):
             yield f"word {word}"
     numbers = {n for c, lines in vectors if c not in NO_COMMANDS + NO_BYTES for n in numbers_in(c.split(), lines)}
-    for n in (set(range(17)) | {26}) - numbers:
+    for n in (set(range(17)) | {19, 20, 21, 22, 26}) - numbers:
         yield f"number {n}"
     for kind in ("createby", "updateby", "findinby", "maxindexby", "findby"):
         for shift in SHIFTS:
@@ -965,7 +1059,7 @@ def main():
     make_inputs.rng.seed(seed)
     rng = make_inputs.rng
     commands = [c for c, _ in EXAMPLES] + NO_COMMANDS + NO_BYTES + [MOST] + list(small_commands()) + list(record_commands(rng)) + list(word_commands(rng)) + list(stream_commands(rng))
-    commands += [c for c, _ in CVINFO] + [c for c, _ in FORMS] + list(form_commands())
+    commands += [c for c, _ in CVINFO] + [c for c, _ in FORMS] + list(form_commands()) + list(place_commands())
     commands = list(dict.fromkeys(commands))
     problems = compare.listed()
     crate = [c for c in commands if c.split()[0] not in PORT_ONLY and (c in NO_COMMANDS or not no_bytes(c.split()))]

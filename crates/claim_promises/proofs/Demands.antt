@@ -4,8 +4,10 @@ use Rattle.record_layout.proofs.AsIn01.{as-in-01}
 use Rattle.claim_model.proofs.Demand2.{demand2}
 use Rattle.stream_finder.proofs.DemandProof.{demand3, demand3-every, not-indexed, not-indexed-every}
 use Rattle.stream_finder.proofs.SharedProof.{shared}
+use Rattle.stream_places.proofs.KeptProof.{load-serves, round-trip, one-encoding}
 use Rattle.claim_promises.proofs.Demand1.{demand1}
 use Rattle.claim_promises.proofs.ExactlyWhen.{exactly-when}
+use Rattle.claim_promises.proofs.PlacesWhen.{places-when}
 use Rattle.claim_promises.proofs.Examples.{examples-hold}
 use Rattle.claim_promises.proofs.OneOutcome.{one-outcome}
 use Rattle.claim_promises.specs.Demands.{Demands}
@@ -24,6 +26,10 @@ demands = record {
   width-said = width-said;
   numbers-as-before = as-before;
   layouts-as-before = as-in-01;
+  loaded = load-serves;
+  saved-and-loaded = round-trip;
+  one-file = one-encoding;
+  given-places = places-when;
   shown = examples-hold;
   one = one-outcome;
 }

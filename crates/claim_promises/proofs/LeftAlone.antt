@@ -12,6 +12,8 @@ use Rattle.stream_finder.specs.declared.FinderAnswer.{FinderAnswer}
 use Rattle.stream_finder.specs.declared.lent.UpdateAnswer.{UpdateAnswer}
 use Rattle.stream_index.specs.Walk.{Turn, over, moved, saidTurn, turnTable, Leads}
 use Rattle.stream_index.specs.declared.TurnAnswer.{TurnAnswer}
+use Rattle.stream_places.specs.Places.{sizeIn, bufferAfter, saidSave, Saves}
+use Rattle.stream_places.specs.declared.SaveAnswer.{SaveAnswer}
 use Rattle.record_list.specs.Lists.{Step}
 use Rattle.record_list.specs.Said.{saidElement}
 use Rattle.record_list.specs.declared.ListCursor.{ListCursor}
@@ -42,6 +44,14 @@ turn-of t (refused m x) n d e = refl
 
 pub leads-nowhere : (t : List ℕ) (a : Answer Turn) (r : TurnAnswer) (t′ : List ℕ) (n : ℕ) (d : List ℕ) → Leads t a r t′ → saidTurn r t′ ≡ refused n d → t′ ≡ t
 leads-nowhere t a r t′ n d l e = l .table ∙ turn-of t a n d (sym (l .answer) ∙ e)
+
+-- the buffer, after a places file that was not written
+buffer-of : (o : List ℕ) (a : Answer (List ℕ)) (n : ℕ) (d : List ℕ) → sizeIn a ≡ refused n d → bufferAfter o a ≡ o
+buffer-of o (answered bs) n d e = let z : _≡_ {A = ℕ} 0 1 = cc in absurd (omega arith)
+buffer-of o (refused m x) n d e = refl
+
+pub saves-nothing : (o : List ℕ) (a : Answer (List ℕ)) (r : SaveAnswer) (o′ : List ℕ) (n : ℕ) (d : List ℕ) → Saves o a r o′ → saidSave r ≡ refused n d → o′ ≡ o
+saves-nothing o a r o′ n d l e = l .buffer ∙ buffer-of o a n d (sym (l .answer) ∙ e)
 
 -- the cursor, after a step of a lent list reader
 cursor-of : (c : ListCursor) (a : Answer Step) (n : ℕ) (d : List ℕ) → elementIn a ≡ refused n d → cursorAfter c a ≡ c

@@ -1,12 +1,14 @@
 pub mod ByTable
 pub mod ReadingRefuses
 pub mod StreamRefuses
+pub mod PlacesRefuse
 pub mod LeftAlone
 pub mod Demand1
 pub mod Given
 pub mod GivenStreams
 pub mod GivenReading
 pub mod ExactlyWhen
+pub mod PlacesWhen
 pub mod Idle
 pub mod Examples
 pub mod OneOutcome

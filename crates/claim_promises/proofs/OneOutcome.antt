@@ -13,7 +13,12 @@ use Rattle.word_attributes.proofs.OneOutcome.{one-kind as one-pointer-kind, one
 use Rattle.stream_header.proofs.OneOutcome.{one-header}
 use Rattle.stream_item.proofs.OneOutcome.{one-iter, one-next, one-len, one-empty}
 use Rattle.stream_view.proofs.OneOutcome.{one-view, one-entry-view, one-kind}
+use Rattle.field_put.specs.Bytes.{bytes}
+use Rattle.field_put.proofs.OneOutcome.{one-lays}
 use Rattle.stream_finder.proofs.OneOutcome.{one-change, one-find, one-fills}
+use Rattle.stream_places.specs.Places.{loadOf, saveOf}
+use Rattle.stream_places.proofs.OneOutcome.{one-trailer, one-saves}
+use lib.ListN.{length}
 use Rattle.stream_index.proofs.OneOutcome.{one-leads}
 use Rattle.stream_index.proofs.OneWalk.{one-walks, one-indexes}
 use Rattle.record_id.proofs.OneOutcome.{one-id as one-id-data}
@@ -75,6 +80,10 @@ one-outcome = record {
   field-run-bytes-at = λ s p n r q a b. a ∙ sym b;
   field-number-number-at = λ s p r q a b. one-variant r q (a ∙ sym b);
   field-number-size-at = λ s p r q a b. one-size r q (a ∙ sym b);
+  field-put-put8 = λ out p x. one-lays out p (bytes 1 x);
+  field-put-put16 = λ out p x. one-lays out p (bytes 2 x);
+  field-put-put32 = λ out p x. one-lays out p (bytes 4 x);
+  field-put-put-all = λ out p xs. one-lays out p xs;
   field-text-string-at = λ s p r q a b. one-string r q (a ∙ sym b);
   field-text-raw-string-bytes = λ self s r q a b. a ∙ sym b;
   field-text-string-of = λ leaf s p r q a b. one-string r q (a ∙ sym b);
@@ -120,6 +129,9 @@ one-outcome = record {
   stream-item-iter-iter = λ stream s r q a b. one-iter r q (a ∙ sym b);
   stream-item-iter-next = λ s c r q a b. one-next r q (a ∙ sym b);
   stream-item-link-link-of = λ s p k r q a b. a ∙ sym b;
+  stream-places-load = λ s f t. one-fills t (loadOf s f t);
+  stream-places-save = λ s f t out. one-saves out (saveOf s (state f t) (length out));
+  stream-places-trailer-trailer-parse = λ f r q a b. one-trailer r q (a ∙ sym b);
   stream-view-bytes-of = λ tpi ipi entry r q a b. a ∙ sym b;
   stream-view-view = λ tpi ipi entry r q a b. one-entry-view r q a b;
   stream-view-why = λ tpi ipi entry r q a b. one-view r q (a ∙ sym b);

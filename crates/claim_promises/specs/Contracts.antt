@@ -2,6 +2,7 @@
 use Prim.Native.Nat.{_-_, ℕ}
 use denote.Ref.{RefT, now}
 use lib.Dec.{eqb, leb}
+use lib.ListN.{length}
 use mathlib.Core.Bool.{Bool}
 use mathlib.Core.List.{List}
 use mathlib.Core.Path.{_≡_}
@@ -29,6 +30,7 @@ use Rattle.field.specs.declared.run.After.{After}
 use Rattle.field_number.specs.Forms.{numeralAt, saidSize as saidSize-of-field-number, saidVariant, sizedAt}
 use Rattle.field_number.specs.declared.ReadSize.{ReadSize}
 use Rattle.field_number.specs.declared.ReadVariant.{ReadVariant}
+use Rattle.field_put.specs.Bytes.{Lays, bytes}
 use Rattle.field_text.specs.Texts.{paddingAfter, saidString, stringAt, stringOf, stringOption}
 use Rattle.field_text.specs.declared.OptString.{OptString}
 use Rattle.field_text.specs.declared.RawString.{RawString}
@@ -83,6 +85,10 @@ use Rattle.stream_item.specs.declared.iter.ItemIter.{ItemIter}
 use Rattle.stream_item.specs.declared.iter.IterAnswer.{IterAnswer}
 use Rattle.stream_item.specs.declared.iter.NextAnswer.{NextAnswer}
 use Rattle.stream_item.specs.declared.link.Hit.{Hit}
+use Rattle.stream_places.specs.File.{saidTrailer, trailerOf}
+use Rattle.stream_places.specs.Places.{Saves, loadOf, saveOf}
+use Rattle.stream_places.specs.declared.SaveAnswer.{SaveAnswer}
+use Rattle.stream_places.specs.declared.trailer.TrailerAnswer.{TrailerAnswer}
 use Rattle.stream_view.specs.Views.{rawKindOf, saidRawKind, saidView, viewBytes, viewOf}
 use Rattle.stream_view.specs.declared.EntryView.{EntryView}
 use Rattle.stream_view.specs.declared.RawKindAnswer.{RawKindAnswer}
@@ -178,6 +184,22 @@ field-number-number-at s p r = saidVariant r ≡ numeralAt s p
 -- field_number::size_at
 abbrev pub field-number-size-at : (s : List ℕ) (p : ℕ) → ReadSize → Type 0
 field-number-size-at s p r = saidSize-of-field-number r ≡ sizedAt s p
+
+-- field_put::put8
+abbrev pub field-put-put8 : (out : List ℕ) (p : ℕ) (x : ℕ) → ℕ → List ℕ → Type 0
+field-put-put8 out p x r out′ = Lays out p (bytes 1 x) r out′
+
+-- field_put::put16
+abbrev pub field-put-put16 : (out : List ℕ) (p : ℕ) (x : ℕ) → ℕ → List ℕ → Type 0
+field-put-put16 out p x r out′ = Lays out p (bytes 2 x) r out′
+
+-- field_put::put32
+abbrev pub field-put-put32 : (out : List ℕ) (p : ℕ) (x : ℕ) → ℕ → List ℕ → Type 0
+field-put-put32 out p x r out′ = Lays out p (bytes 4 x) r out′
+
+-- field_put::put_all
+abbrev pub field-put-put-all : (out : List ℕ) (p : ℕ) (xs : List ℕ) → ℕ → List ℕ → Type 0
+field-put-put-all out p xs r out′ = Lays out p xs r out′
 
 -- field_text::string_at
 abbrev pub field-text-string-at : (s : List ℕ) (p : ℕ) → ReadString → Type 0
@@ -358,6 +380,18 @@ stream-item-iter-next s c r = saidNext r ≡ nextOf s c
 -- stream_item::link::link_of
 abbrev pub stream-item-link-link-of : (s : List ℕ) (p : ℕ) (k : ℕ) → Hit → Type 0
 stream-item-link-link-of s p k r = r ≡ linkOf s p k
+
+-- stream_places::load
+abbrev pub stream-places-load : (s : List ℕ) (f : List ℕ) (t : List ℕ) → FinderAnswer → List ℕ → Type 0
+stream-places-load s f t r t′ = Fills t (loadOf s f t) r t′
+
+-- stream_places::save
+abbrev pub stream-places-save : (s : List ℕ) (f : ItemFinder) (t : List ℕ) (out : List ℕ) → SaveAnswer → List ℕ → Type 0
+stream-places-save s f t out r out′ = Saves out (saveOf s (state f t) (length out)) r out′
+
+-- stream_places::trailer::Trailer::parse
+abbrev pub stream-places-trailer-trailer-parse : (f : List ℕ) → TrailerAnswer → Type 0
+stream-places-trailer-trailer-parse f r = saidTrailer r ≡ trailerOf f
 
 -- stream_view::bytes_of
 abbrev pub stream-view-bytes-of : (tpi : List ℕ) (ipi : List ℕ) (entry : Entry) → List ℕ → Type 0

@@ -7,6 +7,7 @@ use Prim.Native.Nat.{ℕ}
 use mathlib.Core.Bool.{true}
 use mathlib.Core.Path.{_≡_}
 use mathlib.Core.List.{List, [], _∷_}
+use lib.ListN.{length}
 use Rattle.answer.specs.Answer.{refused}
 use Rattle.answer.specs.Refusals.{numberOf, detailsOf, no, listed}
 use Rattle.answer.specs.declared.Refusal.{Refusal}
@@ -36,6 +37,9 @@ use Rattle.stream_index.specs.declared.Tour.{Tour}
 use Rattle.stream_index.specs.declared.End.the-variants as end
 use Rattle.stream_index.specs.declared.TurnAnswer.{TurnAnswer}
 use Rattle.stream_index.specs.declared.IndexAnswer.the-variants as walk
+use Rattle.stream_places.specs.File.{trailerOf}
+use Rattle.stream_places.specs.Places.{loadOf, saveOf, saidSave, Saves}
+use Rattle.stream_places.specs.declared.SaveAnswer.{SaveAnswer}
 use Rattle.record_layout.specs.Fields.{readFields}
 use Rattle.record_layout.specs.Layouts.{typeLeaves, memberLeaves, method, idLeaves, readRecord, recordOf}
 use Rattle.record_list.specs.Lists.{startOf, stepOf, elementBy, elementOf}
@@ -83,6 +87,10 @@ pub record Demand1 : Type 0 where
   pub updates : (σ : State) (c : ItemIter) → Refuses (16 ∷ 26 ∷ 13 ∷ 14 ∷ []) (updateOf σ c)
   pub finds : (s : List ℕ) (σ : State) (i : ItemIndex) → FindRefuses (16 ∷ 26 ∷ 13 ∷ 8 ∷ 9 ∷ 1 ∷ []) (findOf s σ i)
   pub turns : (s : List ℕ) (σ : State) (c : ItemIter) → Refuses (16 ∷ 1 ∷ 6 ∷ 7 ∷ 26 ∷ 13 ∷ 14 ∷ []) (turnOf s σ c)
+  -- document 02, R-3: a places file's trailer, its loading for a stream, and the writer
+  pub trailers : (f : List ℕ) → Refuses (20 ∷ []) (trailerOf f)
+  pub loads : (s f t : List ℕ) → Refuses (16 ∷ 1 ∷ 2 ∷ 3 ∷ 4 ∷ 5 ∷ 20 ∷ 21 ∷ 13 ∷ 22 ∷ []) (loadOf s f t)
+  pub saves : (s : List ℕ) (σ : State) (room : ℕ) → Refuses (16 ∷ 1 ∷ 2 ∷ 3 ∷ 4 ∷ 5 ∷ 21 ∷ 26 ∷ 13 ∷ 19 ∷ []) (saveOf s σ room)
   -- records, members, methods, and entries of a stream
   pub types : (s : List ℕ) → Refuses (1 ∷ 10 ∷ 11 ∷ 12 ∷ []) (recordOf typeLeaves s)
   pub ids : (s : List ℕ) → Refuses (1 ∷ 10 ∷ []) (recordOf idLeaves s)
@@ -101,6 +109,10 @@ pub record Demand1 : Type 0 where
   pub create-keeps : (shift : ℕ) (s t : List ℕ) (r : FinderAnswer) (t′ : List ℕ) (n : ℕ) (d : List ℕ) → Fills t (createBy shift s t) r t′ → saidFinder r ≡ refused n d → t′ ≡ t
   pub update-keeps : (f : ItemFinder) (t : List ℕ) (c : ItemIter) (r : FinderAnswer) (t′ : List ℕ) (n : ℕ) (d : List ℕ)
       → Fills t (updateOf (state f t) c) r t′ → saidFinder r ≡ refused n d → t′ ≡ t
+  -- the table, lent to `load`, and the buffer, lent to `save`
+  pub load-keeps : (s f t : List ℕ) (r : FinderAnswer) (t′ : List ℕ) (n : ℕ) (d : List ℕ) → Fills t (loadOf s f t) r t′ → saidFinder r ≡ refused n d → t′ ≡ t
+  pub save-keeps : (s : List ℕ) (σ : State) (o : List ℕ) (r : SaveAnswer) (o′ : List ℕ) (n : ℕ) (d : List ℕ)
+      → Saves o (saveOf s σ (length o)) r o′ → saidSave r ≡ refused n d → o′ ≡ o
   pub turn-keeps : (s : List ℕ) (f : ItemFinder) (t : List ℕ) (c : ItemIter) (r : TurnAnswer) (t′ : List ℕ) (n : ℕ) (d : List ℕ)
       → Leads t (turnOf s (state f t) c) r t′ → saidTurn r t′ ≡ refused n d → t′ ≡ t
   pub index-all-keeps : (shift : ℕ) (tag : Stream) (s t : List ℕ) (e : Refusal) (t′ : List ℕ) → IndexesBy shift tag s t (walk.Refused e) t′ → t′ ≡ t

@@ -8,8 +8,10 @@ use Rattle.record_layout.specs.Fields.{AsIn01}
 use Rattle.claim_model.specs.Demand2.{Demand2}
 use Rattle.stream_finder.specs.Demand.{Demand3, Demand3Every, NotIndexed, NotIndexedEvery}
 use Rattle.stream_finder.specs.Shared.{Shared}
+use Rattle.stream_places.specs.Kept.{LoadServes, RoundTrip, OneEncoding}
 use Rattle.claim_promises.specs.Demand1.{Demand1}
 use Rattle.claim_promises.specs.ExactlyWhen.{ExactlyWhen}
+use Rattle.claim_promises.specs.PlacesWhen.{PlacesWhen}
 use Rattle.claim_promises.specs.Examples.{examples, asked, given as answers}
 use Rattle.claim_promises.specs.OneOutcome.{OneOutcome}
 
@@ -39,6 +41,13 @@ pub record Demands : Type 1 where
   pub width-said : WidthSaid
   pub numbers-as-before : AsBefore
   pub layouts-as-before : AsIn01
+  -- document 02, R-3: a loaded finder is one "for which demand 3 reads with N = 2^s × (places − 1)"; what was saved is loaded as it was; of a file that
+  -- is loaded, saving gives that file: crates/stream_places/specs/Kept.antt
+  pub loaded : LoadServes
+  pub saved-and-loaded : RoundTrip
+  pub one-file : OneEncoding
+  -- and when each of its numbers is given: PlacesWhen.antt
+  pub given-places : PlacesWhen
   -- "P marks those proved, together as one statement over their list": Examples.antt
   pub shown : map asked examples ≡ map answers examples
   -- "For each, show that the contract admits one outcome": OneOutcome.antt

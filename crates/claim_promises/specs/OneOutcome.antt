@@ -7,6 +7,7 @@ use mathlib.Core.Path.{_≡_}
 use Rattle.answer.specs.declared.Refusal.{Refusal}
 use Rattle.field.specs.declared.index.IdIndex.{IdIndex}
 use Rattle.field.specs.declared.index.TypeIndex.{TypeIndex}
+use Rattle.field_put.specs.Bytes.{bytes}
 use Rattle.field_text.specs.declared.RawString.{RawString}
 use Rattle.record_data.specs.declared.TypeData.{TypeData}
 use Rattle.record_list.specs.declared.ListCursor.{ListCursor}
@@ -61,6 +62,11 @@ pub record OneOutcome : Type 1 where
   -- field_number
   pub field-number-number-at : (s : List ℕ) (p : ℕ) → Once (contract.field-number-number-at s p)
   pub field-number-size-at : (s : List ℕ) (p : ℕ) → Once (contract.field-number-size-at s p)
+  -- field_put
+  pub field-put-put8 : (out : List ℕ) (p : ℕ) (x : ℕ) → OnceLent (contract.field-put-put8 out p x)
+  pub field-put-put16 : (out : List ℕ) (p : ℕ) (x : ℕ) → OnceLent (contract.field-put-put16 out p x)
+  pub field-put-put32 : (out : List ℕ) (p : ℕ) (x : ℕ) → OnceLent (contract.field-put-put32 out p x)
+  pub field-put-put-all : (out : List ℕ) (p : ℕ) (xs : List ℕ) → OnceLent (contract.field-put-put-all out p xs)
   -- field_text
   pub field-text-string-at : (s : List ℕ) (p : ℕ) → Once (contract.field-text-string-at s p)
   pub field-text-raw-string-bytes : (self : RawString) (s : List ℕ) → Once (contract.field-text-raw-string-bytes self s)
@@ -117,6 +123,10 @@ pub record OneOutcome : Type 1 where
   pub stream-item-iter-iter : (stream : Stream) (s : List ℕ) → Once (contract.stream-item-iter-iter stream s)
   pub stream-item-iter-next : (s : List ℕ) (c : ItemIter) → Once (contract.stream-item-iter-next s c)
   pub stream-item-link-link-of : (s : List ℕ) (p : ℕ) (k : ℕ) → Once (contract.stream-item-link-link-of s p k)
+  -- stream_places
+  pub stream-places-load : (s : List ℕ) (f : List ℕ) (t : List ℕ) → OnceLent (contract.stream-places-load s f t)
+  pub stream-places-save : (s : List ℕ) (f : ItemFinder) (t : List ℕ) (out : List ℕ) → OnceLent (contract.stream-places-save s f t out)
+  pub stream-places-trailer-trailer-parse : (f : List ℕ) → Once (contract.stream-places-trailer-trailer-parse f)
   -- stream_view
   pub stream-view-bytes-of : (tpi : List ℕ) (ipi : List ℕ) (entry : Entry) → Once (contract.stream-view-bytes-of tpi ipi entry)
   pub stream-view-view : (tpi : List ℕ) (ipi : List ℕ) (entry : Entry) (r q : EntryView) → contract.stream-view-view tpi ipi entry r → contract.stream-view-view tpi ipi entry q → (now (r .bytes) ≡ now (q .bytes)) × (r .answer ≡ q .answer)

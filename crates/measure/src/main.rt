@@ -14,6 +14,7 @@ use record_list::StartAnswer;
 use record_list::StepAnswer;
 use record_parse::ParseAnswer;
 use stream_finder::FindAnswer;
+use stream_finder::FinderAnswer;
 use stream_finder::ItemFinder;
 use stream_header::Header;
 use stream_header::HeaderAnswer;
@@ -24,6 +25,7 @@ use stream_item::Stream;
 use stream_item::iter::ItemIter;
 use stream_item::iter::IterAnswer;
 use stream_item::iter::NextAnswer;
+use stream_places::SaveAnswer;
 use stream_view::RawKindAnswer;
 use sums::add;
 
@@ -40,10 +42,15 @@ const PARSE: u8 = b'p';
 
 const IDS: u8 = b'd';
 
+const LOAD: u8 = b'l';
+
 // The longest stream, and the places that its finder holds at most: a record takes four bytes or more.
 const LONGEST: usize = 262144;
 
 const PLACES: usize = 8192;
+
+// The bytes of a file with so many places.
+const FILE: usize = 32796;
 
 fn buffer() -> [u8; LONGEST]
     ensures { λ r. ⌜ 262144 ≡ length r ⌝ }
@@ -207,21 +214,21 @@ fn list_from(s: &[u8], from: ListCursor) -> u64 {
 }
 
 // The finder of the whole stream.
-fn indexed(s: &[u8], t: &mut [u32; PLACES]) -> ItemFinder {
-    match stream_index::index_all(Stream::Types, s, t) {
+fn indexed(s: &[u8], t: &mut [u32; PLACES], shift: u32) -> ItemFinder {
+    match stream_index::index_all_by(Stream::Types, s, t, shift) {
         IndexAnswer::Answered(tour) => tour.finder,
         IndexAnswer::Refused(_) => ItemFinder {
             minimum_index: 0,
             maximum_index: 0,
             held: 0,
-            shift: 3,
+            shift: shift,
         },
     }
 }
 
 // Fills a fresh finder; the sum is over the places that it holds.
 fn index_once(s: &[u8], t: &mut [u32; PLACES]) -> u64 {
-    let f = indexed(s, t);
+    let f = indexed(s, t, stream_finder::SHIFT);
     places(t, f.held)
 }
 
@@ -236,6 +243,23 @@ fn places(t: &[u32; PLACES], held: usize) -> u64 {
         i += 1;
     }
     sum
+}
+
+// Loads the places of the stream from a file; the sum is over them.
+fn load_once(s: &[u8], file: &[u8], t: &mut [u32; PLACES]) -> u64 {
+    match stream_places::load(s, file, t) {
+        FinderAnswer::Answered(f) => places(t, f.held),
+        FinderAnswer::Refused(_) => 0,
+    }
+}
+
+// The file to load, and how many bytes it has.
+fn kept(s: &[u8], t: &mut [u32; PLACES], shift: u32, file: &mut [u8; FILE]) -> usize {
+    let f = indexed(s, t, shift);
+    match stream_places::save(s, f, t, file) {
+        SaveAnswer::Answered(n) => n,
+        SaveAnswer::Refused(_) => 0,
+    }
 }
 
 // Looks up each index of the stream.
@@ -287,7 +311,7 @@ fn repeat(op: u8, times: u64, at: usize, stream: &mut [u8], t: &mut [u32; PLACES
     if stream.len() <= at {
         return 0;
     }
-    let f = indexed(stream, t);
+    let f = indexed(stream, t, stream_finder::SHIFT);
     let mut sum: u64 = 0;
     let mut i: u64 = 0;
     while i < times {
@@ -296,6 +320,48 @@ fn repeat(op: u8, times: u64, at: usize, stream: &mut [u8], t: &mut [u32; PLACES
         i += 1;
     }
     sum
+}
+
+// The same for `load`, whose file is made once.
+fn repeat_load(times: u64, stream: &mut [u8], file: &[u8], t: &mut [u32; PLACES]) -> u64 {
+    if stream.len() == 0 {
+        return 0;
+    }
+    let mut sum: u64 = 0;
+    let mut i: u64 = 0;
+    while i < times {
+        stream[0] = (i % 256) as u8;
+        sum = add(sum, load_once(stream, file, t));
+        i += 1;
+    }
+    sum
+}
+
+fn load_many(shift: u32, times: u64, stream: &mut [u8], t: &mut [u32; PLACES]) -> u64 {
+    let mut file = [0u8; FILE];
+    let n = kept(stream, t, shift, &mut file);
+    if FILE < n {
+        return 0;
+    }
+    repeat_load(times, stream, &file[0..n], t)
+}
+
+fn run(op: u8, shift: u32, times: u64, at: usize, stream: &mut [u8], t: &mut [u32; PLACES]) -> u64 {
+    if op == LOAD {
+        return load_many(shift, times, stream, t);
+    }
+    repeat(op, times, at, stream, t)
+}
+
+// `load` is at shift 3, `load0` and `load6` at those.
+fn shift_of(word: &[u8; 16]) -> u32 {
+    if word[4] == b'0' {
+        return 0;
+    }
+    if word[4] == b'6' {
+        return 6;
+    }
+    stream_finder::SHIFT
 }
 
 fn operation(word: &[u8; 16], n: usize) -> u8 {
@@ -347,7 +413,7 @@ fn main() {
     let mut stream = buffer();
     let n = io::read_full(STDIN_FILENO, &mut stream);
     let mut t = [0u32; PLACES];
-    let sum = repeat(op, times, at, &mut stream[0..n], &mut t);
+    let sum = run(op, shift_of(&word), times, at, &mut stream[0..n], &mut t);
     io::print_decimal(STDOUT_FILENO, sum);
     io::write_all(STDOUT_FILENO, b"\n");
 }

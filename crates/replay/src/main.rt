@@ -4,6 +4,7 @@ mod input;
 mod items;
 mod lines;
 mod numbers;
+mod place_lines;
 mod record_lines;
 mod small;
 mod stream_lines;
@@ -139,6 +140,20 @@ fn with_forms(command: u8, s: &[u8], n: &[u64; 8]) {
     }
 }
 
+// A places file, saved of a finder or loaded.
+fn on_files(command: u8, s: &[u8], file: &[u8], t: &mut [u32], held: usize, n: &[u64; 8]) {
+    match command {
+        43 => place_lines::save(
+            s,
+            finder_by(input::low32(n[1]), n[2], n[3], n[4]),
+            t,
+            held,
+            n[0],
+        ),
+        _ => place_lines::load(s, file, t, held),
+    }
+}
+
 fn answer<'a>(command: u8, tpi: &'a [u8], ipi: &'a [u8], t: &mut [u32], held: usize, n: &[u64; 8]) {
     if command < 10 {
         on_bytes(command, tpi);
@@ -241,7 +256,8 @@ fn name_of(letters: &[u8; 16], n: usize) -> Name {
           next:ann create:at update:nnntnn findin:annntn view:abwnn marker:wn find:aun findids:aun \
           count:a cross:n item:wnnn name:a membername:na idat:na \
           createby:nat updateby:nnnntnn findinby:nannntn maxindexby:nnnn findby:naun \
-          wunsigned:a wsigned:a wtype:a welement:na ",
+          wunsigned:a wsigned:a wtype:a welement:na \
+          save:nnannnt load:abt ",
     )
 }
 
@@ -282,7 +298,11 @@ fn carry_out<'a>(
     if command == 38 {
         return find_by(buffer, a.input, tpi, places, n);
     }
-    with_forms(command, tpi, n);
+    if command < 43 {
+        with_forms(command, tpi, n);
+        return a.input;
+    }
+    on_files(command, tpi, ipi, places, a.places, n);
     a.input
 }
 

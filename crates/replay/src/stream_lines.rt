@@ -180,7 +180,7 @@ fn wide32(n: u32) -> u64 {
     n as u64
 }
 
-fn lent(t: &[u32]) {
+pub fn lent(t: &[u32]) {
     lines::put(b" ; ");
     if t.len() == 0 {
         lines::put(b"-");
@@ -190,7 +190,7 @@ fn lent(t: &[u32]) {
     lines::put(b"\n");
 }
 
-fn created(a: FinderAnswer) {
+pub fn created(a: FinderAnswer) {
     match a {
         FinderAnswer::Answered(f) => {
             lines::form4(

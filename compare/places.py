@@ -1,0 +1,143 @@
+#!/usr/bin/env python3
+"""Document 02's R-3 written again in Python, from its text alone: `save` and `load` of a places file. make_vectors.py holds the port's vectors to it.
+
+    places.py save STREAM FILE [SHIFT]     keeps the places of a whole walk of STREAM in FILE, by blocks of 2^SHIFT records (3)
+    places.py load STREAM FILE             says what FILE is loaded as for STREAM: `0 minimum maximum held=H shift=S`, or the refusal's number
+"""
+import struct
+import sys
+
+LETTERS = b"PTIX"
+TRAILER = 28
+LARGEST_SHIFT = 6
+MOST = 65535
+
+
+class Refused(Exception):
+    """By this number."""
+
+
+def header(s):
+    """01: "Checks, in order: 16; empty; 1 for fewer than 56 bytes; 2; 3; 1 for fewer than header_size bytes; 4; 5. An empty stream is accepted with
+    every field zero." The minimum, the maximum and the header's size."""
+    if len(s) > 4294967294:
+        raise Refused(16)
+    if not s:
+        return 0, 0, 0
+    if len(s) < 56:
+        raise Refused(1)
+    _, size, low, high = struct.unpack_from("<4I", s)
+    for number, wrong in ((2, size < 56), (3, size > 1024), (1, len(s) < size), (4, low < 4096), (5, high < low)):
+        if wrong:
+            raise Refused(number)
+    return low, high, size
+
+
+def links(s, p, n):
+    """01: "A link at place p has a u16 length L at p and a payload of L bytes; the next starts at p + 2 + L. The chain breaks where either part passes
+    the end." Where n links from p lead, or None."""
+    for _ in range(n):
+        if p + 2 > len(s):
+            return None
+        p += 2 + struct.unpack_from("<H", s, p)[0]
+        if p > len(s):
+            return None
+    return p
+
+
+def file_of(places, shift, low, high, length, size):
+    """"the places as u32, then a trailer of 28 bytes: count u16, block shift u8 (3), a zero byte, minimum u32, maximum u32, stream length u32, header
+    size u32, and distance back from the file's end to the first place u32. The last four bytes are the letters PTIX. The distance equals the file's length.\""""
+    whole = 4 * len(places) + TRAILER
+    return struct.pack(f"<{len(places)}I", *places) + struct.pack("<HBB5I", len(places), shift, 0, low, high, length, size, whole) + LETTERS
+
+
+def save(room, shift, s, low, high, held, table):
+    """"The writer gives the stream's own, 21 for a finder with other bounds, 13, then 19"; R-7: 26 "right before the first 13 at .. R-3's writer".
+    13 is "when count passes 65,535 or the lent table is short"."""
+    mine_low, mine_high, size = header(s)
+    if (low, high) != (mine_low, mine_high):
+        raise Refused(21)
+    if shift > LARGEST_SHIFT:
+        raise Refused(26)
+    if held > len(table) or held > MOST:
+        raise Refused(13)
+    if room < 4 * held + TRAILER:
+        raise Refused(19)
+    return file_of(table[:held], shift, low, high, len(s), size)
+
+
+def load(s, file, table):
+    """"Loading checks that place 0 is header_size and that each later place is one block of links after its predecessor, then yields a finder .. No places
+    is 20 unless the stream counts no records. Refusals: 20 trailer or length wrong, 21 made for another stream, 22 a place is not on the chain, 13 when
+    .. the lent table is short; the order is the stream's own, 20, 21, 13, 22." R-7: "a file with such a shift is 20". The finder and the table after it."""
+    low, high, size = header(s)
+    if len(file) < TRAILER or file[-4:] != LETTERS:
+        raise Refused(20)
+    count, shift, zero, its_low, its_high, its_length, its_size, distance = struct.unpack("<HBB5I", file[-TRAILER:-4])
+    if zero or shift > LARGEST_SHIFT or distance != len(file) or len(file) != 4 * count + TRAILER or (count == 0 and high > low):
+        raise Refused(20)
+    if (its_low, its_high, its_length, its_size) != (low, high, len(s), size):
+        raise Refused(21)
+    if len(table) < count:
+        raise Refused(13)
+    places = list(struct.unpack_from(f"<{count}I", file))
+    for k, place in enumerate(places):
+        if place != (size if k == 0 else links(s, places[k - 1], 1 << shift)):
+            raise Refused(22)
+    return (low, high, count, shift), places + table[count:]
+
+
+def walked(s, shift):
+    """The places that a whole walk of an accepted stream holds: the chain's start of each block, the one behind the last record too."""
+    low, high, size = header(s)
+    places, p = [], size if high > low else None
+    while p is not None:
+        places.append(p)
+        p = links(s, p, 1 << shift)
+    return places
+
+
+# ---- as lines of PROTOCOL.md
+
+def save_line(room, shift, s, low, high, held, table):
+    try:
+        return "0 " + save(room, shift, s, low, high, held, table).hex()
+    except Refused as e:
+        return str(e.args[0])
+
+
+def load_line(s, file, table):
+    try:
+        (low, high, held, shift), table = load(s, file, table)
+        said = f"0 {low} {high} held={held} shift={shift}"
+    except Refused as e:
+        said = str(e.args[0])
+    return f"{said} ; " + (" ".join(str(n) for n in table) or "-")
+
+
+def main():
+    words = sys.argv[1:]
+    if len(words) not in (3, 4) or words[0] not in ("save", "load"):
+        print(__doc__)
+        return 2
+    with open(words[1], "rb") as f:
+        s = f.read()
+    try:
+        if words[0] == "save":
+            shift = int(words[3]) if len(words) == 4 else 3
+            low, high, _ = header(s)
+            places = walked(s, shift)
+            with open(words[2], "wb") as f:
+                f.write(save(1 << 32, shift, s, low, high, len(places), places))
+        else:
+            with open(words[2], "rb") as f:
+                print(load_line(s, f.read(), [0] * 65535).split(" ; ")[0])
+    except Refused as e:
+        print(e.args[0])
+        return 1
+    return 0
+
+
+if __name__ == "__main__":
+    sys.exit(main())

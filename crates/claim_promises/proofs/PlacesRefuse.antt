@@ -1,0 +1,67 @@
+-- The numbers that a places file is refused by, read and written. Assumes nothing.
+use Prim.Native.Nat.{ℕ, _+_, _-_, _*_, _^_}
+use mathlib.Core.Bool.{true, not}
+use mathlib.Core.Path.{refl}
+use mathlib.Core.List.{List, [], _∷_}
+use lib.ListN.{length}
+use lib.Dec.{ltb, eqb}
+use Rattle.answer.specs.Answer.{both}
+use Rattle.answer.specs.Tables.{find, among}
+use Rattle.answer.specs.Refusals.{listed, named as inTable, refusals}
+use Rattle.field.specs.Fields.{littleAt}
+use Rattle.stream_header.specs.declared.Header.{Header}
+use Rattle.stream_finder.specs.Finder.{State}
+use Rattle.stream_places.specs.File.{letters, trailerAt, wordsAt, spells, checked, trailerOf}
+use Rattle.stream_places.specs.Places.{onChain, loadFor, loadOf, saveFor, saveOf}
+use Rattle.stream_places.specs.declared.trailer.Trailer.{Trailer}
+use Rattle.claim_promises.specs.ByTable.{Refuses, fits, gives}
+use Rattle.claim_promises.proofs.ByTable.{by-stop, by-then, within, wider}
+use Rattle.claim_promises.proofs.StreamRefuses.{header-refuses}
+
+pub trailer-refuses : (f : List ℕ) → Refuses (20 ∷ []) (trailerOf f)
+unfolding trailerOf checked fits among listed find inTable refusals
+trailer-refuses f =
+    by-stop (ltb (length f) 28) 20 refl
+    (by-stop (not (spells f (length f - 4) letters)) 20 refl
+    (by-stop (not (eqb (littleAt 1 f (length f - 28 + 3)) 0)) 20 refl
+    (by-stop (ltb 6 (trailerAt f (length f - 28) .shift)) 20 refl
+    (by-stop (not (eqb (trailerAt f (length f - 28) .distance) (length f))) 20 refl
+    (by-stop (not (eqb (length f) (4 * trailerAt f (length f - 28) .count + 28))) 20 refl
+    gives)))))
+
+abbrev pub ofLoads : List ℕ
+ofLoads = 16 ∷ 1 ∷ 2 ∷ 3 ∷ 4 ∷ 5 ∷ 20 ∷ 21 ∷ 13 ∷ 22 ∷ []
+
+load-for-refuses : (s f t : List ℕ) (h : Header) (k : Trailer) → Refuses ofLoads (loadFor s f t h k)
+unfolding loadFor fits among listed find inTable refusals
+load-for-refuses s f t h k =
+    by-stop (both (eqb (k .count) 0) (ltb (h .«minimum_index») (h .«maximum_index»))) 20 refl
+    (by-stop (not (eqb (k .«minimum_index») (h .«minimum_index»))) 21 refl
+    (by-stop (not (eqb (k .«maximum_index») (h .«maximum_index»))) 21 refl
+    (by-stop (not (eqb (k .«stream_length») (length s))) 21 refl
+    (by-stop (not (eqb (k .«header_size») (h .«header_size»))) 21 refl
+    (by-stop (ltb (length t) (k .count)) 13 refl
+    (by-stop (not (onChain s (2 ^ k .shift) (h .«header_size») (wordsAt (k .count) f 0))) 22 refl
+    gives))))))
+
+pub load-refuses : (s f t : List ℕ) → Refuses ofLoads (loadOf s f t)
+unfolding loadOf among within
+load-refuses s f t = by-then (wider refl (header-refuses s)) (λ h. by-then (wider refl (trailer-refuses f)) (λ k. load-for-refuses s f t h k))
+
+abbrev pub ofSaves : List ℕ
+ofSaves = 16 ∷ 1 ∷ 2 ∷ 3 ∷ 4 ∷ 5 ∷ 21 ∷ 26 ∷ 13 ∷ 19 ∷ []
+
+save-for-refuses : (n : ℕ) (σ : State) (room : ℕ) (h : Header) → Refuses ofSaves (saveFor n σ room h)
+unfolding saveFor fits among listed find inTable refusals
+save-for-refuses n σ room h =
+    by-stop (not (eqb (σ .finder .«minimum_index») (h .«minimum_index»))) 21 refl
+    (by-stop (not (eqb (σ .finder .«maximum_index») (h .«maximum_index»))) 21 refl
+    (by-stop (ltb 6 (σ .finder .shift)) 26 refl
+    (by-stop (ltb (length (σ .table)) (σ .finder .held)) 13 refl
+    (by-stop (ltb 65535 (σ .finder .held)) 13 refl
+    (by-stop (ltb room (4 * σ .finder .held + 28)) 19 refl
+    gives)))))
+
+pub save-refuses : (s : List ℕ) (σ : State) (room : ℕ) → Refuses ofSaves (saveOf s σ room)
+unfolding saveOf among within
+save-refuses s σ room = by-then (wider refl (header-refuses s)) (λ h. save-for-refuses (length s) σ room h)

@@ -1,0 +1,111 @@
+// Keeps the places of a type stream, so that the stream need not be walked again: document 02, R-3. It reads the stream, of at most 262,144
+// bytes, from standard input, and writes the places file, of blocks of 8 records, to standard output. What is refused is said on the
+// standard error by its number and name, and then nothing is written.
+ghost use mathlib.Core.Path.{_≡_};
+ghost use lib.ListN.{length};
+use answer::Refusal;
+use libc::STDERR_FILENO;
+use libc::STDIN_FILENO;
+use libc::STDOUT_FILENO;
+use stream_finder::ItemFinder;
+use stream_index::End;
+use stream_index::IndexAnswer;
+use stream_item::Stream;
+use stream_places::SaveAnswer;
+
+// The longest stream; its places, since a record takes four bytes at least; and the bytes of its file.
+const LONGEST: usize = 262144;
+
+const PLACES: usize = 8192;
+
+const FILE: usize = 32796;
+
+// One byte more than the longest stream, to tell that there is one.
+fn buffer() -> [u8; 262145]
+    ensures { λ r. ⌜ 262145 ≡ length r ⌝ }
+{
+    [0u8; 262145]
+}
+
+fn put(text: &[u8]) {
+    io::write_all(STDERR_FILENO, text);
+}
+
+// A refusal's name, as docs/NUMBERS.md has it.
+fn put_name(e: Refusal) {
+    match e {
+        Refusal::Ended => put(b"ended"),
+        Refusal::EndedAfter(_) => put(b"ended"),
+        Refusal::HeaderSmall => put(b"header small"),
+        Refusal::HeaderLarge => put(b"header large"),
+        Refusal::MinimumLow => put(b"minimum low"),
+        Refusal::MaximumLow => put(b"maximum low"),
+        Refusal::TooShort => put(b"too short"),
+        Refusal::IndicesUsedUp => put(b"indices used up"),
+        Refusal::NotFound(_) => put(b"not found"),
+        Refusal::NotIndexed(_, _) => put(b"not indexed"),
+        Refusal::LeafUnknown(_) => put(b"leaf unknown"),
+        Refusal::NumberBad => put(b"number bad"),
+        Refusal::PointerWord => put(b"pointer word"),
+        Refusal::TableFull => put(b"table full"),
+        Refusal::ForeignCursor => put(b"foreign cursor"),
+        Refusal::NoSuchElement => put(b"no such element"),
+        Refusal::TooLong => put(b"too long"),
+        Refusal::WouldNotReadBack => put(b"would not read back"),
+        Refusal::RecordTooLong => put(b"record too long"),
+        Refusal::NoRoom => put(b"no room"),
+        Refusal::FileWrong => put(b"file wrong"),
+        Refusal::AnotherStream => put(b"another stream"),
+        Refusal::OffTheChain => put(b"off the chain"),
+        Refusal::TooDeep => put(b"too deep"),
+        Refusal::LeafNotPrinted => put(b"leaf not printed"),
+        Refusal::Signature => put(b"signature"),
+        Refusal::Shift => put(b"shift"),
+    }
+}
+
+fn put_refused(e: Refusal) {
+    put(b"refused ");
+    io::print_decimal(STDERR_FILENO, e.number() as u64);
+    put(b" ");
+    put_name(e);
+    put(b"\n");
+}
+
+fn write(file: &[u8], n: usize) {
+    if n <= file.len() {
+        io::write_all(STDOUT_FILENO, &file[0..n]);
+    }
+}
+
+fn save(s: &[u8], f: ItemFinder, t: &[u32], file: &mut [u8]) {
+    match stream_places::save(s, f, t, file) {
+        SaveAnswer::Answered(n) => write(file, n),
+        SaveAnswer::Refused(e) => put_refused(e),
+    }
+}
+
+fn keep(s: &[u8], t: &mut [u32], file: &mut [u8]) {
+    match stream_index::index_all(Stream::Types, s, t) {
+        IndexAnswer::Answered(tour) => {
+            let end = tour.end;
+            match end {
+                End::Done => save(s, tour.finder, t, file),
+                End::Refused(e) => put_refused(e),
+            }
+        }
+        IndexAnswer::Refused(e) => put_refused(e),
+    }
+}
+
+fn main() {
+    let mut stream = buffer();
+    let n = io::read_full(STDIN_FILENO, &mut stream);
+    if LONGEST < n {
+        put_refused(Refusal::TooLong);
+        return;
+    }
+    let mut t = [0u32; PLACES];
+    let mut file = [0u8; FILE];
+    keep(&stream[0..n], &mut t, &mut file);
+}

@@ -1,0 +1,237 @@
+-- The outcomes of loading and saving, a law for each, in the order of their tests; and a turn of the loop over the places. Assumes nothing.
+use Prim.Native.Nat.{ℕ, zero, suc, _+_, _-_, _*_, _^_, _≤_, _<_}
+use native.Mathlib.Omega.{arith}
+use native.Mathlib.Nat.{zero-add}
+use native.Mathlib.Numerals.{add-one}
+use mathlib.Core.Path.{_≡_, refl, sym, ap, _∙_}
+use mathlib.Core.Bool.{Bool, true, false, not}
+use mathlib.Core.List.{List, [], _∷_, _++_}
+use lib.ListN.{length, getD, take, drop, length-take}
+use lib.Seq.{drop-cons}
+use lib.Dec.{ltb, eqb}
+use borrow.Author.Tests.{lt-ltb, le-ltb, eq-eqb, ne-eqb, ltb-false}
+use Rattle.answer.specs.Answer.{Answer, answered, refused, both, then}
+use Rattle.field.specs.Fields.{littleAt}
+use Rattle.field_put.specs.Bytes.{bytes, put, Puts}
+use Rattle.stream_header.specs.Header.{longest, headerOf}
+use Rattle.stream_header.specs.declared.Header.{Header}
+use Rattle.stream_item.specs.Links.{linkAt, Walk, reached, broke, passing, linked, chain, landing, land, linkOf}
+use Rattle.stream_item.specs.declared.link.Link.{Link}
+use Rattle.stream_item.specs.declared.link.Link.the-variants.{Whole, Broken}
+use Rattle.stream_item.specs.declared.link.Hit.the-variants.{Landed, Missed}
+use Rattle.stream_item.proofs.LinkLaws.{WholeAt, whole-is}
+use Rattle.stream_item.proofs.NextLaws.{passed}
+use Rattle.stream_finder.specs.Finder.{State, state, holding}
+use Rattle.stream_places.specs.File.{wordBytes, trailerBytes, wordsAt, trailerOf}
+use Rattle.stream_places.specs.Places.{ends, follows, onChain, Takes, loadFor, loadOf, trailerFor, fileOf, saveFor, saveOf, sizeIn, bufferAfter, saidSave, Saves}
+use Rattle.stream_places.specs.declared.trailer.Trailer.{Trailer}
+use Rattle.stream_places.specs.declared.SaveAnswer.{SaveAnswer}
+use Rattle.stream_places.specs.declared.SaveAnswer.the-variants as save
+use Rattle.stream_places.proofs.FileLaws.{words-cons, words-none}
+
+-- ---- a block of links: the last link of a walk is whole, or the walk broke
+module _ (s : List ℕ) (p k : ℕ) where
+  on-landed : (w : Walk) (a l q : ℕ) → land s k w ≡ Landed a l → ends (linked s k w) q ≡ eqb (a + l) q
+  on-landed (reached r) a l q e = go (linkAt s r) e
+    where
+      go : (x : Link) → landing k x ≡ Landed a l → ends (passing k x) q ≡ eqb (a + l) q
+      go (Whole b m) e = let x : b ≡ a = cc in let y : m ≡ l = cc in rw (x, y)
+      go Broken e = let z : _≡_ {A = ℕ} 0 1 = cc in absurd (omega arith)
+  on-landed (broke j) a l q e = let z : _≡_ {A = ℕ} 0 1 = cc in absurd (omega arith)
+
+  on-missed : (w : Walk) (j q : ℕ) → land s k w ≡ Missed j → ends (linked s k w) q ≡ false
+  on-missed (reached r) j q e = go (linkAt s r) e
+    where
+      go : (x : Link) → landing k x ≡ Missed j → ends (passing k x) q ≡ false
+      go (Whole b m) e = let z : _≡_ {A = ℕ} 0 1 = cc in absurd (omega arith)
+      go Broken e = refl
+  on-missed (broke i) j q e = refl
+
+  pub block-landed : (a l q : ℕ) → linkOf s p k ≡ Landed a l → eqb (a + l) q ≡ ends (chain s p (k + 1)) q
+  unfolding chain linkOf
+  block-landed a l q e = rw (add-one k) (sym (on-landed (chain s p k) a l q e))
+
+  pub block-missed : (j q : ℕ) → linkOf s p k ≡ Missed j → false ≡ ends (chain s p (k + 1)) q
+  unfolding chain linkOf
+  block-missed j q e = rw (add-one k) (sym (on-missed (chain s p k) j q e))
+
+  -- and its payload ends inside the stream
+  pub landed-inside : (a l : ℕ) → linkOf s p k ≡ Landed a l → a + l ≤ length s
+  unfolding linkOf
+  landed-inside a l e = at (chain s p k) e
+    where
+      at-link : (r : ℕ) (x : Link) → linkAt s r ≡ x → landing k x ≡ Landed a l → a + l ≤ length s
+      at-link r (Whole b m) w e =
+          let x : b ≡ a = cc in
+          let y : m ≡ l = cc in
+          let h : WholeAt s r b m = whole-is s r b m w in
+          omega (arith, h .start, h .len, h .inside)
+      at-link r Broken w e = let z : _≡_ {A = ℕ} 0 1 = cc in absurd (omega arith)
+
+      at : (w : Walk) → land s k w ≡ Landed a l → a + l ≤ length s
+      at (reached r) e = at-link r (linkAt s r) refl e
+      at (broke j) e = let z : _≡_ {A = ℕ} 0 1 = cc in absurd (omega arith)
+
+-- ---- the places, one more each turn
+module _ (s : List ℕ) (b : ℕ) (n : ℕ) (f : List ℕ) where
+  pub chain-empty : (start : ℕ) → n ≡ 0 → true ≡ onChain s b start (wordsAt n f 0)
+  unfolding onChain wordsAt
+  chain-empty start e = rw e
+
+  first-place : (start : ℕ) → 0 < n → onChain s b start (wordsAt n f 0) ≡ both (eqb (littleAt 4 f 0) start) (follows s b (littleAt 4 f 0) (wordsAt (n - 1) f (4 * 1)))
+  unfolding onChain
+  first-place start l =
+      let e : n - 0 ≡ n = omega arith in
+      ap (λ (m : ℕ). onChain s b start (wordsAt m f 0)) (sym e) ∙ ap (onChain s b start) (words-cons n f 0 l)
+
+  -- p: the first place, as the code has it
+  pub chain-other : (start p : ℕ) → 0 < n → p ≡ littleAt 4 f 0 → (p ≡ start → ⊥) → false ≡ onChain s b start (wordsAt n f 0)
+  chain-other start p l e h = sym (first-place start l ∙ simp (← e, ne-eqb _ _ h))
+
+  pub chain-first : (start p : ℕ) → 0 < n → p ≡ littleAt 4 f 0 → p ≡ start → onChain s b start (wordsAt n f 0) ≡ follows s b p (wordsAt (n - 1) f (4 * 1))
+  chain-first start p l e h = first-place start l ∙ simp (← e, eq-eqb _ _ h)
+
+  module _ (i p : ℕ) (l : i < n) where
+    follows-cons : follows s b p (wordsAt (n - i) f (4 * i))
+        ≡ both (ends (chain s p b) (littleAt 4 f (4 * i))) (follows s b (littleAt 4 f (4 * i)) (wordsAt (n - (i + 1)) f (4 * (i + 1))))
+    unfolding follows
+    follows-cons = ap (follows s b p) (words-cons n f i l)
+
+    pub follows-miss : (q : ℕ) → q ≡ littleAt 4 f (4 * i) → false ≡ ends (chain s p b) q → false ≡ follows s b p (wordsAt (n - i) f (4 * i))
+    follows-miss q e h = sym (follows-cons ∙ simp (← e, ← h))
+
+    pub follows-turn : (q : ℕ) → q ≡ littleAt 4 f (4 * i) → true ≡ ends (chain s p b) q
+        → follows s b p (wordsAt (n - i) f (4 * i)) ≡ follows s b q (wordsAt (n - (i + 1)) f (4 * (i + 1)))
+    follows-turn q e h = follows-cons ∙ simp (← e, ← h)
+
+  pub follows-end : (i p q : ℕ) → n ≤ i → true ≡ follows s b p (wordsAt (n - i) f q)
+  unfolding follows
+  follows-end i p q l = rw (words-none n f i q l)
+
+-- ---- places that are stored if they are on the chain
+module _ (t : List ℕ) (b : Bool) (ws : List ℕ) (r : Bool) (t′ : List ℕ) where
+  pub takes : r ≡ b → r ≡ true → t′ ≡ put t 0 ws → Takes t b ws r t′
+  takes e h q = record { test = e; table = rw (sym e ∙ h) q }
+
+  pub takes-none : r ≡ b → r ≡ false → t′ ≡ t → Takes t b ws r t′
+  takes-none e h q = record { test = e; table = rw (sym e ∙ h) q }
+
+  -- and back
+  pub taken-all : Takes t b ws r t′ → r ≡ true → t′ ≡ put t 0 ws
+  taken-all w h = rw (sym (w .test) ∙ h) at (w .table)
+
+  pub taken-none : Takes t b ws r t′ → r ≡ false → t′ ≡ t
+  taken-none w h = rw (sym (w .test) ∙ h) at (w .table)
+
+-- ---- the outcomes of loading
+module _ (s f t : List ℕ) (h : Header) (k : Trailer) where
+  -- nothing before the question of room refuses
+  pub record Ours : Type 0 where
+    pub some : both (eqb (k .count) 0) (ltb (h .«minimum_index») (h .«maximum_index»)) ≡ false
+    pub minimum : k .«minimum_index» ≡ h .«minimum_index»
+    pub maximum : k .«maximum_index» ≡ h .«maximum_index»
+    pub bytes-are : k .«stream_length» ≡ length s
+    pub start : k .«header_size» ≡ h .«header_size»
+
+  pub load-lacks : both (eqb (k .count) 0) (ltb (h .«minimum_index») (h .«maximum_index»)) ≡ true → loadFor s f t h k ≡ refused 20 []
+  unfolding loadFor
+  load-lacks e = simp e
+
+  pub load-minimum : both (eqb (k .count) 0) (ltb (h .«minimum_index») (h .«maximum_index»)) ≡ false
+      → (k .«minimum_index» ≡ h .«minimum_index» → ⊥) → loadFor s f t h k ≡ refused 21 []
+  unfolding loadFor
+  load-minimum a e = simp (a, ne-eqb _ _ e)
+
+  pub load-maximum : both (eqb (k .count) 0) (ltb (h .«minimum_index») (h .«maximum_index»)) ≡ false
+      → k .«minimum_index» ≡ h .«minimum_index» → (k .«maximum_index» ≡ h .«maximum_index» → ⊥) → loadFor s f t h k ≡ refused 21 []
+  unfolding loadFor
+  load-maximum a b e = simp (a, eq-eqb _ _ b, ne-eqb _ _ e)
+
+  pub load-bytes : both (eqb (k .count) 0) (ltb (h .«minimum_index») (h .«maximum_index»)) ≡ false
+      → k .«minimum_index» ≡ h .«minimum_index» → k .«maximum_index» ≡ h .«maximum_index» → (k .«stream_length» ≡ length s → ⊥) → loadFor s f t h k ≡ refused 21 []
+  unfolding loadFor
+  load-bytes a b c e = simp (a, eq-eqb _ _ b, eq-eqb _ _ c, ne-eqb _ _ e)
+
+  pub load-start : both (eqb (k .count) 0) (ltb (h .«minimum_index») (h .«maximum_index»)) ≡ false
+      → k .«minimum_index» ≡ h .«minimum_index» → k .«maximum_index» ≡ h .«maximum_index» → k .«stream_length» ≡ length s
+      → (k .«header_size» ≡ h .«header_size» → ⊥) → loadFor s f t h k ≡ refused 21 []
+  unfolding loadFor
+  load-start a b c d e = simp (a, eq-eqb _ _ b, eq-eqb _ _ c, eq-eqb _ _ d, ne-eqb _ _ e)
+
+  pub load-full : Ours → length t < k .count → loadFor s f t h k ≡ refused 13 []
+  unfolding loadFor
+  load-full o e = simp (o .some, eq-eqb _ _ (o .minimum), eq-eqb _ _ (o .maximum), eq-eqb _ _ (o .bytes-are), eq-eqb _ _ (o .start), lt-ltb _ _ e)
+
+  pub load-off : Ours → k .count ≤ length t → onChain s (2 ^ k .shift) (h .«header_size») (wordsAt (k .count) f 0) ≡ false → loadFor s f t h k ≡ refused 22 []
+  unfolding loadFor
+  load-off o r e = simp (o .some, eq-eqb _ _ (o .minimum), eq-eqb _ _ (o .maximum), eq-eqb _ _ (o .bytes-are), eq-eqb _ _ (o .start), le-ltb _ _ r, e)
+
+  pub load-done : Ours → k .count ≤ length t → onChain s (2 ^ k .shift) (h .«header_size») (wordsAt (k .count) f 0) ≡ true
+      → loadFor s f t h k ≡ answered (state (holding h (k .shift) (k .count)) (put t 0 (wordsAt (k .count) f 0)))
+  unfolding loadFor
+  load-done o r e = simp (o .some, eq-eqb _ _ (o .minimum), eq-eqb _ _ (o .maximum), eq-eqb _ _ (o .bytes-are), eq-eqb _ _ (o .start), le-ltb _ _ r, e)
+
+pub load-header : (s f t : List ℕ) (a : Answer Header) → headerOf s ≡ a → loadOf s f t ≡ then a (λ h. then (trailerOf f) (loadFor s f t h))
+unfolding loadOf
+load-header s f t a e = rw e
+
+pub load-trailer : (s f t : List ℕ) (h : Header) (a : Answer Trailer) → headerOf s ≡ answered h → trailerOf f ≡ a → loadOf s f t ≡ then a (loadFor s f t h)
+unfolding loadOf
+load-trailer s f t h a e g = rw (e, g)
+
+-- ---- the outcomes of saving
+module _ (bytes : ℕ) (σ : State) (room : ℕ) (h : Header) where
+  pub save-minimum : (σ .finder .«minimum_index» ≡ h .«minimum_index» → ⊥) → saveFor bytes σ room h ≡ refused 21 []
+  unfolding saveFor
+  save-minimum e = simp (ne-eqb _ _ e)
+
+  pub save-maximum : σ .finder .«minimum_index» ≡ h .«minimum_index» → (σ .finder .«maximum_index» ≡ h .«maximum_index» → ⊥) → saveFor bytes σ room h ≡ refused 21 []
+  unfolding saveFor
+  save-maximum a e = simp (eq-eqb _ _ a, ne-eqb _ _ e)
+
+  -- the finder has the stream's bounds
+  pub record Bounds : Type 0 where
+    pub minimum : σ .finder .«minimum_index» ≡ h .«minimum_index»
+    pub maximum : σ .finder .«maximum_index» ≡ h .«maximum_index»
+
+  pub save-shift : Bounds → 6 < σ .finder .shift → saveFor bytes σ room h ≡ refused 26 []
+  unfolding saveFor
+  save-shift b e = simp (eq-eqb _ _ (b .minimum), eq-eqb _ _ (b .maximum), lt-ltb _ _ e)
+
+  pub save-claims : Bounds → σ .finder .shift ≤ 6 → length (σ .table) < σ .finder .held → saveFor bytes σ room h ≡ refused 13 []
+  unfolding saveFor
+  save-claims b a e = simp (eq-eqb _ _ (b .minimum), eq-eqb _ _ (b .maximum), le-ltb _ _ a, lt-ltb _ _ e)
+
+  pub save-many : Bounds → σ .finder .shift ≤ 6 → σ .finder .held ≤ length (σ .table) → 65535 < σ .finder .held → saveFor bytes σ room h ≡ refused 13 []
+  unfolding saveFor
+  save-many b a c e = simp (eq-eqb _ _ (b .minimum), eq-eqb _ _ (b .maximum), le-ltb _ _ a, le-ltb _ _ c, lt-ltb _ _ e)
+
+  pub save-room : Bounds → σ .finder .shift ≤ 6 → σ .finder .held ≤ length (σ .table) → σ .finder .held ≤ 65535 → room < 4 * σ .finder .held + 28
+      → saveFor bytes σ room h ≡ refused 19 []
+  unfolding saveFor
+  save-room b a c d e = simp (eq-eqb _ _ (b .minimum), eq-eqb _ _ (b .maximum), le-ltb _ _ a, le-ltb _ _ c, le-ltb _ _ d, lt-ltb _ _ e)
+
+  pub save-done : Bounds → σ .finder .shift ≤ 6 → σ .finder .held ≤ length (σ .table) → σ .finder .held ≤ 65535 → 4 * σ .finder .held + 28 ≤ room
+      → saveFor bytes σ room h ≡ answered (fileOf h bytes σ)
+  unfolding saveFor
+  save-done b a c d e = simp (eq-eqb _ _ (b .minimum), eq-eqb _ _ (b .maximum), le-ltb _ _ a, le-ltb _ _ c, le-ltb _ _ d, le-ltb _ _ e)
+
+pub save-header : (s : List ℕ) (σ : State) (room : ℕ) (a : Answer Header) → headerOf s ≡ a → saveOf s σ room ≡ then a (saveFor (length s) σ room)
+unfolding saveOf
+save-header s σ room a e = rw e
+
+-- the contract from the case that holds
+pub saves : (o : List ℕ) (x : Answer (List ℕ)) (r : SaveAnswer) (o′ : List ℕ) (a : Answer (List ℕ)) → x ≡ a → saidSave r ≡ sizeIn a → o′ ≡ bufferAfter o a → Saves o x r o′
+saves o x r o′ a e p q = record { answer = p ∙ ap sizeIn (sym e); buffer = q ∙ ap (bufferAfter o) (sym e) }
+
+pub saves-as : (o : List ℕ) (x : Answer (List ℕ)) (r : SaveAnswer) (o′ : List ℕ) (a : Answer (List ℕ)) → x ≡ a → Saves o a r o′ → Saves o x r o′
+saves-as o x r o′ a e w = saves o x r o′ a e (w .answer) (w .buffer)
+
+-- the file was written
+pub saves-file : (o : List ℕ) (x : Answer (List ℕ)) (bs : List ℕ) (r : ℕ) (o′ : List ℕ) → x ≡ answered bs → Puts o 0 bs r o′ → Saves o x (save.Answered r) o′
+saves-file o x bs r o′ e w = saves o x (save.Answered r) o′ (answered bs) e (ap (λ (n : ℕ). answered n) (w .next ∙ zero-add (length bs))) (w .left)
+
+-- ---- what a header that was answered says of its stream
+pub header-short : (s : List ℕ) (h : Header) → headerOf s ≡ answered h → length s ≤ longest
+unfolding headerOf
+header-short s h e = ltb-false _ _ (passed (ltb longest (length s)) 16 _ _ e .0)

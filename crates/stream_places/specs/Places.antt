@@ -1,0 +1,117 @@
+-- R-3 of document 02: keeping the places of a finder, and loading them again. "Loading checks that place 0 is header_size and that each later
+-- place is one block of links after its predecessor, then yields a finder. [..] No places is 20 unless the stream counts no records. Refusals:
+-- 20 trailer or length wrong, 21 made for another stream, 22 a place is not on the chain, 13 when count passes 65,535 or the lent table is
+-- short; the order is the stream's own, 20, 21, 13, 22. The writer gives the stream's own, 21 for a finder with other bounds, 13, then 19."
+-- With R-7: a block is 2^shift links, and 26 comes right before the writer's 13.
+use Prim.Native.Nat.{ℕ, _+_, _*_, _^_}
+use mathlib.Core.Path.{_≡_}
+use mathlib.Core.Bool.{Bool, true, false, not}
+use mathlib.Core.List.{List, [], _∷_, _++_}
+use lib.ListN.{length, take}
+use lib.Dec.{ltb, eqb}
+use Rattle.answer.specs.Answer.{Answer, answered, refused, pick, stop, both, then}
+use Rattle.answer.specs.Refusals.{no}
+use Rattle.field_put.specs.Bytes.{put}
+use Rattle.stream_header.specs.Header.{headerOf}
+use Rattle.stream_header.specs.declared.Header.{Header}
+use Rattle.stream_item.specs.Links.{Walk, reached, broke, chain}
+use Rattle.stream_finder.specs.Finder.{State, state, holding}
+use Rattle.stream_places.specs.File.{wordBytes, trailerBytes, wordsAt, trailerOf}
+use Rattle.stream_places.specs.declared.trailer.Trailer.{Trailer}
+use Rattle.stream_places.specs.declared.SaveAnswer.{SaveAnswer}
+use Rattle.stream_places.specs.declared.SaveAnswer.the-variants as save
+
+-- ---- places on the chain
+
+-- whether a walk led to place q
+abbrev pub ends : Walk → ℕ → Bool
+ends (reached r) q = eqb r q
+ends (broke j) q = false
+
+-- whether each of the places is b links after the one before it, p being the one before the first
+unfoldable pub follows : List ℕ → ℕ → ℕ → List ℕ → Bool
+follows s b p [] = true
+follows s b p (q ∷ qs) = both (ends (chain s p b) q) (follows s b q qs)
+
+-- and the first of them is the start
+unfoldable pub onChain : List ℕ → ℕ → ℕ → List ℕ → Bool
+onChain s b start [] = true
+onChain s b start (q ∷ qs) = both (eqb q start) (follows s b q qs)
+
+-- the contract of a function that is lent the table t and stores the places ws first in it if the test b passes: r is the test, t′ the table after it
+pub record Takes (t : List ℕ) (b : Bool) (ws : List ℕ) (r : Bool) (t′ : List ℕ) : Type 0 where
+  pub test : r ≡ b
+  pub table : t′ ≡ pick b (put t 0 ws) t
+
+-- ---- loading
+
+-- of a stream s with the header h and a file f with the trailer k: 20 for no places though there are records; 21; 13; 22; else the finder, and
+-- the table with these places first, all else of it as before
+unfoldable pub loadFor : List ℕ → List ℕ → List ℕ → Header → Trailer → Answer State
+loadFor s f t h k =
+    stop (both (eqb (k .count) 0) (ltb (h .«minimum_index») (h .«maximum_index»))) 20
+    (stop (not (eqb (k .«minimum_index») (h .«minimum_index»))) 21
+    (stop (not (eqb (k .«maximum_index») (h .«maximum_index»))) 21
+    (stop (not (eqb (k .«stream_length») (length s))) 21
+    (stop (not (eqb (k .«header_size») (h .«header_size»))) 21
+    (stop (ltb (length t) (k .count)) 13
+    (stop (not (onChain s (2 ^ k .shift) (h .«header_size») (wordsAt (k .count) f 0))) 22
+    (answered (state (holding h (k .shift) (k .count)) (put t 0 (wordsAt (k .count) f 0))))))))))
+
+-- the stream's own, then the file's, then those of both
+unfoldable pub loadOf : List ℕ → List ℕ → List ℕ → Answer State
+loadOf s f t = then (headerOf s) (λ h. then (trailerOf f) (loadFor s f t h))
+
+-- ---- saving
+
+-- the trailer for n places of shift, of a stream of so many bytes with the header h
+abbrev pub trailerFor : Header → ℕ → ℕ → ℕ → Trailer
+trailerFor h bytes shift n = record {
+  count = n;
+  shift = shift;
+  «minimum_index» = h .«minimum_index»;
+  «maximum_index» = h .«maximum_index»;
+  «stream_length» = bytes;
+  «header_size» = h .«header_size»;
+  distance = 4 * n + 28;
+}
+
+-- the file of a finder's places
+unfoldable pub fileOf : Header → ℕ → State → List ℕ
+fileOf h bytes σ = wordBytes (take (σ .finder .held) (σ .table)) ++ trailerBytes (trailerFor h bytes (σ .finder .shift) (σ .finder .held))
+
+-- of a stream of so many bytes with the header h, into a buffer of `room` bytes: 21 (the bounds), 26, 13 (the claim, or more places than a
+-- trailer counts), 19
+unfoldable pub saveFor : ℕ → State → ℕ → Header → Answer (List ℕ)
+saveFor bytes σ room h =
+    stop (not (eqb (σ .finder .«minimum_index») (h .«minimum_index»))) 21
+    (stop (not (eqb (σ .finder .«maximum_index») (h .«maximum_index»))) 21
+    (stop (ltb 6 (σ .finder .shift)) 26
+    (stop (ltb (length (σ .table)) (σ .finder .held)) 13
+    (stop (ltb 65535 (σ .finder .held)) 13
+    (stop (ltb room (4 * σ .finder .held + 28)) 19
+    (answered (fileOf h bytes σ)))))))
+
+unfoldable pub saveOf : List ℕ → State → ℕ → Answer (List ℕ)
+saveOf s σ room = then (headerOf s) (saveFor (length s) σ room)
+
+-- ---- what the answers say
+
+-- how many bytes a file takes
+abbrev pub sizeIn : Answer (List ℕ) → Answer ℕ
+sizeIn (answered bs) = answered (length bs)
+sizeIn (refused n d) = refused n d
+
+-- the buffer o after it: the file in its first bytes, all else as before
+abbrev pub bufferAfter : List ℕ → Answer (List ℕ) → List ℕ
+bufferAfter o (answered bs) = put o 0 bs
+bufferAfter o (refused n d) = o
+
+abbrev pub saidSave : SaveAnswer → Answer ℕ
+saidSave (save.Answered n) = answered n
+saidSave (save.Refused e) = no e
+
+-- the contract of a function that is lent the buffer o: a is the definition's answer, r the function's, o′ the buffer after it
+pub record Saves (o : List ℕ) (a : Answer (List ℕ)) (r : SaveAnswer) (o′ : List ℕ) : Type 0 where
+  pub answer : saidSave r ≡ sizeIn a
+  pub buffer : o′ ≡ bufferAfter o a
