@@ -1,2 +1,6 @@
 pub mod BitLaws
 pub mod HeaderLaws
+pub mod RestLaws
+pub mod TallyProof
+pub mod SameProof
+pub mod TallyWitness
