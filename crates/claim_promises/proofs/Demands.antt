@@ -2,6 +2,8 @@
 use Rattle.claim_model.proofs.Demand2.{demand2}
 use Rattle.stream_finder.proofs.DemandProof.{demand3, demand3-every, not-indexed, not-indexed-every}
 use Rattle.stream_finder.proofs.SharedProof.{shared}
+use Rattle.pane.proofs.TallyProof.{tally-holds}
+use Rattle.pane.proofs.SameProof.{same}
 use Rattle.claim_promises.proofs.Demand1.{demand1}
 use Rattle.claim_promises.proofs.ExactlyWhen.{exactly-when}
 use Rattle.claim_promises.proofs.Examples.{examples-hold}
@@ -18,6 +20,8 @@ demands = record {
   third-every = demand3-every;
   exactly-if-every = not-indexed-every;
   shared-by-many = shared;
+  paged = tally-holds;
+  five = same;
   shown = examples-hold;
   one = one-outcome;
 }
