@@ -6,7 +6,9 @@ use Rattle.pane.proofs.pdb_find.Statement.{statement}
 use Rattle.pane.proofs.pdb_find.Tie as tie
 
 returns : tie.Need-returns
-returns c = rw (told saidFind (c .before .before .before .before .before .before .before .find-type .ensures) (c .before .before .before .before .before .entry .given .1), c .before .before .entry2 .given .1)
+returns c =
+    let e = c .before .before in
+    rw (told saidFind (e .before .before .before .before .before .find-type .ensures) (e .before .before .before .entry .given .1), e .entry2 .given .1)
 
 returns-2 : tie.Need-returns-2
 returns-2 c = rw (told saidFind (c .before .before .before .before .before .before .find-type .ensures) (c .before .before .before .before .entry .given .1), c .before .enum-told .given .1)
