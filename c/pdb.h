@@ -8,7 +8,7 @@
  * Nothing is owed of their contents, nor of any number: every byte string and every number is answered or refused.
  *
  * The result is 0 for an answer, else a refusal's number (docs/NUMBERS.md). Every call writes the whole of `out`: two details of a refusal, then the
- * fields of an answer, 0 where there is none. No call allocates, keeps a pointer, or has a state: threads need no lock but for a table of their own.
+ * fields of an answer, 0 where there is none. No call allocates, keeps a pointer, or has a state: threads may call at once, if no two write the same memory.
  */
 #ifndef PDB_H
 #define PDB_H
@@ -49,8 +49,9 @@ uint32_t pdb_header(const uint8_t *s, size_t s_len, uint64_t out[PDB_HEADER_OUT]
 enum { PDB_NEXT_IS_ITEM = 2, PDB_NEXT_INDEX, PDB_NEXT_PLACE, PDB_NEXT_LENGTH, PDB_NEXT_AT, PDB_NEXT_NEXT_INDEX, PDB_NEXT_OUT };
 uint32_t pdb_next(const uint8_t *s, size_t s_len, size_t at, uint32_t index, uint64_t out[PDB_NEXT_OUT]);
 
-/* A finder is five numbers of the caller's and a table: the stream's minimum and maximum, the places held, the shift (a block is 2^shift records, shift 0
- * to 6, 3 as a rule) and one uint32_t a block. It starts with none held, and is updated by the fresh cursor, then by each that pdb_next gave. */
+/* A finder is four numbers of the caller's and a table: the stream's minimum and maximum, the places held, the shift (a block is 2^shift records, shift 0
+ * to 6, 3 as a rule), and one uint32_t a block. It starts with none held; where the stream counts a record it is updated by the fresh cursor, then by
+ * each that pdb_next gave. An update whose index is no multiple of 2^shift above the minimum changes nothing, and can be left out. */
 enum { PDB_UPDATE_HELD = 2, PDB_UPDATE_OUT };
 uint32_t pdb_update(uint32_t *table, size_t table_len, uint32_t minimum, uint32_t maximum, size_t held, uint32_t shift, size_t at, uint32_t index,
                     uint64_t out[PDB_UPDATE_OUT]);

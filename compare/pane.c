@@ -66,16 +66,19 @@ static uint64_t walk(struct paged p)
     return sum;
 }
 
-/* A finder that holds no place, updated by the fresh cursor and behind every record; gives the places that it holds then. */
+/* A finder that holds no place, updated by the fresh cursor and then where a block starts: any other update changes nothing (pdb.h). Gives the places that
+ * it holds then. */
 static size_t filled(struct paged p)
 {
     uint64_t out[PDB_NEXT_OUT], after[PDB_UPDATE_OUT];
     size_t at = p.start, held = 0;
     uint32_t index = p.minimum;
     for (;;) {
-        if (pdb_update(p.table, p.room, p.minimum, p.maximum, held, 3, at, index, after) != 0)
-            return held;
-        held = (size_t)after[PDB_UPDATE_HELD];
+        if ((index - p.minimum) % 8 == 0) {
+            if (pdb_update(p.table, p.room, p.minimum, p.maximum, held, 3, at, index, after) != 0)
+                return held;
+            held = (size_t)after[PDB_UPDATE_HELD];
+        }
         if (pdb_next(p.bytes, p.length, at, index, out) != 0 || out[PDB_NEXT_IS_ITEM] == 0)
             return held;
         at = (size_t)out[PDB_NEXT_AT];

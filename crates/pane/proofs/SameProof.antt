@@ -25,6 +25,7 @@ use Rattle.stream_item.specs.declared.link.Hit.the-variants.{Landed, Missed}
 use Rattle.stream_finder.specs.Finder.{State, state, blockOf, distance, holding, begunBy, createBy, due, updateOf, Found, maxIndexOf, landed, lookOf, findOf}
 use Rattle.stream_finder.proofs.FinderLaws.{create-is, due-yes}
 use Rattle.stream_finder.proofs.Accepted.{Accepted, accepted}
+use Rattle.stream_finder.proofs.PlaceLaws.{update-ind}
 use Rattle.word_primitive.specs.Kinds.{kinds, indirections}
 use Rattle.word_primitive.specs.Primitive.{primitiveOf, known, unknown}
 use Rattle.word_primitive.specs.declared.PrimitiveKind.{PrimitiveKind}
@@ -110,6 +111,7 @@ same = record {
   next-of-ids = next-ids;
   find-of-ids = λ s τ i. look-same s τ (indexIn Ids i) (indexIn Types i) i;
   creation = create-first;
+  idle = λ σ c n. update-ind σ c (λ (ρ : State). ρ ≡ σ) refl (λ st. absurd (n (st .rest)));
   kind = λ i p e. primitive-named i p e .0;
   indirection = λ i p e. primitive-named i p e .1;
 }
