@@ -4,9 +4,10 @@
 #   build.sh SOURCE OUT
 #
 # SOURCE  the folder of the crate's published source, the one that holds src/common.rs and src/tpi/
-# OUT     gets three programs: oracle (release: no debug assertions, sums wrap)
+# OUT     gets four programs: oracle (release: no debug assertions, sums wrap)
 #                              oracle-debug (debug assertions and overflow checks on)
 #                              speed (release): the crate's half of speed.sh
+#                              called (release): the same through calls, for pane.sh
 #
 # Wanted on the machine: rustc, and the two libraries that the crate stands on. On Debian 12:
 #   apt-get install rustc librust-scroll-dev librust-fallible-iterator-dev
@@ -75,8 +76,10 @@ program() { # folder name flags...
 }
 build release -C opt-level=3
 program "$out/release" speed -C opt-level=3 -C codegen-units=1
+program "$out/release" called -C opt-level=3 -C codegen-units=1
 build debug -C opt-level=0 -C debug-assertions=on -C overflow-checks=on
 cp "$out/release/oracle" "$out/oracle"
 cp "$out/debug/oracle" "$out/oracle-debug"
 cp "$out/release/speed" "$out/speed"
-echo "built $out/oracle, $out/oracle-debug and $out/speed"
+cp "$out/release/called" "$out/called"
+echo "built $out/oracle, $out/oracle-debug, $out/speed and $out/called"

@@ -5,6 +5,8 @@ use Rattle.claim_model.proofs.Demand2.{demand2}
 use Rattle.stream_finder.proofs.DemandProof.{demand3, demand3-every, not-indexed, not-indexed-every}
 use Rattle.stream_finder.proofs.SharedProof.{shared}
 use Rattle.stream_places.proofs.KeptProof.{load-serves, round-trip, one-encoding}
+use Rattle.pane.proofs.TallyProof.{tally-holds}
+use Rattle.pane.proofs.SameProof.{same}
 use Rattle.claim_promises.proofs.Demand1.{demand1}
 use Rattle.claim_promises.proofs.ExactlyWhen.{exactly-when}
 use Rattle.claim_promises.proofs.PlacesWhen.{places-when}
@@ -30,6 +32,8 @@ demands = record {
   saved-and-loaded = round-trip;
   one-file = one-encoding;
   given-places = places-when;
+  paged = tally-holds;
+  five = same;
   shown = examples-hold;
   one = one-outcome;
 }

@@ -27,6 +27,7 @@ use Rattle.record_member.proofs.OneOutcome.{one-member, one-entry}
 use Rattle.record_list.proofs.OneOutcome.{one-start, one-step, one-element}
 use Rattle.record_reader.proofs.OneOutcome.{one-reader, one-steps}
 use Rattle.record_parse.proofs.OneOutcome.{one-parse}
+use Rattle.pane.proofs.OneOutcome.{one-out, one-out-table}
 use Rattle.stream_item.specs.declared.iter.ItemIter.{ItemIter}
 use Rattle.stream_finder.specs.Finder.{State, state, createOf, createBy, updateOf}
 use Rattle.stream_finder.specs.Lent.{Updates}
@@ -88,6 +89,11 @@ one-outcome = record {
   field-text-raw-string-bytes = λ self s r q a b. a ∙ sym b;
   field-text-string-of = λ leaf s p r q a b. one-string r q (a ∙ sym b);
   field-text-after-padding = λ s p r q a b. one-after r q (a ∙ sym b);
+  pane-pdb-header = λ s. one-out _;
+  pane-pdb-next = λ s at index. one-out _;
+  pane-pdb-update = λ table minimum maximum held shift at index. one-out-table _;
+  pane-pdb-find = λ s table minimum maximum held shift index. one-out _;
+  pane-pdb-primitive = λ index. one-out _;
   record-data-type-data-name = λ self r q a b. one-type-name r q (a ∙ sym b);
   record-data-type-data = λ s r q a b. one-type-data r q (a ∙ sym b);
   record-id-id-data = λ s r q a b. one-id-data r q (a ∙ sym b);

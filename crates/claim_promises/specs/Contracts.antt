@@ -35,6 +35,7 @@ use Rattle.field_text.specs.Texts.{paddingAfter, saidString, stringAt, stringOf
 use Rattle.field_text.specs.declared.OptString.{OptString}
 use Rattle.field_text.specs.declared.RawString.{RawString}
 use Rattle.field_text.specs.declared.ReadString.{ReadString}
+use Rattle.pane.specs.Out.{cursorAt, finderAt, outFind, outHeader, outNext, outPrimitive, outUpdate, typeAt}
 use Rattle.record_data.specs.Said.{saidTypeData, stringValue, typeName, typeValues}
 use Rattle.record_data.specs.declared.TypeAnswer.{TypeAnswer}
 use Rattle.record_data.specs.declared.TypeData.{TypeData}
@@ -216,6 +217,26 @@ field-text-string-of leaf s p r = saidString r ≡ stringOf leaf s p
 -- field_text::after_padding
 abbrev pub field-text-after-padding : (s : List ℕ) (p : ℕ) → After → Type 0
 field-text-after-padding s p r = saidAfter r ≡ paddingAfter s p
+
+-- pane::pdb_header
+abbrev pub pane-pdb-header : (s : List ℕ) → ℕ → List ℕ → Type 0
+pane-pdb-header s r out′ = (r, out′) ≡ outHeader (headerOf s)
+
+-- pane::pdb_next
+abbrev pub pane-pdb-next : (s : List ℕ) (at : ℕ) (index : ℕ) → ℕ → List ℕ → Type 0
+pane-pdb-next s at index r out′ = (r, out′) ≡ outNext (nextOf s (cursorAt at index))
+
+-- pane::pdb_update
+abbrev pub pane-pdb-update : (table : List ℕ) (minimum : ℕ) (maximum : ℕ) (held : ℕ) (shift : ℕ) (at : ℕ) (index : ℕ) → ℕ → List ℕ → List ℕ → Type 0
+pane-pdb-update table minimum maximum held shift at index r table′ out′ = (r, out′, table′) ≡ outUpdate table (updateOf (finderAt minimum maximum held shift table) (cursorAt at index))
+
+-- pane::pdb_find
+abbrev pub pane-pdb-find : (s : List ℕ) (table : List ℕ) (minimum : ℕ) (maximum : ℕ) (held : ℕ) (shift : ℕ) (index : ℕ) → ℕ → List ℕ → Type 0
+pane-pdb-find s table minimum maximum held shift index r out′ = (r, out′) ≡ outFind (findOf s (finderAt minimum maximum held shift table) (typeAt index))
+
+-- pane::pdb_primitive
+abbrev pub pane-pdb-primitive : (index : ℕ) → ℕ → List ℕ → Type 0
+pane-pdb-primitive index r out′ = (r, out′) ≡ outPrimitive index (primitiveOf index)
 
 -- record_data::TypeData::name
 abbrev pub record-data-type-data-name : (self : TypeData) → OptString → Type 0

@@ -9,6 +9,8 @@ use Rattle.claim_model.specs.Demand2.{Demand2}
 use Rattle.stream_finder.specs.Demand.{Demand3, Demand3Every, NotIndexed, NotIndexedEvery}
 use Rattle.stream_finder.specs.Shared.{Shared}
 use Rattle.stream_places.specs.Kept.{LoadServes, RoundTrip, OneEncoding}
+use Rattle.pane.specs.Tally.{Tally}
+use Rattle.pane.specs.Same.{Same}
 use Rattle.claim_promises.specs.Demand1.{Demand1}
 use Rattle.claim_promises.specs.ExactlyWhen.{ExactlyWhen}
 use Rattle.claim_promises.specs.PlacesWhen.{PlacesWhen}
@@ -48,6 +50,10 @@ pub record Demands : Type 1 where
   pub one-file : OneEncoding
   -- and when each of its numbers is given: PlacesWhen.antt
   pub given-places : PlacesWhen
+  -- document 02, R-14: "the links passed for looking up each of c indices once, upward from the minimum": crates/pane/specs/Tally.antt; and that the
+  -- five functions for C are enough: crates/pane/specs/Same.antt
+  pub paged : Tally
+  pub five : Same
   -- "P marks those proved, together as one statement over their list": Examples.antt
   pub shown : map asked examples ≡ map answers examples
   -- "For each, show that the contract admits one outcome": OneOutcome.antt

@@ -72,6 +72,12 @@ pub record OneOutcome : Type 1 where
   pub field-text-raw-string-bytes : (self : RawString) (s : List ℕ) → Once (contract.field-text-raw-string-bytes self s)
   pub field-text-string-of : (leaf : ℕ) (s : List ℕ) (p : ℕ) → Once (contract.field-text-string-of leaf s p)
   pub field-text-after-padding : (s : List ℕ) (p : ℕ) → Once (contract.field-text-after-padding s p)
+  -- pane
+  pub pane-pdb-header : (s : List ℕ) → OnceLent (contract.pane-pdb-header s)
+  pub pane-pdb-next : (s : List ℕ) (at : ℕ) (index : ℕ) → OnceLent (contract.pane-pdb-next s at index)
+  pub pane-pdb-update : (table : List ℕ) (minimum : ℕ) (maximum : ℕ) (held : ℕ) (shift : ℕ) (at : ℕ) (index : ℕ) → OnceLentTwo (contract.pane-pdb-update table minimum maximum held shift at index)
+  pub pane-pdb-find : (s : List ℕ) (table : List ℕ) (minimum : ℕ) (maximum : ℕ) (held : ℕ) (shift : ℕ) (index : ℕ) → OnceLent (contract.pane-pdb-find s table minimum maximum held shift index)
+  pub pane-pdb-primitive : (index : ℕ) → OnceLent (contract.pane-pdb-primitive index)
   -- record_data
   pub record-data-type-data-name : (self : TypeData) → Once (contract.record-data-type-data-name self)
   pub record-data-type-data : (s : List ℕ) → Once (contract.record-data-type-data s)

@@ -1,0 +1,71 @@
+/* Types of program databases, for C: five proved functions in libpane.a, which `rt staticlib pane` writes. They need no other library.
+ *
+ * What a caller owes, and nothing checks:
+ *   1. every pointer is non-null and aligned, also where its count is 0;
+ *   2. `s` points to s_len bytes, `table` to table_len elements, `out` to as many as its name says below;
+ *   3. no two of these overlap, but that s may be read by several calls at once;
+ *   4. nothing else writes them while a call runs.
+ * Nothing is owed of their contents, nor of any number: every byte string and every number is answered or refused.
+ *
+ * The result is 0 for an answer, else a refusal's number (docs/NUMBERS.md). Every call writes the whole of `out`: two details of a refusal, then the
+ * fields of an answer, 0 where there is none. No call allocates, keeps a pointer, or has a state: threads may call at once, if no two write the same memory.
+ */
+#ifndef PDB_H
+#define PDB_H
+
+#include <stddef.h>
+#include <stdint.h>
+
+#ifdef __cplusplus
+extern "C" {
+#endif
+
+/* the first two places of every `out` */
+enum { PDB_DETAIL_0, PDB_DETAIL_1 };
+
+/* The header of a stream. An offset is given as its 32 bits: (int32_t)(uint32_t)out[..]. */
+enum {
+    PDB_HEADER_VERSION = 2,
+    PDB_HEADER_SIZE,
+    PDB_HEADER_MINIMUM,
+    PDB_HEADER_MAXIMUM,
+    PDB_HEADER_GPREC_SIZE,
+    PDB_HEADER_HASH_STREAM,
+    PDB_HEADER_HASH_PAD_STREAM,
+    PDB_HEADER_HASH_KEY_SIZE,
+    PDB_HEADER_HASH_BUCKET_SIZE,
+    PDB_HEADER_HASH_VALUES_OFFSET,
+    PDB_HEADER_HASH_VALUES_SIZE,
+    PDB_HEADER_TI_OFF_OFFSET,
+    PDB_HEADER_TI_OFF_SIZE,
+    PDB_HEADER_HASH_ADJ_OFFSET,
+    PDB_HEADER_HASH_ADJ_SIZE,
+    PDB_HEADER_COUNT,
+    PDB_HEADER_OUT
+};
+uint32_t pdb_header(const uint8_t *s, size_t s_len, uint64_t out[PDB_HEADER_OUT]);
+
+/* The record at the cursor (at, index), and the cursor behind it. A fresh cursor is (PDB_HEADER_SIZE, PDB_HEADER_MINIMUM). */
+enum { PDB_NEXT_IS_ITEM = 2, PDB_NEXT_INDEX, PDB_NEXT_PLACE, PDB_NEXT_LENGTH, PDB_NEXT_AT, PDB_NEXT_NEXT_INDEX, PDB_NEXT_OUT };
+uint32_t pdb_next(const uint8_t *s, size_t s_len, size_t at, uint32_t index, uint64_t out[PDB_NEXT_OUT]);
+
+/* A finder is four numbers of the caller's and a table: the stream's minimum and maximum, the places held, the shift (a block is 2^shift records, shift 0
+ * to 6, 3 as a rule), and one uint32_t a block. It starts with none held; where the stream counts a record it is updated by the fresh cursor, then by
+ * each that pdb_next gave. An update whose index is no multiple of 2^shift above the minimum changes nothing, and can be left out. */
+enum { PDB_UPDATE_HELD = 2, PDB_UPDATE_OUT };
+uint32_t pdb_update(uint32_t *table, size_t table_len, uint32_t minimum, uint32_t maximum, size_t held, uint32_t shift, size_t at, uint32_t index,
+                    uint64_t out[PDB_UPDATE_OUT]);
+
+/* The record of an index, or the marker below the minimum (which has no place, and length 2), with the links passed on the way. */
+enum { PDB_FIND_IS_RECORD = 2, PDB_FIND_PLACE, PDB_FIND_LENGTH, PDB_FIND_PASSED, PDB_FIND_OUT };
+uint32_t pdb_find(const uint8_t *s, size_t s_len, const uint32_t *table, size_t table_len, uint32_t minimum, uint32_t maximum, size_t held,
+                  uint32_t shift, uint32_t index, uint64_t out[PDB_FIND_OUT]);
+
+/* The primitive type of an index below 0x1000: the low byte that names its kind, and its indirection, 0 for none, 1 to 7 as in bits 8 to 11. */
+enum { PDB_PRIMITIVE_KIND = 2, PDB_PRIMITIVE_INDIRECTION, PDB_PRIMITIVE_OUT };
+uint32_t pdb_primitive(uint32_t index, uint64_t out[PDB_PRIMITIVE_OUT]);
+
+#ifdef __cplusplus
+}
+#endif
+#endif
