@@ -337,13 +337,19 @@ fn repeat_load(times: u64, stream: &mut [u8], file: &[u8], t: &mut [u32; PLACES]
     sum
 }
 
+// The first n bytes of an array.
+fn first(file: &[u8; FILE], n: usize) -> &[u8] {
+    let s: &[u8] = file;
+    if n <= s.len() {
+        return &s[0..n];
+    }
+    &s[0..0]
+}
+
 fn load_many(shift: u32, times: u64, stream: &mut [u8], t: &mut [u32; PLACES]) -> u64 {
     let mut file = [0u8; FILE];
     let n = kept(stream, t, shift, &mut file);
-    if FILE < n {
-        return 0;
-    }
-    repeat_load(times, stream, &file[0..n], t)
+    repeat_load(times, stream, first(&file, n), t)
 }
 
 fn run(op: u8, shift: u32, times: u64, at: usize, stream: &mut [u8], t: &mut [u32; PLACES]) -> u64 {
