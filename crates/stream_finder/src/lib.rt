@@ -14,7 +14,8 @@ pub mod lent;
 ghost use mathlib.Core.Path.{_≡_};
 ghost use Rattle.stream_item.specs.declared.ItemIndex.the-variants as index;
 ghost use Prim.Native.Nat.{_%_, _^_, _≤_};
-ghost use Rattle.stream_finder.specs.Finder.{state, begunBy, createBy, createOf, updateOf, Fills, maxIndexOf, findOf, saidFind};
+ghost use lib.ListN.{length};
+ghost use Rattle.stream_finder.specs.Finder.{state, begunBy, createBy, createOf, updateOf, Fills, maxIndexOf, lookOf, findOf, saidFind};
 use answer::Refusal;
 use field::index::IdIndex;
 use field::index::TypeIndex;
@@ -225,8 +226,18 @@ fn find(s: &[u8], f: ItemFinder, t: &[u32], i: ItemIndex) -> FindAnswer
     if n > maximum {
         return FindAnswer::Refused(Refusal::NotFound(n));
     }
+    walked(s, f, t, i, n)
+}
+
+// The same of an index that is in the stream's range, where nothing refuses the call. A function of its own, so that the walk is not behind
+// all of the tests: what is, the compiler takes for rarely done, and calls where it could inline.
+fn walked(s: &[u8], f: ItemFinder, t: &[u32], i: ItemIndex, n: u32) -> FindAnswer
+    requires { ⌜ (length (now s) ≤ 4294967294) × (f .shift ≤ 6) × (f .held ≤ length (now t)) × (f .«minimum_index» ≤ n) × (n ≤ f .«maximum_index») ⌝ }
+    ensures { λ r. ⌜ saidFind r ≡ lookOf (now (s .entry)) (state f (now (t .entry))) i n ⌝ }
+{
+    let held = f.held;
     let shift = f.shift;
-    let d = n - minimum;
+    let d = n - f.minimum_index;
     let block = (d >> shift) as usize;
     if block >= held {
         return FindAnswer::Refused(Refusal::NotIndexed(n, f.highest()));
