@@ -10,7 +10,10 @@ fn main() {
     };
     let library = folder.join("libpane.a");
     if !library.is_file() {
-        panic!("{} is not there: run `rt staticlib pane`, or name its folder in PANE_LIB_DIR", library.display());
+        panic!(
+            "{} is not there: run `rt staticlib pane`, or name its folder in PANE_LIB_DIR",
+            library.display()
+        );
     }
     println!("cargo:rerun-if-changed={}", library.display());
     println!("cargo:rustc-link-search=native={}", folder.display());

@@ -6,7 +6,18 @@ extern "C" {
     fn pdb_header(s: *const u8, s_len: usize, out: *mut [u64; 18]) -> u32;
     fn pdb_next(s: *const u8, s_len: usize, at: usize, index: u32, out: *mut [u64; 8]) -> u32;
     fn pdb_update(table: *mut u32, table_len: usize, minimum: u32, maximum: u32, held: usize, shift: u32, at: usize, index: u32, out: *mut [u64; 3]) -> u32;
-    fn pdb_find(s: *const u8, s_len: usize, table: *const u32, table_len: usize, minimum: u32, maximum: u32, held: usize, shift: u32, index: u32, out: *mut [u64; 6]) -> u32;
+    fn pdb_find(
+        s: *const u8,
+        s_len: usize,
+        table: *const u32,
+        table_len: usize,
+        minimum: u32,
+        maximum: u32,
+        held: usize,
+        shift: u32,
+        index: u32,
+        out: *mut [u64; 6],
+    ) -> u32;
     fn pdb_primitive(index: u32, out: *mut [u64; 4]) -> u32;
 }
 
@@ -51,7 +62,20 @@ pub(crate) fn update(table: &mut [u32], f: Numbers, at: usize, index: u32) -> Re
 #[inline]
 pub(crate) fn find(s: &[u8], table: &[u32], f: Numbers, index: u32) -> Result<[u64; 6]> {
     let mut out = [0; 6];
-    let number = unsafe { pdb_find(s.as_ptr(), s.len(), table.as_ptr(), table.len(), f.minimum, f.maximum, f.held, f.shift, index, &mut out) };
+    let number = unsafe {
+        pdb_find(
+            s.as_ptr(),
+            s.len(),
+            table.as_ptr(),
+            table.len(),
+            f.minimum,
+            f.maximum,
+            f.held,
+            f.shift,
+            index,
+            &mut out,
+        )
+    };
     // 1 from `find` has the links passed: told apart here, since its detail may be 0
     if number == 1 {
         return Err(Error::EndedAfter(out[0] as u32));

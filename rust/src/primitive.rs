@@ -123,7 +123,10 @@ pub struct PrimitiveType {
 /// The primitive type of an index; refused as not found where it names none.
 pub fn primitive(index: TypeIndex) -> Result<PrimitiveType> {
     let o = ffi::primitive(index.0)?;
-    Ok(PrimitiveType { kind: kind(o[2]), indirection: indirection(o[3]) })
+    Ok(PrimitiveType {
+        kind: kind(o[2]),
+        indirection: indirection(o[3]),
+    })
 }
 
 /// The kind that a low byte names: the list of crates/word_primitive/specs/Kinds.antt.

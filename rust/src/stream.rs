@@ -96,7 +96,10 @@ impl Header {
     /// Reads the header of a stream.
     pub fn parse(stream: &[u8]) -> Result<Header> {
         let o = ffi::header(stream)?;
-        let slice = |k: usize| Slice { offset: o[k] as u32 as i32, size: o[k + 1] as u32 };
+        let slice = |k: usize| Slice {
+            offset: o[k] as u32 as i32,
+            size: o[k + 1] as u32,
+        };
         Ok(Header {
             version: o[2] as u32,
             header_size: o[3] as u32,
@@ -131,7 +134,11 @@ impl<'s, I: ItemIndex> ItemInformation<'s, I> {
     /// Takes a stream whole, as it comes out of the database. An empty one stands for a stream that the database does not have.
     pub fn parse(stream: &'s [u8]) -> Result<Self> {
         let header = Header::parse(stream)?;
-        Ok(ItemInformation { stream, header, index: PhantomData })
+        Ok(ItemInformation {
+            stream,
+            header,
+            index: PhantomData,
+        })
     }
 
     /// Its header.
@@ -151,7 +158,13 @@ impl<'s, I: ItemIndex> ItemInformation<'s, I> {
 
     /// An iterator over the records, from the first on.
     pub fn iter(&self) -> ItemIter<'s, I> {
-        ItemIter { stream: self.stream, at: self.header.header_size as usize, number: self.header.minimum_index, over: false, index: PhantomData }
+        ItemIter {
+            stream: self.stream,
+            at: self.header.header_size as usize,
+            number: self.header.minimum_index,
+            over: false,
+            index: PhantomData,
+        }
     }
 
     /// A fresh finder with blocks of 8 records, which holds the place of the first record if there is one.
@@ -164,10 +177,20 @@ impl<'s, I: ItemIndex> ItemInformation<'s, I> {
         if shift > 6 {
             return Err(Error::Shift);
         }
-        let numbers = Numbers { minimum: self.header.minimum_index, maximum: self.header.maximum_index, held: 0, shift };
+        let numbers = Numbers {
+            minimum: self.header.minimum_index,
+            maximum: self.header.maximum_index,
+            held: 0,
+            shift,
+        };
         // a record takes four bytes or more, whatever the header counts
         let table = Vec::with_capacity((self.len().min(self.stream.len() / 4) >> shift) + 1);
-        let mut finder = ItemFinder { stream: self.stream, table, numbers, index: PhantomData };
+        let mut finder = ItemFinder {
+            stream: self.stream,
+            table,
+            numbers,
+            index: PhantomData,
+        };
         if !self.is_empty() {
             finder.update(&self.iter())?;
         }
@@ -240,7 +263,11 @@ impl<'s, I: ItemIndex> Iterator for ItemIter<'s, I> {
                 let place = o[4] as usize;
                 self.at = o[6] as usize;
                 self.number = o[7] as u32;
-                Some(Ok(Item { index: I::from(o[3] as u32), bytes: &self.stream[place..place + o[5] as usize], place: Some(place) }))
+                Some(Ok(Item {
+                    index: I::from(o[3] as u32),
+                    bytes: &self.stream[place..place + o[5] as usize],
+                    place: Some(place),
+                }))
             }
             Ok(_) => {
                 self.over = true;
@@ -300,9 +327,23 @@ impl<'s, I: ItemIndex> ItemFinder<'s, I> {
         let o = ffi::find(self.stream, &self.table, self.numbers, index.into())?;
         let passed = o[5] as u32;
         if o[2] == 0 {
-            return Ok((Item { index, bytes: &[0xff, 0xff], place: None }, passed));
+            return Ok((
+                Item {
+                    index,
+                    bytes: &[0xff, 0xff],
+                    place: None,
+                },
+                passed,
+            ));
         }
         let place = o[3] as usize;
-        Ok((Item { index, bytes: &self.stream[place..place + o[4] as usize], place: Some(place) }, passed))
+        Ok((
+            Item {
+                index,
+                bytes: &self.stream[place..place + o[4] as usize],
+                place: Some(place),
+            },
+            passed,
+        ))
     }
 }

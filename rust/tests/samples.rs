@@ -122,7 +122,10 @@ fn refusal_ends_the_iterator() {
     s[12] = 4; // four records counted: the third has one byte, the fourth is not there
     let info = TypeInformation::parse(&s).expect("a header");
     let finder = info.finder();
-    assert_eq!(finder.find_passed(TypeIndex(4098)).map(|(i, k)| (i.len(), i.raw_kind(), k)), Ok((1, Err(Error::Ended), 2)));
+    assert_eq!(
+        finder.find_passed(TypeIndex(4098)).map(|(i, k)| (i.len(), i.raw_kind(), k)),
+        Ok((1, Err(Error::Ended), 2))
+    );
     assert_eq!(finder.find(TypeIndex(4099)), Err(Error::EndedAfter(3)));
 }
 
