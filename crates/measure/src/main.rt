@@ -214,21 +214,25 @@ fn list_from(s: &[u8], from: ListCursor) -> u64 {
 }
 
 // The finder of the whole stream.
-fn indexed(s: &[u8], t: &mut [u32; PLACES], shift: u32) -> ItemFinder {
-    match stream_index::index_all_by(Stream::Types, s, t, shift) {
+fn indexed(s: &[u8], t: &mut [u32; PLACES]) -> ItemFinder {
+    toured(stream_index::index_all(Stream::Types, s, t))
+}
+
+fn toured(a: IndexAnswer) -> ItemFinder {
+    match a {
         IndexAnswer::Answered(tour) => tour.finder,
         IndexAnswer::Refused(_) => ItemFinder {
             minimum_index: 0,
             maximum_index: 0,
             held: 0,
-            shift: shift,
+            shift: 3,
         },
     }
 }
 
 // Fills a fresh finder; the sum is over the places that it holds.
 fn index_once(s: &[u8], t: &mut [u32; PLACES]) -> u64 {
-    let f = indexed(s, t, stream_finder::SHIFT);
+    let f = indexed(s, t);
     places(t, f.held)
 }
 
@@ -255,7 +259,7 @@ fn load_once(s: &[u8], file: &[u8], t: &mut [u32; PLACES]) -> u64 {
 
 // The file to load, and how many bytes it has.
 fn kept(s: &[u8], t: &mut [u32; PLACES], shift: u32, file: &mut [u8; FILE]) -> usize {
-    let f = indexed(s, t, shift);
+    let f = toured(stream_index::index_all_by(Stream::Types, s, t, shift));
     match stream_places::save(s, f, t, file) {
         SaveAnswer::Answered(n) => n,
         SaveAnswer::Refused(_) => 0,
@@ -311,7 +315,7 @@ fn repeat(op: u8, times: u64, at: usize, stream: &mut [u8], t: &mut [u32; PLACES
     if stream.len() <= at {
         return 0;
     }
-    let f = indexed(stream, t, stream_finder::SHIFT);
+    let f = indexed(stream, t);
     let mut sum: u64 = 0;
     let mut i: u64 = 0;
     while i < times {
