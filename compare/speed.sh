@@ -22,6 +22,8 @@ speed=$1
 shift
 root=$(cd "$(dirname "$0")/.." && pwd)
 measure=$root/target/bin/measure
+places=$(mktemp)
+trap 'rm -f "$places"' EXIT
 if [ $# -eq 0 ]; then
   set -- "$root/samples/gen400-x64.tpi" "$root/samples/rich-x64.tpi" "$root/samples/rich-x64.ipi"
 fi
@@ -29,7 +31,7 @@ fi
 if [ "$(uname -m)" = x86_64 ]; then
   fewest=10
   count() { # program operation times stream
-    valgrind --tool=callgrind --callgrind-out-file=/dev/null "$1" "$2" "$3" < "$4" 2>&1 >/dev/null | sed -n 's/.*Collected : //p'
+    valgrind --tool=callgrind --callgrind-out-file=/dev/null "$1" "$2" "$3" 0 "$places" < "$4" 2>&1 >/dev/null | sed -n 's/.*Collected : //p'
   }
 else
   fewest=1
@@ -37,7 +39,7 @@ else
   tools=$(dirname "$(dirname "$(rt doc)")")/on/$(uname -m)/toolchain
   count() { # program operation times stream
     "$tools/bin/qemu-x86_64" -one-insn-per-tb -d exec,nochain -D /dev/fd/3 \
-      "$tools/lib/ld-linux-x86-64.so.2" --library-path "$tools/lib" "$1" "$2" "$3" < "$4" 3>&1 >/dev/null | grep -c '^Trace'
+      "$tools/lib/ld-linux-x86-64.so.2" --library-path "$tools/lib" "$1" "$2" "$3" 0 "$places" < "$4" 3>&1 >/dev/null | grep -c '^Trace'
   }
 fi
 
@@ -58,10 +60,16 @@ for stream; do
     if [ $op = header ]; then
       n=$((100 * fewest)) over=$n
     fi
+    case $op in
+      load0) "$root/compare/places.py" save "$stream" "$places" 0; op=load name=load0 ;;
+      load6) "$root/compare/places.py" save "$stream" "$places" 6; op=load name=load6 ;;
+      load) "$root/compare/places.py" save "$stream" "$places" 3; name=load ;;
+      *) name=$op ;;
+    esac
     port=$(($(count "$measure" $op $((2 * n)) "$stream") - $(count "$measure" $op $n "$stream")))
     case $op in load*) asked=- ;; *) asked=$speed ;; esac
     if [ "$asked" = - ]; then
-      awk -v s="$(basename "$stream")" -v op=$op -v p=$port -v over=$over 'BEGIN { printf "| %s | %s | %.1f | | | |\n", s, op, p / over }'
+      awk -v s="$(basename "$stream")" -v op=$name -v p=$port -v over=$over 'BEGIN { printf "| %s | %s | %.1f | | | |\n", s, op, p / over }'
       continue
     fi
     same=alike

@@ -41,36 +41,27 @@ pub enum SaveAnswer {
     Refused(Refusal),
 }
 
-// The number at place p, where it is known to be there.
+// The number of 1, 2 or 4 bytes at place p, where it is known to be there: each is two halves, and compiles to one load.
 
 fn byte_at(f: &[u8], p: usize) -> u8
     requires { ⌜ p + 1 ≤ length (now f) ⌝ }
     ensures { λ r. ⌜ r ≡ littleAt 1 (now (f .entry)) p ⌝ }
 {
-    let Read8::Got(x, _) = fixed::u8_at(f, p) else {
-        return 0;
-    };
-    x
+    f[p]
 }
 
 fn half_at(f: &[u8], p: usize) -> u16
     requires { ⌜ p + 2 ≤ length (now f) ⌝ }
     ensures { λ r. ⌜ r ≡ littleAt 2 (now (f .entry)) p ⌝ }
 {
-    let Read16::Got(x, _) = fixed::u16_at(f, p) else {
-        return 0;
-    };
-    x
+    (byte_at(f, p) as u16) + 256 * (byte_at(f, p + 1) as u16)
 }
 
 fn word_at(f: &[u8], p: usize) -> u32
     requires { ⌜ p + 4 ≤ length (now f) ⌝ }
     ensures { λ r. ⌜ r ≡ littleAt 4 (now (f .entry)) p ⌝ }
 {
-    let Read32::Got(x, _) = fixed::u32_at(f, p) else {
-        return 0;
-    };
-    x
+    (half_at(f, p) as u32) + 65536 * (half_at(f, p + 2) as u32)
 }
 
 // ---- loading
@@ -145,14 +136,6 @@ fn links_of(shift: u32) -> u32
     1 << shift
 }
 
-// The length that a link starts with, where it is known to be there.
-fn length_at(s: &[u8], p: usize) -> usize
-    requires { ⌜ p + 2 ≤ length (now s) ⌝ }
-    ensures { λ r. ⌜ (r ≡ littleAt 2 (now (s .entry)) p) × (r < 65536) ⌝ }
-{
-    (s[p] as usize) + 256 * (s[p + 1] as usize)
-}
-
 // Whether so many links from place p lead to place q.
 fn leads(s: &[u8], p: usize, links: u32, q: usize) -> bool
     requires { ⌜ p ≤ length (now s) ⌝ }
@@ -165,7 +148,7 @@ fn leads(s: &[u8], p: usize, links: u32, q: usize) -> bool
         if left < 2 {
             return false;
         }
-        let n = length_at(s, at);
+        let n = half_at(s, at) as usize;
         if left - 2 < n {
             return false;
         }

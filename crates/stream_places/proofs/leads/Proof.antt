@@ -23,13 +23,13 @@ returns : tie.Need-returns Inv-loop μ-loop
 returns c = let l = c .before .before .loop in block-cut _ _ _ (l .i) (l .at) _ (l .inv .2) (omega arith) (omega arith)
 
 returns-2 : tie.Need-returns-2 Inv-loop μ-loop
-returns-2 c = let l = c .before .before .before .before .loop in block-cut _ _ _ (l .i) (l .at) _ (l .inv .2) (omega arith) (omega (arith, c .before .length-at .ensures .0))
+returns-2 c = let l = c .before .before .before .before .loop in block-cut _ _ _ (l .i) (l .at) _ (l .inv .2) (omega arith) (omega (arith, c .before .half-at .ensures))
 
 loop-again : tie.Need-loop-again Inv-loop μ-loop
 loop-again c =
     let l = c .before .before .before .before .loop in
-    let e = c .before .length-at .ensures .0 in
-    let w : l .at + 2 + c .before .length-at .result ≤ length (c .before .before .before .before .before .before .args .s .now) = omega arith in
+    let e = c .before .half-at .ensures in
+    let w : l .at + 2 + c .before .half-at .result ≤ length (c .before .before .before .before .before .before .args .s .now) = omega arith in
     (omega arith, w, chain-pass _ _ _ _ _ _ (l .inv .2) (link-whole _ (l .at) (omega (arith, e))) ∙ ap reached (ap (λ (n : ℕ). l .at + 2 + n) (sym e)))
 
 returns-3 : tie.Need-returns-3 Inv-loop μ-loop
@@ -38,5 +38,5 @@ returns-3 c = let l = c .before .loop in block-end _ _ _ (l .i) (l .at) _ (l .in
 pub leads-spec : {M : Type 1} → statement M
 leads-spec =
     tie.close (tie.spec
-    Inv-loop μ-loop loop-holds (λ c. omega arith) returns (λ c κs. omega arith) returns-2 (λ c. omega arith) (λ c. omega arith) (λ c. omega arith)
+    Inv-loop μ-loop loop-holds (λ c. omega arith) returns (λ c κs. omega arith) (λ c. search needs) returns-2 (λ c. omega arith) (λ c. omega arith) (λ c. omega arith)
     (λ c. omega arith) loop-again returns-3)
