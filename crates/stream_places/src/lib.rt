@@ -81,7 +81,7 @@ pub fn load(s: &[u8], f: &[u8], t: &mut [u32]) -> FinderAnswer
 
 // The same, of a stream that has this header and a file that has this trailer.
 fn loaded(s: &[u8], f: &[u8], t: &mut [u32], h: Header, k: Trailer) -> FinderAnswer
-    requires { ⌜ (k .shift ≤ 6) × (4 * k .count ≤ length (now f)) × (h .«header_size» ≤ length (now s)) ⌝ }
+    requires { ⌜ (length (now s) ≤ 4294967294) × (k .shift ≤ 6) × (4 * k .count ≤ length (now f)) × (h .«header_size» ≤ length (now s)) ⌝ }
     ensures { λ r. ⌜ Fills (now (t .entry)) (loadFor (now (s .entry)) (now (f .entry)) (now (t .entry)) h k) r (now (t .exit)) ⌝ }
 {
     let minimum = h.minimum_index;
@@ -138,21 +138,20 @@ fn links_of(shift: u32) -> u32
 
 // Whether so many links from place p lead to place q.
 fn leads(s: &[u8], p: usize, links: u32, q: usize) -> bool
-    requires { ⌜ p ≤ length (now s) ⌝ }
+    requires { ⌜ (length (now s) ≤ 4294967294) × (p ≤ length (now s)) ⌝ }
     ensures { λ r. ⌜ r ≡ ends (chain (now (s .entry)) p links) q ⌝ }
 {
     let mut at = p;
     let mut i: u32 = 0;
     while i < links {
-        let left = s.len() - at;
-        if left < 2 {
+        let place = at + 2;
+        if place > s.len() {
             return false;
         }
-        let n = half_at(s, at) as usize;
-        if left - 2 < n {
+        at = place + (half_at(s, at) as usize);
+        if at > s.len() {
             return false;
         }
-        at = at + 2 + n;
         i += 1;
     }
     at == q
@@ -160,7 +159,7 @@ fn leads(s: &[u8], p: usize, links: u32, q: usize) -> bool
 
 // Whether the file's n places are on the chain: the first is its start, and each later one a block of links after the one before it.
 fn on_chain(s: &[u8], f: &[u8], start: usize, n: usize, links: u32) -> bool
-    requires { ⌜ (4 * n ≤ length (now f)) × (start ≤ length (now s)) ⌝ }
+    requires { ⌜ (length (now s) ≤ 4294967294) × (4 * n ≤ length (now f)) × (start ≤ length (now s)) ⌝ }
     ensures { λ r. ⌜ r ≡ onChain (now (s .entry)) links start (wordsAt n (now (f .entry)) 0) ⌝ }
 {
     if n == 0 {
@@ -184,7 +183,7 @@ fn on_chain(s: &[u8], f: &[u8], start: usize, n: usize, links: u32) -> bool
 
 // The file's n places into the table, if they are on the chain: nothing is stored before that is known of all.
 fn taken(s: &[u8], f: &[u8], t: &mut [u32], start: usize, n: usize, links: u32) -> bool
-    requires { ⌜ (4 * n ≤ length (now f)) × (start ≤ length (now s)) × (n ≤ length (now t)) ⌝ }
+    requires { ⌜ (length (now s) ≤ 4294967294) × (4 * n ≤ length (now f)) × (start ≤ length (now s)) × (n ≤ length (now t)) ⌝ }
     ensures { λ r. ⌜ Takes (now (t .entry)) (onChain (now (s .entry)) links start (wordsAt n (now (f .entry)) 0)) (wordsAt n (now (f .entry)) 0) r (now (t .exit)) ⌝ }
 {
     let good = on_chain(s, f, start, n, links);

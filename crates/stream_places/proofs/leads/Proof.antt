@@ -38,5 +38,5 @@ returns-3 c = let l = c .before .loop in block-end _ _ _ (l .i) (l .at) _ (l .in
 pub leads-spec : {M : Type 1} → statement M
 leads-spec =
     tie.close (tie.spec
-    Inv-loop μ-loop loop-holds (λ c. omega arith) returns (λ c κs. omega arith) (λ c. search needs) returns-2 (λ c. omega arith) (λ c. omega arith) (λ c. omega arith)
+    Inv-loop μ-loop loop-holds (λ c. omega arith) returns (λ c κs. omega arith) (λ c. search needs) (λ c. omega arith) returns-2 (λ c. omega arith)
     (λ c. omega arith) loop-again returns-3)
