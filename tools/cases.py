@@ -1,4 +1,5 @@
-"""Runs a program on cases: a name, what it is given on standard input, and what it has to answer. For tools/list_cases and tools/outline_cases.
+"""Runs a program on cases: a name, what it is given on standard input, and what it has to answer; where it takes them, also its arguments and the files
+that they name. For tools/list_cases, tools/outline_cases and tools/lookup_cases.
 
 Each case is run by `rt try`, which compiles the program as it stands and proves nothing: `rt ci` proves it, from nothing and once.
 """
@@ -11,14 +12,17 @@ import tempfile
 
 def tried(program, case):
     """What is wrong with a case, or nothing."""
-    name, given, wanted = case
+    name, given, wanted, *more = case
+    words, files = more or ([], {})
     with tempfile.TemporaryDirectory() as scratch:
         shutil.copy("crates.txt", scratch)
         os.mkdir(os.path.join(scratch, "crates"))
         for crate in os.listdir("crates"):
             if os.path.isdir(os.path.join("crates", crate, "src")):
                 shutil.copytree(os.path.join("crates", crate, "src"), os.path.join(scratch, "crates", crate, "src"))
-        for file, content in (("stdin", given), ("stdout", wanted.encode())):
+        os.mkdir(os.path.join(scratch, "crates", program, "data"))
+        named = [(os.path.join("data", file), content) for file, content in files.items()]
+        for file, content in [("stdin", given), ("stdout", wanted.encode()), ("args", "".join(w + "\n" for w in words).encode())] + named:
             with open(os.path.join(scratch, "crates", program, file), "wb") as f:
                 f.write(content)
         run = subprocess.run(["rt", "try", program], cwd=scratch, stdout=subprocess.PIPE, stderr=subprocess.STDOUT, timeout=600)

@@ -1,5 +1,6 @@
 // Does one operation of the reader many times on the stream that stands on standard input, and prints a checksum that depends on every
-// answer: what compare/speed.sh counts the instructions of. The arguments are the operation's name and how many times.
+// answer: what compare/speed.sh counts the instructions of. The arguments are the operation's name and how many times; for `load`, the fourth is the places
+// file.
 mod sums;
 
 ghost use mathlib.Core.Path.{_≡_};
@@ -25,7 +26,6 @@ use stream_item::Stream;
 use stream_item::iter::ItemIter;
 use stream_item::iter::IterAnswer;
 use stream_item::iter::NextAnswer;
-use stream_places::SaveAnswer;
 use stream_view::RawKindAnswer;
 use sums::add;
 
@@ -214,21 +214,21 @@ fn list_from(s: &[u8], from: ListCursor) -> u64 {
 }
 
 // The finder of the whole stream.
-fn indexed(s: &[u8], t: &mut [u32; PLACES], shift: u32) -> ItemFinder {
-    match stream_index::index_all_by(Stream::Types, s, t, shift) {
+fn indexed(s: &[u8], t: &mut [u32; PLACES]) -> ItemFinder {
+    match stream_index::index_all(Stream::Types, s, t) {
         IndexAnswer::Answered(tour) => tour.finder,
         IndexAnswer::Refused(_) => ItemFinder {
             minimum_index: 0,
             maximum_index: 0,
             held: 0,
-            shift: shift,
+            shift: 3,
         },
     }
 }
 
 // Fills a fresh finder; the sum is over the places that it holds.
 fn index_once(s: &[u8], t: &mut [u32; PLACES]) -> u64 {
-    let f = indexed(s, t, stream_finder::SHIFT);
+    let f = indexed(s, t);
     places(t, f.held)
 }
 
@@ -250,15 +250,6 @@ fn load_once(s: &[u8], file: &[u8], t: &mut [u32; PLACES]) -> u64 {
     match stream_places::load(s, file, t) {
         FinderAnswer::Answered(f) => places(t, f.held),
         FinderAnswer::Refused(_) => 0,
-    }
-}
-
-// The file to load, and how many bytes it has.
-fn kept(s: &[u8], t: &mut [u32; PLACES], shift: u32, file: &mut [u8; FILE]) -> usize {
-    let f = indexed(s, t, shift);
-    match stream_places::save(s, f, t, file) {
-        SaveAnswer::Answered(n) => n,
-        SaveAnswer::Refused(_) => 0,
     }
 }
 
@@ -311,7 +302,7 @@ fn repeat(op: u8, times: u64, at: usize, stream: &mut [u8], t: &mut [u32; PLACES
     if stream.len() <= at {
         return 0;
     }
-    let f = indexed(stream, t, stream_finder::SHIFT);
+    let f = indexed(stream, t);
     let mut sum: u64 = 0;
     let mut i: u64 = 0;
     while i < times {
@@ -346,28 +337,25 @@ fn first(file: &[u8; FILE], n: usize) -> &[u8] {
     &s[0..0]
 }
 
-fn load_many(shift: u32, times: u64, stream: &mut [u8], t: &mut [u32; PLACES]) -> u64 {
-    let mut file = [0u8; FILE];
-    let n = kept(stream, t, shift, &mut file);
-    repeat_load(times, stream, first(&file, n), t)
-}
-
-fn run(op: u8, shift: u32, times: u64, at: usize, stream: &mut [u8], t: &mut [u32; PLACES]) -> u64 {
-    if op == LOAD {
-        return load_many(shift, times, stream, t);
-    }
-    repeat(op, times, at, stream, t)
-}
-
-// `load` is at shift 3, `load0` and `load6` at those.
-fn shift_of(word: &[u8; 16]) -> u32 {
-    if word[4] == b'0' {
+// The places file that the fourth argument names.
+fn load_many(times: u64, stream: &mut [u8], t: &mut [u32; PLACES]) -> u64 {
+    let mut name = [0u8; 4096];
+    let n = os::arg(4, &mut name);
+    let opened = os::open_read(&name[0..n]);
+    if opened < 0 {
         return 0;
     }
-    if word[4] == b'6' {
-        return 6;
+    let mut file = [0u8; FILE];
+    let m = io::read_full(opened, &mut file);
+    libc::close(opened);
+    repeat_load(times, stream, first(&file, m), t)
+}
+
+fn run(op: u8, times: u64, at: usize, stream: &mut [u8], t: &mut [u32; PLACES]) -> u64 {
+    if op == LOAD {
+        return load_many(times, stream, t);
     }
-    stream_finder::SHIFT
+    repeat(op, times, at, stream, t)
 }
 
 fn operation(word: &[u8; 16], n: usize) -> u8 {
@@ -419,7 +407,7 @@ fn main() {
     let mut stream = buffer();
     let n = io::read_full(STDIN_FILENO, &mut stream);
     let mut t = [0u32; PLACES];
-    let sum = run(op, shift_of(&word), times, at, &mut stream[0..n], &mut t);
+    let sum = run(op, times, at, &mut stream[0..n], &mut t);
     io::print_decimal(STDOUT_FILENO, sum);
     io::write_all(STDOUT_FILENO, b"\n");
 }

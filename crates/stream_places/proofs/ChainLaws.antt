@@ -18,14 +18,11 @@ use Rattle.stream_finder.specs.Finder.{State, blockOf}
 use Rattle.stream_finder.specs.Places.{Placed}
 use Rattle.stream_finder.proofs.PlaceLaws.{placed-load}
 use Rattle.stream_places.specs.Places.{ends, follows, onChain}
+use Rattle.stream_places.proofs.PlacesLaws.{ends-reached}
 
 both-parts : (b : Bool) (c : Bool) → both b c ≡ true → (b ≡ true) × (c ≡ true)
 both-parts true c e = (refl, e)
 both-parts false c e = let z : _≡_ {A = ℕ} 0 1 = cc in absurd (omega arith)
-
-ends-reached : (w : Walk) (q : ℕ) → ends w q ≡ true → w ≡ reached q
-ends-reached (reached r) q e = ap reached (eqb-true _ _ e)
-ends-reached (broke j) q e = let z : _≡_ {A = ℕ} 0 1 = cc in absurd (omega arith)
 
 -- a table that was filled has those places first
 pub filled-at : (t ws : List ℕ) (k : ℕ) → length ws ≤ length t → k < length ws → getD (put t 0 ws) k 0 ≡ getD ws k 0

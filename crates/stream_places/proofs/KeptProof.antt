@@ -36,7 +36,7 @@ use Rattle.stream_places.specs.Kept.{recordsOf, Loaded, LoadServes, Roun
 use Rattle.stream_places.specs.declared.trailer.Trailer.{Trailer}
 use Rattle.stream_places.proofs.FileLaws.{length-words, length-word-bytes, length-trailer, trailer-by, checked-right, Trailed, trailed}
 use Rattle.stream_places.proofs.BackLaws.{words-back, words-again, Narrow, Back, trailer-back, trailer-again}
-use Rattle.stream_places.proofs.PlacesLaws.{Ours, load-header, load-trailer, load-done, Bounds, save-header, save-done, header-short}
+use Rattle.stream_places.proofs.PlacesLaws.{Ours, load-header, load-trailer, load-done, Bounds, save-header, save-done, header-short, header-fields}
 use Rattle.stream_places.proofs.ChainLaws.{Chained, chained, unchained, chained-placed, placed-chained}
 
 -- ---- from an answer of `load` back to what it found
@@ -197,31 +197,12 @@ record HeaderFits (s : List ℕ) (h : Header) : Type 0 where
   pub minimum : h .«minimum_index» < 4294967296
   pub maximum : h .«maximum_index» < 4294967296
 
-by-pick : (P : Type 0) (b : Bool) (x y : Answer Header) (h : Header) → pick b x y ≡ answered h → (x ≡ answered h → P) → (y ≡ answered h → P) → P
-by-pick P true x y h e f g = f e
-by-pick P false x y h e f g = g e
-
 header-fits : (s : List ℕ) (h : Header) → Octets s → headerOf s ≡ answered h → HeaderFits s h
-unfolding headerOf Octets
+unfolding Octets
 header-fits s h oct e =
-    by-pick (HeaderFits s h) (eqb (length s) 0) _ _ h (passed (ltb longest (length s)) 16 _ _ e .1)
-    (λ g.
-    let x : _≡_ {A = ℕ} 0 (h .«header_size») = cc in
-    let y : _≡_ {A = ℕ} 0 (h .«minimum_index») = cc in
-    let z : _≡_ {A = ℕ} 0 (h .«maximum_index») = cc in
-    record { inside = omega arith; minimum = omega arith; maximum = omega arith })
-    (λ g.
-    let t3 = passed (ltb (length s) 56) 1 _ _ g in
-    let t4 = passed (ltb (littleAt 4 s 4) 56) 2 _ _ (t3 .1) in
-    let t5 = passed (ltb 1024 (littleAt 4 s 4)) 3 _ _ (t4 .1) in
-    let t6 = passed (ltb (length s) (littleAt 4 s 4)) 1 _ _ (t5 .1) in
-    let t7 = passed (ltb (littleAt 4 s 8) 4096) 4 _ _ (t6 .1) in
-    let t8 = passed (ltb (littleAt 4 s 12) (littleAt 4 s 8)) 5 _ _ (t7 .1) in
-    let w : littleAt 4 s 4 ≤ length s = ltb-false _ _ (t6 .0) in
-    let x : littleAt 4 s 4 ≡ h .«header_size» = cc in
-    let y : littleAt 4 s 8 ≡ h .«minimum_index» = cc in
-    let z : littleAt 4 s 12 ≡ h .«maximum_index» = cc in
-    record { inside = omega arith; minimum = omega (arith, little-below 4 s 8 oct); maximum = omega (arith, little-below 4 s 12 oct) })
+    header-fields (HeaderFits s h) s h e
+    (λ x y z. record { inside = omega arith; minimum = omega arith; maximum = omega arith })
+    (λ w x y z. record { inside = omega arith; minimum = omega (arith, little-below 4 s 8 oct); maximum = omega (arith, little-below 4 s 12 oct) })
 
 -- what a file that was saved says of its finder
 record Kept (s : List ℕ) (h : Header) (σ : State) (space : ℕ) (f : List ℕ) : Type 0 where

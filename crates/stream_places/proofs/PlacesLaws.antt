@@ -1,7 +1,7 @@
 -- The outcomes of loading and saving, a law for each, in the order of their tests; and a turn of the loop over the places. Assumes nothing.
 use Prim.Native.Nat.{ℕ, zero, suc, _+_, _-_, _*_, _^_, _≤_, _<_}
 use native.Mathlib.Omega.{arith}
-use native.Mathlib.Nat.{zero-add}
+use native.Mathlib.Nat.{zero-add, add-sub-of-le}
 use native.Mathlib.Numerals.{add-one}
 use mathlib.Core.Path.{_≡_, refl, sym, ap, _∙_}
 use mathlib.Core.Bool.{Bool, true, false, not}
@@ -9,17 +9,14 @@ use mathlib.Core.List.{List, [], _∷_, _++_}
 use lib.ListN.{length, getD, take, drop, length-take}
 use lib.Seq.{drop-cons}
 use lib.Dec.{ltb, eqb}
-use borrow.Author.Tests.{lt-ltb, le-ltb, eq-eqb, ne-eqb, ltb-false}
-use Rattle.answer.specs.Answer.{Answer, answered, refused, both, then}
+use borrow.Author.Tests.{lt-ltb, le-ltb, eq-eqb, ne-eqb, ltb-false, eqb-true}
+use Rattle.answer.specs.Answer.{Answer, answered, refused, pick, both, then}
 use Rattle.field.specs.Fields.{littleAt}
 use Rattle.field_put.specs.Bytes.{bytes, put, Puts}
 use Rattle.stream_header.specs.Header.{longest, headerOf}
 use Rattle.stream_header.specs.declared.Header.{Header}
-use Rattle.stream_item.specs.Links.{linkAt, Walk, reached, broke, passing, linked, chain, landing, land, linkOf}
-use Rattle.stream_item.specs.declared.link.Link.{Link}
-use Rattle.stream_item.specs.declared.link.Link.the-variants.{Whole, Broken}
-use Rattle.stream_item.specs.declared.link.Hit.the-variants.{Landed, Missed}
-use Rattle.stream_item.proofs.LinkLaws.{WholeAt, whole-is}
+use Rattle.stream_item.specs.Links.{Walk, reached, broke, chain}
+use Rattle.stream_item.proofs.LinkLaws.{link-broken, chain-break, chain-stays, chain-bounds}
 use Rattle.stream_item.proofs.NextLaws.{passed}
 use Rattle.stream_finder.specs.Finder.{State, state, holding}
 use Rattle.stream_places.specs.File.{wordBytes, trailerBytes, wordsAt, trailerOf}
@@ -29,48 +26,24 @@ use Rattle.stream_places.specs.declared.SaveAnswer.{SaveAnswer}
 use Rattle.stream_places.specs.declared.SaveAnswer.the-variants as save
 use Rattle.stream_places.proofs.FileLaws.{words-cons, words-none}
 
--- ---- a block of links: the last link of a walk is whole, or the walk broke
-module _ (s : List ℕ) (p k : ℕ) where
-  on-landed : (w : Walk) (a l q : ℕ) → land s k w ≡ Landed a l → ends (linked s k w) q ≡ eqb (a + l) q
-  on-landed (reached r) a l q e = go (linkAt s r) e
-    where
-      go : (x : Link) → landing k x ≡ Landed a l → ends (passing k x) q ≡ eqb (a + l) q
-      go (Whole b m) e = let x : b ≡ a = cc in let y : m ≡ l = cc in rw (x, y)
-      go Broken e = let z : _≡_ {A = ℕ} 0 1 = cc in absurd (omega arith)
-  on-landed (broke j) a l q e = let z : _≡_ {A = ℕ} 0 1 = cc in absurd (omega arith)
+-- ---- a block of links: the walk came to its end, or broke before
+module _ (s : List ℕ) (p k i at q : ℕ) (e : chain s p i ≡ reached at) where
+  pub block-end : i ≡ k → eqb at q ≡ ends (chain s p k) q
+  block-end h = sym (ap (λ (w : Walk). ends w q) (ap (chain s p) (sym h) ∙ e))
 
-  on-missed : (w : Walk) (j q : ℕ) → land s k w ≡ Missed j → ends (linked s k w) q ≡ false
-  on-missed (reached r) j q e = go (linkAt s r) e
-    where
-      go : (x : Link) → landing k x ≡ Missed j → ends (passing k x) q ≡ false
-      go (Whole b m) e = let z : _≡_ {A = ℕ} 0 1 = cc in absurd (omega arith)
-      go Broken e = refl
-  on-missed (broke i) j q e = refl
+  pub block-cut : i < k → length s < at + 2 + littleAt 2 s at → false ≡ ends (chain s p k) q
+  block-cut h l =
+      let c : chain s p (suc i) ≡ broke i = sym (ap (chain s p) (add-one i)) ∙ chain-break s p i at e (link-broken s at l) in
+      let g : chain s p k ≡ broke i = ap (chain s p) (sym (add-sub-of-le h)) ∙ chain-stays s p i (suc i) (k - suc i) c in
+      sym (ap (λ (w : Walk). ends w q) g)
 
-  pub block-landed : (a l q : ℕ) → linkOf s p k ≡ Landed a l → eqb (a + l) q ≡ ends (chain s p (k + 1)) q
-  unfolding chain linkOf
-  block-landed a l q e = rw (add-one k) (sym (on-landed (chain s p k) a l q e))
+pub ends-reached : (w : Walk) (q : ℕ) → ends w q ≡ true → w ≡ reached q
+ends-reached (reached r) q e = ap reached (eqb-true _ _ e)
+ends-reached (broke j) q e = let z : _≡_ {A = ℕ} 0 1 = cc in absurd (omega arith)
 
-  pub block-missed : (j q : ℕ) → linkOf s p k ≡ Missed j → false ≡ ends (chain s p (k + 1)) q
-  unfolding chain linkOf
-  block-missed j q e = rw (add-one k) (sym (on-missed (chain s p k) j q e))
-
-  -- and its payload ends inside the stream
-  pub landed-inside : (a l : ℕ) → linkOf s p k ≡ Landed a l → a + l ≤ length s
-  unfolding linkOf
-  landed-inside a l e = at (chain s p k) e
-    where
-      at-link : (r : ℕ) (x : Link) → linkAt s r ≡ x → landing k x ≡ Landed a l → a + l ≤ length s
-      at-link r (Whole b m) w e =
-          let x : b ≡ a = cc in
-          let y : m ≡ l = cc in
-          let h : WholeAt s r b m = whole-is s r b m w in
-          omega (arith, h .start, h .len, h .inside)
-      at-link r Broken w e = let z : _≡_ {A = ℕ} 0 1 = cc in absurd (omega arith)
-
-      at : (w : Walk) → land s k w ≡ Landed a l → a + l ≤ length s
-      at (reached r) e = at-link r (linkAt s r) refl e
-      at (broke j) e = let z : _≡_ {A = ℕ} 0 1 = cc in absurd (omega arith)
+-- and where it came to is inside
+pub block-inside : (s : List ℕ) (p k q : ℕ) → p ≤ length s → true ≡ ends (chain s p k) q → q ≤ length s
+block-inside s p k q l e = chain-bounds s p k q (ends-reached (chain s p k) q (sym e)) .inside l
 
 -- ---- the places, one more each turn
 module _ (s : List ℕ) (b : ℕ) (n : ℕ) (f : List ℕ) where
@@ -235,3 +208,35 @@ saves-file o x bs r o′ e w = saves o x (save.Answered r) o′ (answered bs) e 
 pub header-short : (s : List ℕ) (h : Header) → headerOf s ≡ answered h → length s ≤ longest
 unfolding headerOf
 header-short s h e = ltb-false _ _ (passed (ltb longest (length s)) 16 _ _ e .0)
+
+by-pick : (P : Type 0) (b : Bool) (x y : Answer Header) (h : Header) → pick b x y ≡ answered h → (x ≡ answered h → P) → (y ≡ answered h → P) → P
+by-pick P true x y h e f g = f e
+by-pick P false x y h e f g = g e
+
+-- its fields: none of the empty stream; else where 01 has them, and the header is inside
+pub header-fields : (P : Type 0) (s : List ℕ) (h : Header) → headerOf s ≡ answered h
+    → (0 ≡ h .«header_size» → 0 ≡ h .«minimum_index» → 0 ≡ h .«maximum_index» → P)
+    → (littleAt 4 s 4 ≤ length s → littleAt 4 s 4 ≡ h .«header_size» → littleAt 4 s 8 ≡ h .«minimum_index» → littleAt 4 s 12 ≡ h .«maximum_index» → P)
+    → P
+unfolding headerOf
+header-fields P s h e none all =
+    by-pick P (eqb (length s) 0) _ _ h (passed (ltb longest (length s)) 16 _ _ e .1)
+    (λ g.
+    let x : _≡_ {A = ℕ} 0 (h .«header_size») = cc in
+    let y : _≡_ {A = ℕ} 0 (h .«minimum_index») = cc in
+    let z : _≡_ {A = ℕ} 0 (h .«maximum_index») = cc in
+    none x y z)
+    (λ g.
+    let t3 = passed (ltb (length s) 56) 1 _ _ g in
+    let t4 = passed (ltb (littleAt 4 s 4) 56) 2 _ _ (t3 .1) in
+    let t5 = passed (ltb 1024 (littleAt 4 s 4)) 3 _ _ (t4 .1) in
+    let t6 = passed (ltb (length s) (littleAt 4 s 4)) 1 _ _ (t5 .1) in
+    let t7 = passed (ltb (littleAt 4 s 8) 4096) 4 _ _ (t6 .1) in
+    let t8 = passed (ltb (littleAt 4 s 12) (littleAt 4 s 8)) 5 _ _ (t7 .1) in
+    let x : littleAt 4 s 4 ≡ h .«header_size» = cc in
+    let y : littleAt 4 s 8 ≡ h .«minimum_index» = cc in
+    let z : littleAt 4 s 12 ≡ h .«maximum_index» = cc in
+    all (ltb-false _ _ (t6 .0)) x y z)
+
+pub header-inside : (s : List ℕ) (h : Header) → headerOf s ≡ answered h → h .«header_size» ≤ length s
+header-inside s h e = header-fields (h .«header_size» ≤ length s) s h e (λ x y z. omega arith) (λ w x y z. omega arith)

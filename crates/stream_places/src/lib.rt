@@ -8,7 +8,7 @@ pub mod trailer;
 
 ghost use mathlib.Core.Path.{_≡_};
 ghost use mathlib.Core.Bool.{Bool};
-ghost use Prim.Native.Nat.{_+_, _*_, _^_, _≤_};
+ghost use Prim.Native.Nat.{_+_, _*_, _^_, _≤_, _<_};
 ghost use lib.Dec.{eqb, ltb};
 ghost use lib.ListN.{length, take};
 ghost use Rattle.answer.specs.Answer.{both};
@@ -27,7 +27,6 @@ use stream_finder::FinderAnswer;
 use stream_finder::ItemFinder;
 use stream_header::Header;
 use stream_header::HeaderAnswer;
-use stream_item::link::Hit;
 use trailer::Trailer;
 use trailer::TrailerAnswer;
 
@@ -42,36 +41,27 @@ pub enum SaveAnswer {
     Refused(Refusal),
 }
 
-// The number at place p, where it is known to be there.
+// The number of 1, 2 or 4 bytes at place p, where it is known to be there: each is two halves, and compiles to one load.
 
 fn byte_at(f: &[u8], p: usize) -> u8
     requires { ⌜ p + 1 ≤ length (now f) ⌝ }
     ensures { λ r. ⌜ r ≡ littleAt 1 (now (f .entry)) p ⌝ }
 {
-    let Read8::Got(x, _) = fixed::u8_at(f, p) else {
-        return 0;
-    };
-    x
+    f[p]
 }
 
 fn half_at(f: &[u8], p: usize) -> u16
     requires { ⌜ p + 2 ≤ length (now f) ⌝ }
     ensures { λ r. ⌜ r ≡ littleAt 2 (now (f .entry)) p ⌝ }
 {
-    let Read16::Got(x, _) = fixed::u16_at(f, p) else {
-        return 0;
-    };
-    x
+    (byte_at(f, p) as u16) + 256 * (byte_at(f, p + 1) as u16)
 }
 
 fn word_at(f: &[u8], p: usize) -> u32
     requires { ⌜ p + 4 ≤ length (now f) ⌝ }
     ensures { λ r. ⌜ r ≡ littleAt 4 (now (f .entry)) p ⌝ }
 {
-    let Read32::Got(x, _) = fixed::u32_at(f, p) else {
-        return 0;
-    };
-    x
+    (half_at(f, p) as u32) + 65536 * (half_at(f, p + 2) as u32)
 }
 
 // ---- loading
@@ -91,7 +81,7 @@ pub fn load(s: &[u8], f: &[u8], t: &mut [u32]) -> FinderAnswer
 
 // The same, of a stream that has this header and a file that has this trailer.
 fn loaded(s: &[u8], f: &[u8], t: &mut [u32], h: Header, k: Trailer) -> FinderAnswer
-    requires { ⌜ (k .shift ≤ 6) × (4 * k .count ≤ length (now f)) ⌝ }
+    requires { ⌜ (length (now s) ≤ 4294967294) × (k .shift ≤ 6) × (4 * k .count ≤ length (now f)) × (h .«header_size» ≤ length (now s)) ⌝ }
     ensures { λ r. ⌜ Fills (now (t .entry)) (loadFor (now (s .entry)) (now (f .entry)) (now (t .entry)) h k) r (now (t .exit)) ⌝ }
 {
     let minimum = h.minimum_index;
@@ -117,7 +107,7 @@ fn loaded(s: &[u8], f: &[u8], t: &mut [u32], h: Header, k: Trailer) -> FinderAns
     if t.len() < count {
         return FinderAnswer::Refused(Refusal::TableFull);
     }
-    if !taken(s, f, t, start as usize, count, before_last(shift)) {
+    if !taken(s, f, t, start as usize, count, links_of(shift)) {
         return FinderAnswer::Refused(Refusal::OffTheChain);
     }
     FinderAnswer::Answered(ItemFinder {
@@ -138,28 +128,39 @@ fn lacks(count: usize, minimum: u32, maximum: u32) -> bool
     false
 }
 
-// How many links of a block come before its last.
-fn before_last(shift: u32) -> u32
+// How many links a block has.
+fn links_of(shift: u32) -> u32
     requires { ⌜ shift ≤ 6 ⌝ }
-    ensures { λ r. ⌜ r + 1 ≡ 2 ^ shift ⌝ }
+    ensures { λ r. ⌜ r ≡ 2 ^ shift ⌝ }
 {
-    (1 << shift) - 1
+    1 << shift
 }
 
-// Whether k + 1 links from place p lead to place q.
-fn leads(s: &[u8], p: usize, k: u32, q: usize) -> bool
-    ensures { λ r. ⌜ r ≡ ends (chain (now (s .entry)) p (k + 1)) q ⌝ }
+// Whether so many links from place p lead to place q.
+fn leads(s: &[u8], p: usize, links: u32, q: usize) -> bool
+    requires { ⌜ (length (now s) ≤ 4294967294) × (p ≤ length (now s)) ⌝ }
+    ensures { λ r. ⌜ r ≡ ends (chain (now (s .entry)) p links) q ⌝ }
 {
-    match stream_item::link::link_of(s, p, k) {
-        Hit::Landed(place, n) => place + n == q,
-        Hit::Missed(_) => false,
+    let mut at = p;
+    let mut i: u32 = 0;
+    while i < links {
+        let place = at + 2;
+        if place > s.len() {
+            return false;
+        }
+        at = place + (half_at(s, at) as usize);
+        if at > s.len() {
+            return false;
+        }
+        i += 1;
     }
+    at == q
 }
 
-// Whether the file's n places are on the chain: the first is its start, and each later one k + 1 links after the one before it.
-fn on_chain(s: &[u8], f: &[u8], start: usize, n: usize, k: u32) -> bool
-    requires { ⌜ 4 * n ≤ length (now f) ⌝ }
-    ensures { λ r. ⌜ r ≡ onChain (now (s .entry)) (k + 1) start (wordsAt n (now (f .entry)) 0) ⌝ }
+// Whether the file's n places are on the chain: the first is its start, and each later one a block of links after the one before it.
+fn on_chain(s: &[u8], f: &[u8], start: usize, n: usize, links: u32) -> bool
+    requires { ⌜ (length (now s) ≤ 4294967294) × (4 * n ≤ length (now f)) × (start ≤ length (now s)) ⌝ }
+    ensures { λ r. ⌜ r ≡ onChain (now (s .entry)) links start (wordsAt n (now (f .entry)) 0) ⌝ }
 {
     if n == 0 {
         return true;
@@ -171,7 +172,7 @@ fn on_chain(s: &[u8], f: &[u8], start: usize, n: usize, k: u32) -> bool
     let mut i: usize = 1;
     while i < n {
         let q = word_at(f, 4 * i) as usize;
-        if !leads(s, p, k, q) {
+        if !leads(s, p, links, q) {
             return false;
         }
         p = q;
@@ -181,11 +182,11 @@ fn on_chain(s: &[u8], f: &[u8], start: usize, n: usize, k: u32) -> bool
 }
 
 // The file's n places into the table, if they are on the chain: nothing is stored before that is known of all.
-fn taken(s: &[u8], f: &[u8], t: &mut [u32], start: usize, n: usize, k: u32) -> bool
-    requires { ⌜ (4 * n ≤ length (now f)) × (n ≤ length (now t)) ⌝ }
-    ensures { λ r. ⌜ Takes (now (t .entry)) (onChain (now (s .entry)) (k + 1) start (wordsAt n (now (f .entry)) 0)) (wordsAt n (now (f .entry)) 0) r (now (t .exit)) ⌝ }
+fn taken(s: &[u8], f: &[u8], t: &mut [u32], start: usize, n: usize, links: u32) -> bool
+    requires { ⌜ (length (now s) ≤ 4294967294) × (4 * n ≤ length (now f)) × (start ≤ length (now s)) × (n ≤ length (now t)) ⌝ }
+    ensures { λ r. ⌜ Takes (now (t .entry)) (onChain (now (s .entry)) links start (wordsAt n (now (f .entry)) 0)) (wordsAt n (now (f .entry)) 0) r (now (t .exit)) ⌝ }
 {
-    let good = on_chain(s, f, start, n, k);
+    let good = on_chain(s, f, start, n, links);
     if good {
         fill(f, t, n);
         return good;

@@ -1,21 +1,42 @@
--- `stream_places::leads` meets its contract: k links are passed and the next is whole, so k + 1 lead behind its payload. Assumes nothing.
+-- `stream_places::leads` meets its contract. The loop's invariant: i links from p lead to `at`. Assumes nothing.
 use borrow.Author.Needs.{needs}
 use native.Mathlib.Omega.{arith}
-use mathlib.Core.Path.{sym, _∙_}
-use Rattle.stream_places.proofs.PlacesLaws.{block-landed, block-missed, landed-inside}
+use Prim.Native.Nat.{ℕ, _+_, _-_, _≤_}
+use mathlib.Core.Path.{_≡_, sym, ap, _∙_}
+use lib.ListN.{length}
+use Rattle.stream_item.specs.Links.{chain, reached}
+use Rattle.stream_item.proofs.LinkLaws.{link-whole, chain-none, chain-pass}
+use Rattle.stream_places.proofs.PlacesLaws.{block-end, block-cut}
 use Rattle.stream_places.proofs.leads.Statement.{statement}
 use Rattle.stream_places.proofs.leads.Tie as tie
 
-add-result : tie.Need-add-result
-add-result c =
-    let h = landed-inside _ _ _ _ _ (sym (c .before .before .before .link-of .ensures) ∙ c .before .place .given .1) in
-    omega arith
+abbrev Inv-loop : tie.InvT-loop
+Inv-loop s p links q at₀ i₀ at i = (i ≤ links) × (at ≤ length s) × (chain s p i ≡ reached at)
 
-returns : tie.Need-returns
-returns c = block-landed _ _ _ _ _ _ (sym (c .before .before .before .link-of .ensures) ∙ c .before .place .given .1)
+abbrev μ-loop : tie.MeasureT-loop
+μ-loop s p links q at₀ i₀ at i = links - i
 
-returns-2 : tie.Need-returns-2
-returns-2 c = block-missed _ _ _ _ _ (sym (c .before .before .link-of .ensures) ∙ c .enum-told .given .1)
+loop-holds : tie.Need-loop-holds Inv-loop μ-loop
+loop-holds c = (omega arith, omega arith, chain-none _ _)
+
+returns : tie.Need-returns Inv-loop μ-loop
+returns c = let l = c .before .before .loop in block-cut _ _ _ (l .i) (l .at) _ (l .inv .2) (omega arith) (omega arith)
+
+returns-2 : tie.Need-returns-2 Inv-loop μ-loop
+returns-2 c = let l = c .before .before .before .before .loop in block-cut _ _ _ (l .i) (l .at) _ (l .inv .2) (omega arith) (omega (arith, c .before .half-at .ensures))
+
+loop-again : tie.Need-loop-again Inv-loop μ-loop
+loop-again c =
+    let l = c .before .before .before .before .loop in
+    let e = c .before .half-at .ensures in
+    let w : l .at + 2 + c .before .half-at .result ≤ length (c .before .before .before .before .before .before .args .s .now) = omega arith in
+    (omega arith, w, chain-pass _ _ _ _ _ _ (l .inv .2) (link-whole _ (l .at) (omega (arith, e))) ∙ ap reached (ap (λ (n : ℕ). l .at + 2 + n) (sym e)))
+
+returns-3 : tie.Need-returns-3 Inv-loop μ-loop
+returns-3 c = let l = c .before .loop in block-end _ _ _ (l .i) (l .at) _ (l .inv .2) (omega arith)
 
 pub leads-spec : {M : Type 1} → statement M
-leads-spec = tie.close (tie.spec (λ c κs. search needs) (λ c. search needs) add-result (λ c. search needs) returns returns-2)
+leads-spec =
+    tie.close (tie.spec
+    Inv-loop μ-loop loop-holds (λ c. omega arith) returns (λ c κs. omega arith) (λ c. search needs) (λ c. omega arith) returns-2 (λ c. omega arith)
+    (λ c. omega arith) loop-again returns-3)

@@ -7,14 +7,14 @@ use Rattle.stream_header.specs.Header.{saidHeader}
 use Rattle.stream_finder.proofs.FinderLaws.{leaves, leaves-as}
 use Rattle.stream_places.specs.File.{saidTrailer}
 use Rattle.stream_places.proofs.FileLaws.{trailed}
-use Rattle.stream_places.proofs.PlacesLaws.{load-header, load-trailer}
+use Rattle.stream_places.proofs.PlacesLaws.{load-header, load-trailer, header-inside, header-short}
 use Rattle.stream_places.proofs.load.Statement.{statement}
 use Rattle.stream_places.proofs.load.Tie as tie
 
 loaded-requires : tie.Need-loaded-requires
 loaded-requires c κs =
     let k = trailed _ _ (told saidTrailer (c .before .before .before .before .parse2 .ensures) (c .before .before .k .given .1)) in
-    (k .shift, omega arith)
+    (header-short _ _ (told saidHeader (c .before .before .before .before .before .before .before .before .parse .ensures) (c .before .before .before .before .before .before .h .given .1)), k .shift, omega arith, header-inside _ _ (told saidHeader (c .before .before .before .before .before .before .before .before .parse .ensures) (c .before .before .before .before .before .before .h .given .1)))
 
 returns : tie.Need-returns
 returns c = leaves-as _ _ _ _ _ (load-trailer _ _ _ _ _ (told saidHeader (c .before .before .before .before .before .before .before .before .before .before .before .parse .ensures) (c .before .before .before .before .before .before .before .before .before .h .given .1)) (told saidTrailer (c .before .before .before .before .before .before .before .parse2 .ensures) (c .before .before .before .before .before .k .given .1))) (c .before .before .loaded .ensures)

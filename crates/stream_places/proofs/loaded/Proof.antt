@@ -2,7 +2,7 @@
 use borrow.Author.Needs.{needs}
 use borrow.Author.Tests.{not-true, not-false}
 use native.Mathlib.Omega.{arith}
-use Prim.Native.Nat.{ℕ, _+_}
+use Prim.Native.Nat.{ℕ}
 use mathlib.Core.Bool.{Bool}
 use mathlib.Core.List.{List}
 use mathlib.Core.Path.{_≡_, refl, sym, ap, _∙_}
@@ -37,21 +37,21 @@ returns-6 : tie.Need-returns-6
 returns-6 c = leaves _ _ _ _ _ (load-full _ _ _ _ _ (ours (c .before)) (omega arith)) refl refl
 
 -- the test of all places, by the block's links as 02 has them
-on-chain-as : (s f : List ℕ) (start n k b : ℕ) (r : Bool) → k + 1 ≡ b → r ≡ onChain s (k + 1) start (wordsAt n f 0) → onChain s b start (wordsAt n f 0) ≡ r
+on-chain-as : (s f : List ℕ) (start n k b : ℕ) (r : Bool) → k ≡ b → r ≡ onChain s k start (wordsAt n f 0) → onChain s b start (wordsAt n f 0) ≡ r
 on-chain-as s f start n k b r e h = ap (λ (x : ℕ). onChain s x start (wordsAt n f 0)) (sym e) ∙ sym h
 
 returns-7 : tie.Need-returns-7
 returns-7 c =
     let w = c .before .before .before .taken .ensures in
     leaves _ _ _ _ _
-    (load-off _ _ _ _ _ (ours (c .before .before .before .before .before .before .before)) (omega arith) (on-chain-as _ _ _ _ _ _ _ (c .before .before .before .before .before-last .ensures) (w .test) ∙ not-true _ (c .if7 .taken)))
+    (load-off _ _ _ _ _ (ours (c .before .before .before .before .before .before .before)) (omega arith) (on-chain-as _ _ _ _ _ _ _ (c .before .before .before .before .links-of .ensures) (w .test) ∙ not-true _ (c .if7 .taken)))
     refl (taken-none _ _ _ _ _ w (not-true _ (c .if7 .taken)))
 
 returns-8 : tie.Need-returns-8
 returns-8 c =
     let w = c .before .before .before .taken .ensures in
     leaves _ _ _ _ _
-    (load-done _ _ _ _ _ (ours (c .before .before .before .before .before .before .before)) (omega arith) (on-chain-as _ _ _ _ _ _ _ (c .before .before .before .before .before-last .ensures) (w .test) ∙ not-false _ (c .if7 .left)))
+    (load-done _ _ _ _ _ (ours (c .before .before .before .before .before .before .before)) (omega arith) (on-chain-as _ _ _ _ _ _ _ (c .before .before .before .before .links-of .ensures) (w .test) ∙ not-false _ (c .if7 .left)))
     refl (taken-all _ _ _ _ _ w (not-false _ (c .if7 .left)))
 
 pub loaded-spec : {M : Type 1} → statement M

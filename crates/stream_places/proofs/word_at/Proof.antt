@@ -1,16 +1,14 @@
--- `stream_places::word_at` meets its contract: the number is there. Assumes nothing.
+-- `stream_places::word_at` meets its contract: the two halves make the whole. Assumes nothing.
 use borrow.Author.Needs.{needs}
-use Rattle.answer.proofs.Told.{told}
-use Rattle.field.specs.Fields.{said32}
-use Rattle.field.proofs.FieldLaws.{field-got, never-ended}
+use Rattle.field.proofs.FieldLaws.{halves}
 use Rattle.stream_places.proofs.word_at.Statement.{statement}
 use Rattle.stream_places.proofs.word_at.Tie as tie
 
 returns : tie.Need-returns
-returns c = never-ended 4 _ _ (search needs) (told said32 (c .before .before .u32-at .ensures) (c .enum-told .given .1))
-
-returns-2 : tie.Need-returns-2
-returns-2 c = field-got 4 _ _ _ _ (told said32 (c .before .before .before .u32-at .ensures) (c .before .x .given .1)) .value
+returns c = halves 2 _ _ _ _ (search needs) (search needs)
 
 pub word-at-spec : {M : Type 1} → statement M
-word-at-spec = tie.close (tie.spec (λ c κs. search needs) (λ c. search needs) (λ c. search needs) returns returns-2)
+word-at-spec =
+    tie.close (tie.spec
+    (λ c κs. search needs) (λ c. search needs) (λ c. search needs) (λ c κs. search needs) (λ c. search needs) (λ c. search needs)
+    (λ c. search needs) returns)
