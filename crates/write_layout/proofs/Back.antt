@@ -25,7 +25,7 @@ use Rattle.field_number.specs.Forms.{shortest, carried, numeralBy, sizedBy}
 use Rattle.field_number.proofs.FormLaws.{numeric-back}
 use Rattle.record_layout.specs.Fields.{Value, number, numeral, absent, many, orAbsent, Field, fixed, type, id, stringReference, optionalType, optionalId, word, gap, numeric, size, string, run, methods, members, when, runBytes, wordAfter, readFieldBy, readFieldsBy}
 use Rattle.write_layout.specs.Runs.{partAt, noZero}
-use Rattle.write_layout.specs.Fields.{Given, bytesIn, given, givenAll, Bytes, bad, only, ofNumber, ofNumeral, ofAbsent, ofMany, fixedBytes, optionalBytes, numericBytes, sizeBytes, stringBytes, writeField, and-also, writeFields}
+use Rattle.write_layout.specs.Fields.{ToWrite, bytesIn, given, givenAll, Encoded, bad, only, ofNumber, ofNumeral, ofAbsent, ofMany, fixedBytes, optionalBytes, numericBytes, sizeBytes, stringBytes, writeField, and-also, writeFields}
 use Rattle.write_layout.specs.RoundTrip.{InShortest, AllInShortest}
 
 -- From an answer back to its tests ------------------------------------------------------------------------------------------
@@ -33,7 +33,7 @@ use Rattle.write_layout.specs.RoundTrip.{InShortest, AllInShortest}
 never : {X : Type 0} → false ≡ true → X
 never h = let z : _≡_ {A = ℕ} 0 1 = cc in absurd (omega arith)
 
-pub refusal : {X : Type 0} {n : ℕ} {d bs : List ℕ} → _≡_ {A = Bytes} (refused n d) (answered bs) → X
+pub refusal : {X : Type 0} {n : ℕ} {d bs : List ℕ} → _≡_ {A = Encoded} (refused n d) (answered bs) → X
 refusal {X} {n} {d} {bs} h = let z : _≡_ {A = ℕ} 0 1 = cc in absurd (omega arith)
 
 -- the test passed, and the bytes are these
@@ -46,14 +46,14 @@ passed true xs bs h = record { test-is = refl; bytes-are = cc }
 passed false xs bs h = refusal h
 
 -- both parts were written
-pub record Both (a b : Bytes) (bs : List ℕ) : Type 0 where
+pub record Both (a b : Encoded) (bs : List ℕ) : Type 0 where
   pub first-bytes : List ℕ
   pub more-bytes : List ℕ
   pub first-is : a ≡ answered first-bytes
   pub more-is : b ≡ answered more-bytes
   pub all-are : first-bytes ++ more-bytes ≡ bs
 
-pub written-both : (a b : Bytes) (bs : List ℕ) → and-also a b ≡ answered bs → Both a b bs
+pub written-both : (a b : Encoded) (bs : List ℕ) → and-also a b ≡ answered bs → Both a b bs
 written-both (answered x) (answered y) bs h = record { first-bytes = x; more-bytes = y; first-is = refl; more-is = refl; all-are = cc }
 written-both (answered x) (refused n d) bs h = refusal h
 written-both (refused n d) b bs h = refusal h
@@ -73,7 +73,7 @@ part-back s p xs ys st = rw (le-leb _ _ (room s p xs ys (st .inside) (st .here))
 -- Fields -----------------------------------------------------------------------------------------------------------------------
 
 -- reading gave a value that shows v, and stands after the bytes bs
-pub record Back {W : Type 0} (form : ℤ → ℕ → W) (s : List ℕ) (p : ℕ) (bs : List ℕ) (r : Read (Value Part W)) (v : Given) : Type 0 where
+pub record Back {W : Type 0} (form : ℤ → ℕ → W) (s : List ℕ) (p : ℕ) (bs : List ℕ) (r : Read (Value Part W)) (v : ToWrite) : Type 0 where
   pub value : Value Part W
   pub read : r ≡ got value (p + length bs)
   pub shows : given s value ≡ v
@@ -102,13 +102,13 @@ module _ {W : Type 0} (form : ℤ → ℕ → W) (s : List ℕ) (p : ℕ) (bs ys
       → and-then (fixedAt k s p) f ≡ got v (p + length bs)
   zero-number-back k f v w g = rw (zero-here k w) (g _)
 
-  back-fixed : (k : ℕ) (v : Given) → ofNumber v (fixedBytes k) ≡ answered bs → Back form s p bs (and-then (fixedAt k s p) (λ n q. got (number n) q)) v
+  back-fixed : (k : ℕ) (v : ToWrite) → ofNumber v (fixedBytes k) ≡ answered bs → Back form s p bs (and-then (fixedAt k s p) (λ n q. got (number n) q)) v
   back-fixed k (number n) w = record { value = number n; read = number-back k n _ _ w (λ q. refl); shows = refl; form-is = tt }
   back-fixed k (numeral z u) w = refusal w
   back-fixed k absent w = refusal w
   back-fixed k (many x) w = refusal w
 
-  back-optional : (nones : List ℕ) → among 0 nones ≡ true → (v : Given) → optionalBytes nones v ≡ answered bs
+  back-optional : (nones : List ℕ) → among 0 nones ≡ true → (v : ToWrite) → optionalBytes nones v ≡ answered bs
       → Back form s p bs (and-then (optionalAt nones s p) (λ o q. got (orAbsent o) q)) v
   unfolding optionalBytes optionalAt optionalOf
   back-optional nones z (number n) w = go (among n nones) refl w
@@ -121,7 +121,7 @@ module _ {W : Type 0} (form : ℤ → ℕ → W) (s : List ℕ) (p : ℕ) (bs ys
   back-optional nones z absent w = record { value = absent; read = rw (zero-here 4 w, z); shows = refl; form-is = tt }
   back-optional nones z (many x) w = refusal w
 
-  back-word : (k : ℕ) (good : ℕ → Bool) (v : Given) → ofNumber v (λ n. pick (good n) (fixedBytes k n) bad) ≡ answered bs
+  back-word : (k : ℕ) (good : ℕ → Bool) (v : ToWrite) → ofNumber v (λ n. pick (good n) (fixedBytes k n) bad) ≡ answered bs
       → Back form s p bs (and-then (fixedAt k s p) (λ n q. pick (good n) (got (number n) q) (refused 12 []))) v
   back-word k good (number n) w = go (good n) refl w
     where
@@ -133,7 +133,7 @@ module _ {W : Type 0} (form : ℤ → ℕ → W) (s : List ℕ) (p : ℕ) (bs ys
   back-word k good absent w = refusal w
   back-word k good (many x) w = refusal w
 
-  back-gap : (k : ℕ) (v : Given) → ofAbsent v (answered (bytes k 0)) ≡ answered bs → Back form s p bs (and-then (fixedAt k s p) (λ n q. got absent q)) v
+  back-gap : (k : ℕ) (v : ToWrite) → ofAbsent v (answered (bytes k 0)) ≡ answered bs → Back form s p bs (and-then (fixedAt k s p) (λ n q. got absent q)) v
   back-gap k (number n) w = refusal w
   back-gap k (numeral z u) w = refusal w
   back-gap k absent w = record { value = absent; read = zero-number-back k _ _ w (λ q. refl); shows = refl; form-is = tt }
@@ -147,7 +147,7 @@ module _ {W : Type 0} (form : ℤ → ℕ → W) (s : List ℕ) (p : ℕ) (bs ys
       let st′ : Stands s p (shortest z) ys = rw (a .bytes-are) st in
       (rw (numeric-back s p ys z (a .test-is) st′, a .bytes-are), ap length (sym (a .bytes-are)))
 
-  back-numeric : (v : Given) → ofNumeral v numericBytes ≡ answered bs
+  back-numeric : (v : ToWrite) → ofNumeral v numericBytes ≡ answered bs
       → Back form s p bs (and-then (numeralBy form s p) (λ x q. got (numeral (x .value) (x .form)) q)) v
   unfolding numeralBy
   back-numeric (number n) w = refusal w
@@ -158,7 +158,7 @@ module _ {W : Type 0} (form : ℤ → ℕ → W) (s : List ℕ) (p : ℕ) (bs ys
   back-numeric absent w = refusal w
   back-numeric (many x) w = refusal w
 
-  back-size : (v : Given) → ofNumeral v sizeBytes ≡ answered bs
+  back-size : (v : ToWrite) → ofNumeral v sizeBytes ≡ answered bs
       → Back form s p bs (and-then (sizedBy form s p) (λ x q. got (numeral (pos (x .value)) (x .form)) q)) v
   unfolding sizedBy sizeAt sizeBytes
   back-size (number n) w = refusal w
@@ -170,7 +170,7 @@ module _ {W : Type 0} (form : ℤ → ℕ → W) (s : List ℕ) (p : ℕ) (bs ys
   back-size absent w = refusal w
   back-size (many x) w = refusal w
 
-  back-string : (v : Given) → ofMany v stringBytes ≡ answered bs → Back form s p bs (and-then (stringAt s p) (λ x q. got (many x) q)) v
+  back-string : (v : ToWrite) → ofMany v stringBytes ≡ answered bs → Back form s p bs (and-then (stringAt s p) (λ x q. got (many x) q)) v
   unfolding stringBytes stringAt
   back-string (number n) w = refusal w
   back-string (numeral z u) w = refusal w
@@ -189,7 +189,7 @@ module _ {W : Type 0} (form : ℤ → ℕ → W) (s : List ℕ) (p : ℕ) (bs ys
         form-is = tt;
       }
 
-  back-run : (n : ℕ) (v : Given) → ofMany v (λ xs. only (eqb (length xs) n) xs) ≡ answered bs
+  back-run : (n : ℕ) (v : ToWrite) → ofMany v (λ xs. only (eqb (length xs) n) xs) ≡ answered bs
       → Back form s p bs (then (bytesAfter n s p) (λ q. got (many (record { place = p; length = n })) q)) v
   unfolding bytesAfter
   back-run n (number m) w = refusal w
@@ -207,19 +207,19 @@ module _ {W : Type 0} (form : ℤ → ℕ → W) (s : List ℕ) (p : ℕ) (bs ys
         form-is = tt;
       }
 
-  back-absent : (v : Given) → ofAbsent v (answered []) ≡ answered bs → Back form s p bs (got absent p) v
+  back-absent : (v : ToWrite) → ofAbsent v (answered []) ≡ answered bs → Back form s p bs (got absent p) v
   back-absent (number n) w = refusal w
   back-absent (numeral z u) w = refusal w
   back-absent absent w = let e : [] ≡ bs = cc in record { value = absent; read = ap (got absent) (omega (arith, ap length e)); shows = refl; form-is = tt }
   back-absent (many x) w = refusal w
 
-  back-when : (b : Bool) (f : Field) (w : ℕ) (v : Given) → (writeField f w v ≡ answered bs → Back form s p bs (readFieldBy form f w s p) v)
+  back-when : (b : Bool) (f : Field) (w : ℕ) (v : ToWrite) → (writeField f w v ≡ answered bs → Back form s p bs (readFieldBy form f w s p) v)
       → pick b (writeField f w v) (ofAbsent v (answered [])) ≡ answered bs → Back form s p bs (pick b (readFieldBy form f w s p) (got absent p)) v
   back-when true f w v ih h = ih h
   back-when false f w v ih h = back-absent v h
 
   -- a field of any kind
-  pub back-field : (f : Field) (w : ℕ) (v : Given) → writeField f w v ≡ answered bs → Back form s p bs (readFieldBy form f w s p) v
+  pub back-field : (f : Field) (w : ℕ) (v : ToWrite) → writeField f w v ≡ answered bs → Back form s p bs (readFieldBy form f w s p) v
   unfolding writeField readFieldBy among
   back-field (fixed k) w v h = back-fixed k v h
   back-field type w v h = back-fixed 4 v h
@@ -240,7 +240,7 @@ module _ {W : Type 0} (form : ℤ → ℕ → W) (s : List ℕ) (p : ℕ) (bs ys
 -- Layouts ---------------------------------------------------------------------------------------------------------------------------
 
 -- reading gave values that show vs, and stands after the bytes bs
-pub record BackAll {W : Type 0} (form : ℤ → ℕ → W) (s : List ℕ) (p : ℕ) (bs : List ℕ) (r : Read (List (Value Part W))) (vs : List Given) : Type 0 where
+pub record BackAll {W : Type 0} (form : ℤ → ℕ → W) (s : List ℕ) (p : ℕ) (bs : List ℕ) (r : Read (List (Value Part W))) (vs : List ToWrite) : Type 0 where
   pub values : List (Value Part W)
   pub read : r ≡ got values (p + length bs)
   pub shows : givenAll s values ≡ vs
@@ -267,7 +267,7 @@ same-word s members v w = refl
 same-word s (when there f) v w = refl
 
 -- R-1: what is written by a layout, wherever it stands, reads back as the values written
-pub back : {W : Type 0} (form : ℤ → ℕ → W) (fs : List Field) (w : ℕ) (vs : List Given) (s : List ℕ) (p : ℕ) (bs ys : List ℕ) → writeFields fs w vs ≡ answered bs
+pub back : {W : Type 0} (form : ℤ → ℕ → W) (fs : List Field) (w : ℕ) (vs : List ToWrite) (s : List ℕ) (p : ℕ) (bs ys : List ℕ) → writeFields fs w vs ≡ answered bs
     → Stands s p bs ys → BackAll form s p bs (readFieldsBy form fs w s p) vs
 unfolding writeFields readFieldsBy AllInShortest
 back form [] w [] s p bs ys h st = let e : [] ≡ bs = cc in record { values = []; read = ap (got []) (omega (arith, ap length e)); shows = refl; forms = tt }
@@ -279,7 +279,7 @@ back form (f ∷ fs) w (v ∷ vs) s p bs ys h st =
     let zs = b .more-bytes in
     let st′ : Stands s p (xs ++ zs) ys = rw (b .all-are) st in
     let one = back-field form s p xs (zs ++ ys) (first s p xs zs ys st′) f w v (b .first-is) in
-    let same : wordAfter f (one .value) w ≡ wordAfter f v w = sym (same-word s f (one .value) w) ∙ ap (λ (u : Given). wordAfter f u w) (one .shows) in
+    let same : wordAfter f (one .value) w ≡ wordAfter f v w = sym (same-word s f (one .value) w) ∙ ap (λ (u : ToWrite). wordAfter f u w) (one .shows) in
     let more = back form fs (wordAfter f v w) vs s (p + length xs) zs ys (b .more-is) (next s p xs zs ys st′) in
     let l : p + length xs + length zs ≡ p + length bs = omega (arith, length-append xs zs, ap length (b .all-are)) in
     record { values = one .value ∷ more .values; read = rw (one .read, same, more .read, l); shows = cc; forms = (one .form-is, more .forms) }

@@ -20,7 +20,7 @@ use Rattle.field_number.specs.Forms.{Form, formOf, shortest}
 use Rattle.record_layout.specs.Fields.{Value, Shown, number, numeral, absent, many}
 use Rattle.record_layout.specs.Layouts.{Layout, Table, readLeaf, leafOf, recordOf}
 use Rattle.write_layout.specs.Runs.{pads}
-use Rattle.write_layout.specs.Fields.{Given, given, givenAll, Bytes, fixedBytes}
+use Rattle.write_layout.specs.Fields.{ToWrite, given, givenAll, Encoded, fixedBytes}
 use Rattle.write_layout.specs.Records.{byLayout, writeLeaf, missing, filled, whole, recordBytes, writeRecord}
 use Rattle.write_layout.specs.RoundTrip.{InShortest, AllInShortest, ReadAs, FieldsReadBack, NoneShorter, NoShorter, ReadsBack, RecordReadsBack}
 use Rattle.write_layout.proofs.RunLaws.{length-pads}
@@ -49,21 +49,21 @@ no-shorter (v ∷ vs) h = (none-shorter v (h .0), no-shorter vs (h .1))
 -- A record --------------------------------------------------------------------------------------------------------------------------
 
 -- the leaf and the fields, at the start of a payload
-pub record LeafBack (table : Table) (s : List ℕ) (vs : List Given) : Type 0 where
+pub record LeafBack (table : Table) (s : List ℕ) (vs : List ToWrite) : Type 0 where
   pub values : List Shown
   pub read : recordOf table s ≡ answered values
   pub shows : givenAll s values ≡ vs
   pub forms : NoShorter values
 
-by-layout : (table : Table) (l : Option Layout) (leaf : ℕ) (vs : List Given) (s bs ys : List ℕ) → find leaf table ≡ l → byLayout l vs ≡ answered bs
+by-layout : (table : Table) (l : Option Layout) (leaf : ℕ) (vs : List ToWrite) (s bs ys : List ℕ) → find leaf table ≡ l → byLayout l vs ≡ answered bs
     → (p : ℕ) → fixedAt 2 s 0 ≡ got leaf p → Stands s p bs ys → LeafBack table s (number leaf ∷ vs)
 unfolding recordOf leafOf readLeaf NoShorter
 by-layout table none leaf vs s bs ys f w p r st = refusal w
 by-layout table (some fs) leaf vs s bs ys f w p r st =
     let b = back formOf fs 0 vs s p bs ys w st in
-    record { values = number leaf ∷ b .values; read = rw (r, f, b .read); shows = ap (λ (l : List Given). number leaf ∷ l) (b .shows); forms = (tt, no-shorter (b .values) (b .forms)) }
+    record { values = number leaf ∷ b .values; read = rw (r, f, b .read); shows = ap (λ (l : List ToWrite). number leaf ∷ l) (b .shows); forms = (tt, no-shorter (b .values) (b .forms)) }
 
-pub leaf-back : (table : Table) (vs : List Given) (bs ys : List ℕ) → writeLeaf table vs ≡ answered bs → LeafBack table (bs ++ ys) vs
+pub leaf-back : (table : Table) (vs : List ToWrite) (bs ys : List ℕ) → writeLeaf table vs ≡ answered bs → LeafBack table (bs ++ ys) vs
 unfolding writeLeaf fixedBytes
 leaf-back table [] bs ys w = refusal w
 leaf-back table (numeral z u ∷ vs) bs ys w = refusal w
@@ -89,7 +89,7 @@ pub record-reads-back : RecordReadsBack
 unfolding writeRecord recordBytes filled
 record-reads-back table vs rs w = go (writeLeaf table vs) refl w
   where
-    go : (b : Bytes) → writeLeaf table vs ≡ b → then b (λ bs. whole (filled bs)) ≡ answered rs → ReadsBack table vs rs
+    go : (b : Encoded) → writeLeaf table vs ≡ b → then b (λ bs. whole (filled bs)) ≡ answered rs → ReadsBack table vs rs
     go (refused n d) e h = refusal h
     go (answered bs) e h = test (ltb 65535 (length (filled bs))) refl h
       where

@@ -6,7 +6,7 @@ use lib.ListN.{length}
 use lib.Dec.{ltb}
 use Rattle.answer.specs.Answer.{Answer, answered, refused, stop, then}
 use Rattle.field_put.specs.Bytes.{put}
-use Rattle.write_layout.specs.Fields.{Bytes}
+use Rattle.write_layout.specs.Fields.{Encoded}
 
 -- a buffer, and the place after what was written
 pub record Written : Type 0 where
@@ -14,7 +14,7 @@ pub record Written : Type 0 where
   pub next : ℕ
 
 -- these bytes at place p of the buffer s; 19 if they pass its end
-unfoldable pub lay : Bytes → List ℕ → ℕ → Answer Written
+unfoldable pub lay : Encoded → List ℕ → ℕ → Answer Written
 lay b s p = then b (λ bs. stop (ltb (length s) (p + length bs)) 19 (answered (record { buffer = put s p bs; next = p + length bs })))
 
 -- the buffer after an answer: as it was, where it is a refusal

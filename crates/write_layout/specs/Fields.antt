@@ -22,55 +22,55 @@ use Rattle.write_layout.specs.Runs.{partAt, noZero}
 -- Values to write -------------------------------------------------------------------------------------------------------------
 
 -- What is many bytes is the bytes themselves, none where the part passed the end. Nobody can give a form: a number is written in the shortest
-abbrev pub Given : Type 0
-Given = Value (Option (List ℕ)) (Unit {0})
+abbrev pub ToWrite : Type 0
+ToWrite = Value (Option (List ℕ)) (Unit {0})
 
 unfoldable pub bytesIn : List ℕ → Part → Option (List ℕ)
 bytesIn t x = pick (leb (x .place + x .length) (length t)) (some (partAt t (x .place) (x .length))) none
 
 -- a value that was read, or that a caller has, with the text that its parts lie in
-abbrev pub given : {W : Type 0} → List ℕ → Value Part W → Given
+abbrev pub given : {W : Type 0} → List ℕ → Value Part W → ToWrite
 given t (number n) = number n
 given t (numeral z f) = numeral z tt
 given t absent = absent
 given t (many x) = many (bytesIn t x)
 
-abbrev pub givenAll : {W : Type 0} → List ℕ → List (Value Part W) → List Given
+abbrev pub givenAll : {W : Type 0} → List ℕ → List (Value Part W) → List ToWrite
 givenAll t [] = []
 givenAll t (v ∷ vs) = given t v ∷ givenAll t vs
 
 -- Bytes or 17 -----------------------------------------------------------------------------------------------------------------
 
-abbrev pub Bytes : Type 0
-Bytes = Answer (List ℕ)
+abbrev pub Encoded : Type 0
+Encoded = Answer (List ℕ)
 
-abbrev pub bad : Bytes
+abbrev pub bad : Encoded
 bad = refused 17 []
 
 -- the bytes if the test passes
-abbrev pub only : Bool → List ℕ → Bytes
+abbrev pub only : Bool → List ℕ → Encoded
 only test bs = pick test (answered bs) bad
 
 -- of a value of this kind; any other is 17
-abbrev pub ofNumber : Given → (ℕ → Bytes) → Bytes
+abbrev pub ofNumber : ToWrite → (ℕ → Encoded) → Encoded
 ofNumber (number n) f = f n
 ofNumber (numeral z u) f = bad
 ofNumber absent f = bad
 ofNumber (many x) f = bad
 
-abbrev pub ofNumeral : Given → (ℤ → Bytes) → Bytes
+abbrev pub ofNumeral : ToWrite → (ℤ → Encoded) → Encoded
 ofNumeral (number n) f = bad
 ofNumeral (numeral z u) f = f z
 ofNumeral absent f = bad
 ofNumeral (many x) f = bad
 
-abbrev pub ofAbsent : Given → Bytes → Bytes
+abbrev pub ofAbsent : ToWrite → Encoded → Encoded
 ofAbsent (number n) b = bad
 ofAbsent (numeral z u) b = bad
 ofAbsent absent b = b
 ofAbsent (many x) b = bad
 
-abbrev pub ofMany : Given → (List ℕ → Bytes) → Bytes
+abbrev pub ofMany : ToWrite → (List ℕ → Encoded) → Encoded
 ofMany (number n) f = bad
 ofMany (numeral z u) f = bad
 ofMany absent f = bad
@@ -78,32 +78,32 @@ ofMany (many none) f = bad
 ofMany (many (some bs)) f = f bs
 
 -- a number of k bytes
-unfoldable pub fixedBytes : ℕ → ℕ → Bytes
+unfoldable pub fixedBytes : ℕ → ℕ → Encoded
 fixedBytes k n = only (ltb n (256 ^ k)) (bytes k n)
 
 -- an index that may be none, which is written as 0; a present one that reads as none is 17
-unfoldable pub optionalBytes : List ℕ → Given → Bytes
+unfoldable pub optionalBytes : List ℕ → ToWrite → Encoded
 optionalBytes nones (number n) = pick (among n nones) bad (fixedBytes 4 n)
 optionalBytes nones (numeral z u) = bad
 optionalBytes nones absent = answered (bytes 4 0)
 optionalBytes nones (many x) = bad
 
 -- a numeric leaf, in the shortest form; one that may not be negative
-unfoldable pub numericBytes : ℤ → Bytes
+unfoldable pub numericBytes : ℤ → Encoded
 numericBytes z = only (carried z) (shortest z)
 
-unfoldable pub sizeBytes : ℤ → Bytes
+unfoldable pub sizeBytes : ℤ → Encoded
 sizeBytes (pos n) = numericBytes (pos n)
 sizeBytes (negsuc n) = bad
 
-unfoldable pub stringBytes : List ℕ → Bytes
+unfoldable pub stringBytes : List ℕ → Encoded
 stringBytes bs = only (noZero bs) (bs ++ (0 ∷ []))
 
 -- Fields ------------------------------------------------------------------------------------------------------------------------
 
 -- The bytes of a field, where w is the word. The elements of 0x1206 and 0x1203, which reading a record takes unread, are none here: Lists.antt
 -- has these records with their elements
-unfoldable pub writeField : Field → ℕ → Given → Bytes
+unfoldable pub writeField : Field → ℕ → ToWrite → Encoded
 writeField (fixed k) w v = ofNumber v (fixedBytes k)
 writeField type w v = ofNumber v (fixedBytes 4)
 writeField id w v = ofNumber v (fixedBytes 4)
@@ -121,11 +121,11 @@ writeField members w v = ofAbsent v (answered [])
 writeField (when there f) w v = pick (there w) (writeField f w v) (ofAbsent v (answered []))
 
 -- one after the other
-abbrev pub and-also : Bytes → Bytes → Bytes
+abbrev pub and-also : Encoded → Encoded → Encoded
 and-also a b = then a (λ x. then b (λ y. answered (x ++ y)))
 
 -- fields in order, a value for each
-unfoldable pub writeFields : List Field → ℕ → List Given → Bytes
+unfoldable pub writeFields : List Field → ℕ → List ToWrite → Encoded
 writeFields [] w [] = answered []
 writeFields [] w (v ∷ vs) = bad
 writeFields (f ∷ fs) w [] = bad

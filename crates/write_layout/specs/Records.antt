@@ -10,21 +10,21 @@ use Rattle.field.specs.Bytes.{bytes}
 use Rattle.record_layout.specs.Fields.{number, numeral, absent, many}
 use Rattle.record_layout.specs.Layouts.{Table, Layout}
 use Rattle.write_layout.specs.Runs.{pads}
-use Rattle.write_layout.specs.Fields.{Given, Bytes, bad, fixedBytes, and-also, writeFields}
+use Rattle.write_layout.specs.Fields.{ToWrite, Encoded, bad, fixedBytes, and-also, writeFields}
 
 -- 17 for a leaf that the table does not have
-abbrev pub byLayout : Option Layout → List Given → Bytes
+abbrev pub byLayout : Option Layout → List ToWrite → Encoded
 byLayout none vs = bad
 byLayout (some fs) vs = writeFields fs 0 vs
 
 -- the leaf, and the fields of its layout
-abbrev pub leafBytes : Table → Given → List Given → Bytes
+abbrev pub leafBytes : Table → ToWrite → List ToWrite → Encoded
 leafBytes table (number leaf) vs = and-also (fixedBytes 2 leaf) (byLayout (find leaf table) vs)
 leafBytes table (numeral z u) vs = bad
 leafBytes table absent vs = bad
 leafBytes table (many x) vs = bad
 
-unfoldable pub writeLeaf : Table → List Given → Bytes
+unfoldable pub writeLeaf : Table → List ToWrite → Encoded
 writeLeaf table [] = bad
 writeLeaf table (v ∷ vs) = leafBytes table v vs
 
@@ -36,12 +36,16 @@ missing n = (4 - n % 4) % 4
 unfoldable pub filled : List ℕ → List ℕ
 filled bs = bs ++ pads (missing (length bs + 2))
 
-abbrev pub whole : List ℕ → Bytes
+abbrev pub whole : List ℕ → Encoded
 whole bs = stop (ltb 65535 (length bs)) 18 (answered (bytes 2 (length bs) ++ bs))
 
-unfoldable pub recordBytes : Bytes → Bytes
+unfoldable pub recordBytes : Encoded → Encoded
 recordBytes b = then b (λ bs. whole (filled bs))
 
+-- bytes without a length field: 18 likewise
+unfoldable pub limited : Encoded → Encoded
+limited b = then b (λ bs. stop (ltb 65535 (length bs)) 18 (answered bs))
+
 -- a record of the table, as it stands in a stream
-unfoldable pub writeRecord : Table → List Given → Bytes
+unfoldable pub writeRecord : Table → List ToWrite → Encoded
 writeRecord table vs = recordBytes (writeLeaf table vs)

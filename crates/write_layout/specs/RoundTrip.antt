@@ -12,7 +12,7 @@ use Rattle.field_text.specs.Texts.{Part}
 use Rattle.field_number.specs.Forms.{shortest, AllBytes}
 use Rattle.record_layout.specs.Fields.{Value, Shown, number, numeral, absent, many, Field, readFieldsBy}
 use Rattle.record_layout.specs.Layouts.{Table, recordOf}
-use Rattle.write_layout.specs.Fields.{Given, givenAll, bad, writeFields}
+use Rattle.write_layout.specs.Fields.{ToWrite, givenAll, bad, writeFields}
 use Rattle.write_layout.specs.Records.{writeLeaf, writeRecord}
 
 -- of a number that was read back is said what is said of the shortest form
@@ -27,7 +27,7 @@ AllInShortest form [] = Unit {0}
 AllInShortest form (v ∷ vs) = InShortest form v × AllInShortest form vs
 
 -- reading the bytes s gave values that show vs, and stands at q
-pub record ReadAs {W : Type 0} (form : ℤ → ℕ → W) (s : List ℕ) (r : Read (List (Value Part W))) (vs : List Given) (q : ℕ) : Type 0 where
+pub record ReadAs {W : Type 0} (form : ℤ → ℕ → W) (s : List ℕ) (r : Read (List (Value Part W))) (vs : List ToWrite) (q : ℕ) : Type 0 where
   pub values : List (Value Part W)
   pub read : r ≡ got values q
   pub same : givenAll s values ≡ vs
@@ -36,7 +36,7 @@ pub record ReadAs {W : Type 0} (form : ℤ → ℕ → W) (s : List ℕ) (r : Re
 -- what is written by a layout reads back by it, wherever it stands and whatever is said of a number's form
 abbrev pub FieldsReadBack : Type 1
 FieldsReadBack =
-    (W : Type 0) (form : ℤ → ℕ → W) (fs : List Field) (w : ℕ) (vs : List Given) (bs xs ys : List ℕ) → writeFields fs w vs ≡ answered bs
+    (W : Type 0) (form : ℤ → ℕ → W) (fs : List Field) (w : ℕ) (vs : List ToWrite) (bs xs ys : List ℕ) → writeFields fs w vs ≡ answered bs
     → ReadAs form (xs ++ (bs ++ ys)) (readFieldsBy form fs w (xs ++ (bs ++ ys)) (length xs)) vs (length xs + length bs)
 
 -- R-4 of what was written: no number has a shorter form
@@ -51,7 +51,7 @@ NoShorter [] = Unit {0}
 NoShorter (v ∷ vs) = NoneShorter v × NoShorter vs
 
 -- R-1's sentence, of the bytes rs of a record that was written from vs
-pub record ReadsBack (table : Table) (vs : List Given) (rs : List ℕ) : Type 0 where
+pub record ReadsBack (table : Table) (vs : List ToWrite) (rs : List ℕ) : Type 0 where
   -- one link: its length field, and a payload of so many bytes, that ends at a multiple of four from its start
   pub payload : List ℕ
   pub is-link : rs ≡ bytes 2 (length payload) ++ payload
@@ -65,10 +65,10 @@ pub record ReadsBack (table : Table) (vs : List Given) (rs : List ℕ) : Type 0 
   pub shortest-forms : NoShorter values
 
 abbrev pub RecordReadsBack : Type 0
-RecordReadsBack = (table : Table) (vs : List Given) (rs : List ℕ) → writeRecord table vs ≡ answered rs → ReadsBack table vs rs
+RecordReadsBack = (table : Table) (vs : List ToWrite) (rs : List ℕ) → writeRecord table vs ≡ answered rs → ReadsBack table vs rs
 
 -- bytes that read as values which show vs
-pub record WouldRead (table : Table) (vs : List Given) : Type 0 where
+pub record WouldRead (table : Table) (vs : List ToWrite) : Type 0 where
   pub payload : List ℕ
   pub small : AllBytes payload
   pub values : List Shown
