@@ -63,7 +63,7 @@ filled-none bs h =
 refusal-17 : {X : Type 0} {bs : List ℕ} → _≡_ {A = Encoded} bad (answered bs) → X
 refusal-17 {X} {bs} h = let z : _≡_ {A = ℕ} 0 1 = cc in absurd (omega arith)
 
-fixed-long : (k n : ℕ) (bs : List ℕ) → fixedBytes k n ≡ answered bs → length bs ≡ k
+pub fixed-long : (k n : ℕ) (bs : List ℕ) → fixedBytes k n ≡ answered bs → length bs ≡ k
 unfolding fixedBytes
 fixed-long k n bs = go (ltb n (256 ^ k))
   where
@@ -71,13 +71,13 @@ fixed-long k n bs = go (ltb n (256 ^ k))
     go true e = let f : bytes k n ≡ bs = cc in sym (ap length f) ∙ length-bytes k n
     go false e = refusal-17 e
 
-nothing-long : (bs : List ℕ) → _≡_ {A = Encoded} (answered []) (answered bs) → length bs ≡ 0
+pub nothing-long : (bs : List ℕ) → _≡_ {A = Encoded} (answered []) (answered bs) → length bs ≡ 0
 nothing-long bs e = let f : [] ≡ bs = cc in sym (ap length f)
 
-gap-long : (bs : List ℕ) → _≡_ {A = Encoded} (answered (bytes 2 0)) (answered bs) → length bs ≡ 2
+pub gap-long : (bs : List ℕ) → _≡_ {A = Encoded} (answered (bytes 2 0)) (answered bs) → length bs ≡ 2
 gap-long bs e = let f : bytes 2 0 ≡ bs = cc in sym (ap length f) ∙ length-bytes 2 0
 
-offset-long : (c : Bool) (v : ToWrite) (bs : List ℕ) → pick c (ofNumber v (fixedBytes 4)) (ofAbsent v (answered [])) ≡ answered bs → length bs % 4 ≡ 0
+pub offset-long : (c : Bool) (v : ToWrite) (bs : List ℕ) → pick c (ofNumber v (fixedBytes 4)) (ofAbsent v (answered [])) ≡ answered bs → length bs % 4 ≡ 0
 offset-long true (number n) bs e = rw (fixed-long 4 n bs e)
 offset-long true (numeral z u) bs e = refusal-17 e
 offset-long true absent bs e = refusal-17 e
@@ -88,7 +88,7 @@ offset-long false absent bs e = rw (nothing-long bs e)
 offset-long false (many x) bs e = refusal-17 e
 
 -- a method has eight bytes, or twelve
-method-aligned : (a b : ℕ) (v : ToWrite) (bs : List ℕ) → writeFields method 0 (number a ∷ absent ∷ number b ∷ v ∷ []) ≡ answered bs → length bs % 4 ≡ 0
+pub method-aligned : (a b : ℕ) (v : ToWrite) (bs : List ℕ) → writeFields method 0 (number a ∷ absent ∷ number b ∷ v ∷ []) ≡ answered bs → length bs % 4 ≡ 0
 unfolding writeFields writeField
 method-aligned a b v bs w =
     let p = written-both (fixedBytes 2 a) (writeFields (gap 2 ∷ T ∷ offset ∷ []) a (absent ∷ number b ∷ v ∷ [])) bs w in
