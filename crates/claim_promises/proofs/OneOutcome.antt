@@ -6,6 +6,8 @@ use mathlib.Core.List.{List}
 use mathlib.Core.Path.{_≡_, sym, ap, _∙_}
 use Rattle.answer.proofs.OneOutcome.{one-details}
 use Rattle.field.proofs.OneOutcome.{one-u8, one-u16, one-u32, one-u64, one-type, one-id, one-string-ref, one-optional-type, one-optional-id, one-read-type, one-read-id}
+use Rattle.field_put.specs.Bytes.{bytes}
+use Rattle.field_put.proofs.OneOutcome.{one-lays}
 use Rattle.field_text.proofs.OneOutcome.{one-optional-string, one-string, one-after}
 use Rattle.field_number.proofs.OneOutcome.{one-variant, one-size}
 use Rattle.word_primitive.proofs.OneOutcome.{one-primitive}
@@ -28,6 +30,7 @@ use Rattle.record_list.proofs.OneOutcome.{one-start, one-step, one-element}
 use Rattle.record_reader.proofs.OneOutcome.{one-reader, one-steps}
 use Rattle.record_parse.proofs.OneOutcome.{one-parse}
 use Rattle.pane.proofs.OneOutcome.{one-out, one-out-table}
+use Rattle.write_pieces.proofs.OneOutcome.{one-measure, one-writes}
 use Rattle.stream_item.specs.declared.iter.ItemIter.{ItemIter}
 use Rattle.stream_finder.specs.Finder.{State, state, createOf, createBy, updateOf}
 use Rattle.stream_finder.specs.Lent.{Updates}
@@ -37,6 +40,16 @@ use Rattle.stream_index.specs.Walk.{turnOf}
 use Rattle.record_list.specs.Lists.{stepOf}
 use Rattle.record_list.specs.declared.ListCursor.{ListCursor}
 use Rattle.record_reader.specs.declared.ListReader.{ListReader}
+use Rattle.record_layout.specs.Layouts.{typeLeaves, idLeaves}
+use Rattle.record_data.specs.Said.{typeValues}
+use Rattle.record_id.specs.Said.{idValues}
+use Rattle.write_layout.specs.Fields.{givenAll}
+use Rattle.write_layout.specs.Records.{limited, recordBytes, writeRecord}
+use Rattle.write_layout.specs.Lists.{filledEach, fieldListBytes, methodListBytes}
+use Rattle.write_layout.specs.Buffer.{lay}
+use Rattle.write_pieces.specs.Pieces.{piecesOf}
+use Rattle.write_header.specs.Headers.{headerBytes}
+use Rattle.write_row.specs.Rows.{memberRows, methodRows}
 use Rattle.claim_promises.specs.Contracts as contract
 use Rattle.claim_promises.specs.OneOutcome.{Once, OnceLent, OnceLentTwo, OneOutcome}
 
@@ -181,4 +194,22 @@ one-outcome = record {
   word-attributes-pointer-attributes-size = λ self r q a b. one-pointer-size r q (a ∙ sym b);
   word-attributes-pointer-attributes-is-mocom = λ self r q a b. a ∙ sym b;
   word-primitive-primitive = λ index r q a b. one-primitive r q (a ∙ sym b);
+  write-fit-half = λ x r q a b. a .0 ∙ sym (b .0);
+  write-fit-word = λ x r q a b. a .0 ∙ sym (b .0);
+  write-fit-natural = λ n r q a b. a .0 ∙ sym (b .0);
+  write-fit-text = λ s r q a b. a .0 ∙ sym (b .0);
+  write-fit-gap = λ r q a b. a .0 ∙ sym (b .0);
+  write-fit-types = λ place n r q a b. a .0 ∙ sym (b .0);
+  write-header-write-header = λ h out at. one-writes out (lay (headerBytes h) out at);
+  write-id-write-id = λ text d out at. one-writes out (lay (writeRecord idLeaves (givenAll text (idValues d))) out at);
+  write-list-write-field-list = λ text rows out at. one-writes out (lay (fieldListBytes (memberRows text rows)) out at);
+  write-list-write-method-list = λ text rows out at. one-writes out (lay (methodListBytes (methodRows text rows)) out at);
+  write-pieces-held-sum = λ n k r q a b. a ∙ sym b;
+  write-pieces-measured = λ text xs r q a b. one-measure r q (a ∙ sym b);
+  write-pieces-write-plain = λ text xs out at. one-writes out (lay (limited (piecesOf text xs)) out at);
+  write-pieces-write-filled = λ text xs out at. one-writes out (lay (limited (filledEach (piecesOf text xs))) out at);
+  write-pieces-write-record = λ text xs out at. one-writes out (lay (recordBytes (piecesOf text xs)) out at);
+  write-row-of-member = λ m r q a b. a ∙ sym b;
+  write-row-of-method = λ m r q a b. a ∙ sym b;
+  write-type-write-type = λ text d out at. one-writes out (lay (writeRecord typeLeaves (givenAll text (typeValues d))) out at);
 }

@@ -1,15 +1,18 @@
 -- The contract of each public function, word for word as its source has it, over the arguments' values. Written by tools/contracts.
-use Prim.Native.Nat.{_-_, ℕ}
+use Prim.Native.Nat.{_*_, _+_, _-_, min, ℕ}
 use denote.Ref.{RefT, now}
 use lib.Dec.{eqb, leb}
+use lib.IntN.{pos}
 use lib.ListN.{length}
 use mathlib.Core.Bool.{Bool}
 use mathlib.Core.List.{List}
 use mathlib.Core.Path.{_≡_}
+use Rattle.answer.specs.Answer.{answered, then}
 use Rattle.answer.specs.Details.{detailsValue}
 use Rattle.answer.specs.Refusals.{detailsOf, numberOf}
 use Rattle.answer.specs.declared.Details.{Details}
 use Rattle.answer.specs.declared.Refusal.{Refusal}
+use Rattle.field.specs.Bytes.{bytes as bytes-of-field}
 use Rattle.field.specs.Fields.{fixedAt, said16, said32, said64, said8}
 use Rattle.field.specs.Indices.{idOption, noId, noType, optionalAt, optionalOf, saidId, saidOptId, saidOptType, saidStringRef, saidType, typeOption}
 use Rattle.field.specs.Runs.{bytesAfter, bytesAt, saidAfter}
@@ -30,8 +33,8 @@ use Rattle.field.specs.declared.run.After.{After}
 use Rattle.field_number.specs.Forms.{numeralAt, saidSize as saidSize-of-field-number, saidVariant, sizedAt}
 use Rattle.field_number.specs.declared.ReadSize.{ReadSize}
 use Rattle.field_number.specs.declared.ReadVariant.{ReadVariant}
-use Rattle.field_put.specs.Bytes.{Lays, bytes}
-use Rattle.field_text.specs.Texts.{paddingAfter, saidString, stringAt, stringOf, stringOption}
+use Rattle.field_put.specs.Bytes.{Lays, bytes as bytes-of-field-put}
+use Rattle.field_text.specs.Texts.{paddingAfter, part, saidString, stringAt, stringOf, stringOption}
 use Rattle.field_text.specs.declared.OptString.{OptString}
 use Rattle.field_text.specs.declared.RawString.{RawString}
 use Rattle.field_text.specs.declared.ReadString.{ReadString}
@@ -39,10 +42,11 @@ use Rattle.pane.specs.Out.{cursorAt, finderAt, outFind, outHeader, outNext, out
 use Rattle.record_data.specs.Said.{saidTypeData, stringValue, typeName, typeValues}
 use Rattle.record_data.specs.declared.TypeAnswer.{TypeAnswer}
 use Rattle.record_data.specs.declared.TypeData.{TypeData}
-use Rattle.record_id.specs.Said.{saidIdData}
+use Rattle.record_id.specs.Said.{idValues, saidIdData}
 use Rattle.record_id.specs.declared.IdAnswer.{IdAnswer}
-use Rattle.record_layout.specs.Fields.{readFields}
-use Rattle.record_layout.specs.Layouts.{idLeaves, memberLeaves, method, readRecord, recordOf, typeLeaves}
+use Rattle.record_id.specs.declared.IdData.{IdData}
+use Rattle.record_layout.specs.Fields.{readFields, run, types}
+use Rattle.record_layout.specs.Layouts.{S, idLeaves, memberLeaves, method, readRecord, recordOf, typeLeaves}
 use Rattle.record_list.specs.Lists.{elementBy, elementOf, startOf, stepOf}
 use Rattle.record_list.specs.Said.{saidElement, saidStart, saidStep}
 use Rattle.record_list.specs.declared.ElementAnswer.{ElementAnswer}
@@ -51,6 +55,7 @@ use Rattle.record_list.specs.declared.StartAnswer.{StartAnswer}
 use Rattle.record_list.specs.declared.StepAnswer.{StepAnswer}
 use Rattle.record_member.specs.Said.{memberName, memberValues, saidEntry, saidMember}
 use Rattle.record_member.specs.declared.Member.{Member}
+use Rattle.record_member.specs.declared.MethodListEntry.{MethodListEntry}
 use Rattle.record_member.specs.declared.ReadMember.{ReadMember}
 use Rattle.record_member.specs.declared.ReadMethodEntry.{ReadMethodEntry}
 use Rattle.record_parse.specs.Record.{parseOf, saidParse}
@@ -109,6 +114,17 @@ use Rattle.word_attributes.specs.declared.SizeAnswer.{SizeAnswer}
 use Rattle.word_attributes.specs.declared.TypeProperties.{TypeProperties}
 use Rattle.word_primitive.specs.Primitive.{primitiveOf, saidPrimitive}
 use Rattle.word_primitive.specs.declared.PrimitiveAnswer.{PrimitiveAnswer}
+use Rattle.write_fit.specs.Fit.{halfPiece, naturalPiece, ofPart, ofRun, runPiece, textPiece, wordPiece}
+use Rattle.write_header.specs.Headers.{headerBytes}
+use Rattle.write_layout.specs.Buffer.{Writes, lay}
+use Rattle.write_layout.specs.Fields.{fixedBytes, givenAll, numericBytes, writeField}
+use Rattle.write_layout.specs.Lists.{fieldListBytes, filledEach, methodListBytes}
+use Rattle.write_layout.specs.Records.{limited, recordBytes, writeRecord}
+use Rattle.write_pieces.specs.Pieces.{pieceOf, piecesOf, saidMeasure, saidWrite}
+use Rattle.write_pieces.specs.declared.Measure.{Measure}
+use Rattle.write_pieces.specs.declared.Piece.{Piece}
+use Rattle.write_pieces.specs.declared.WriteAnswer.{WriteAnswer}
+use Rattle.write_row.specs.Rows.{memberRow, memberRows, methodRow, methodRows}
 
 -- answer::Refusal::number
 abbrev pub answer-refusal-number : (self : Refusal) → ℕ → Type 0
@@ -188,15 +204,15 @@ field-number-size-at s p r = saidSize-of-field-number r ≡ sizedAt s p
 
 -- field_put::put8
 abbrev pub field-put-put8 : (out : List ℕ) (p : ℕ) (x : ℕ) → ℕ → List ℕ → Type 0
-field-put-put8 out p x r out′ = Lays out p (bytes 1 x) r out′
+field-put-put8 out p x r out′ = Lays out p (bytes-of-field-put 1 x) r out′
 
 -- field_put::put16
 abbrev pub field-put-put16 : (out : List ℕ) (p : ℕ) (x : ℕ) → ℕ → List ℕ → Type 0
-field-put-put16 out p x r out′ = Lays out p (bytes 2 x) r out′
+field-put-put16 out p x r out′ = Lays out p (bytes-of-field-put 2 x) r out′
 
 -- field_put::put32
 abbrev pub field-put-put32 : (out : List ℕ) (p : ℕ) (x : ℕ) → ℕ → List ℕ → Type 0
-field-put-put32 out p x r out′ = Lays out p (bytes 4 x) r out′
+field-put-put32 out p x r out′ = Lays out p (bytes-of-field-put 4 x) r out′
 
 -- field_put::put_all
 abbrev pub field-put-put-all : (out : List ℕ) (p : ℕ) (xs : List ℕ) → ℕ → List ℕ → Type 0
@@ -585,3 +601,75 @@ word-attributes-pointer-attributes-is-mocom self r = r ≡ bit 19 (self .0)
 -- word_primitive::primitive
 abbrev pub word-primitive-primitive : (index : TypeIndex) → PrimitiveAnswer → Type 0
 word-primitive-primitive index r = saidPrimitive r ≡ primitiveOf (index .0)
+
+-- write_fit::half
+abbrev pub write-fit-half : (x : ℕ) → Piece → Type 0
+write-fit-half x r = (r ≡ halfPiece x) × ((t : List ℕ) → pieceOf t r ≡ fixedBytes 2 x)
+
+-- write_fit::word
+abbrev pub write-fit-word : (x : ℕ) → Piece → Type 0
+write-fit-word x r = (r ≡ wordPiece x) × ((t : List ℕ) → pieceOf t r ≡ fixedBytes 4 x)
+
+-- write_fit::natural
+abbrev pub write-fit-natural : (n : ℕ) → Piece → Type 0
+write-fit-natural n r = (r ≡ naturalPiece n) × ((t : List ℕ) → pieceOf t r ≡ numericBytes (pos n))
+
+-- write_fit::text
+abbrev pub write-fit-text : (s : RawString) → Piece → Type 0
+write-fit-text s r = (r ≡ textPiece (part s)) × ((t : List ℕ) (w : ℕ) → pieceOf t r ≡ writeField S w (ofPart t (part s)))
+
+-- write_fit::gap
+abbrev pub write-fit-gap : Piece → Type 0
+write-fit-gap r = (r ≡ halfPiece 0) × ((t : List ℕ) → pieceOf t r ≡ answered (bytes-of-field 2 0))
+
+-- write_fit::types
+abbrev pub write-fit-types : (place : ℕ) (n : ℕ) → Piece → Type 0
+write-fit-types place n r = (r ≡ runPiece place (4 * n)) × ((t : List ℕ) → pieceOf t r ≡ writeField (run types) n (ofRun t place (4 * n)))
+
+-- write_header::write_header
+abbrev pub write-header-write-header : (h : Header) (out : List ℕ) (at : ℕ) → WriteAnswer → List ℕ → Type 0
+write-header-write-header h out at r out′ = Writes out (lay (headerBytes h) out at) (saidWrite r) out′
+
+-- write_id::write_id
+abbrev pub write-id-write-id : (text : List ℕ) (d : IdData) (out : List ℕ) (at : ℕ) → WriteAnswer → List ℕ → Type 0
+write-id-write-id text d out at r out′ = Writes out (lay (writeRecord idLeaves (givenAll text (idValues d))) out at) (saidWrite r) out′
+
+-- write_list::write_field_list
+abbrev pub write-list-write-field-list : (text : List ℕ) (rows : List (List ℕ)) (out : List ℕ) (at : ℕ) → WriteAnswer → List ℕ → Type 0
+write-list-write-field-list text rows out at r out′ = Writes out (lay (fieldListBytes (memberRows text rows)) out at) (saidWrite r) out′
+
+-- write_list::write_method_list
+abbrev pub write-list-write-method-list : (text : List ℕ) (rows : List (List ℕ)) (out : List ℕ) (at : ℕ) → WriteAnswer → List ℕ → Type 0
+write-list-write-method-list text rows out at r out′ = Writes out (lay (methodListBytes (methodRows text rows)) out at) (saidWrite r) out′
+
+-- write_pieces::held_sum
+abbrev pub write-pieces-held-sum : (n : ℕ) (k : ℕ) → ℕ → Type 0
+write-pieces-held-sum n k r = r ≡ min (n + k) 65536
+
+-- write_pieces::measured
+abbrev pub write-pieces-measured : (text : List ℕ) (xs : List Piece) → Measure → Type 0
+write-pieces-measured text xs r = saidMeasure r ≡ then (piecesOf text xs) (λ bs. answered (min (length bs) 65536))
+
+-- write_pieces::write_plain
+abbrev pub write-pieces-write-plain : (text : List ℕ) (xs : List Piece) (out : List ℕ) (at : ℕ) → WriteAnswer → List ℕ → Type 0
+write-pieces-write-plain text xs out at r out′ = Writes out (lay (limited (piecesOf text xs)) out at) (saidWrite r) out′
+
+-- write_pieces::write_filled
+abbrev pub write-pieces-write-filled : (text : List ℕ) (xs : List Piece) (out : List ℕ) (at : ℕ) → WriteAnswer → List ℕ → Type 0
+write-pieces-write-filled text xs out at r out′ = Writes out (lay (limited (filledEach (piecesOf text xs))) out at) (saidWrite r) out′
+
+-- write_pieces::write_record
+abbrev pub write-pieces-write-record : (text : List ℕ) (xs : List Piece) (out : List ℕ) (at : ℕ) → WriteAnswer → List ℕ → Type 0
+write-pieces-write-record text xs out at r out′ = Writes out (lay (recordBytes (piecesOf text xs)) out at) (saidWrite r) out′
+
+-- write_row::of_member
+abbrev pub write-row-of-member : (m : Member) → List ℕ → Type 0
+write-row-of-member m r = r ≡ memberRow m
+
+-- write_row::of_method
+abbrev pub write-row-of-method : (m : MethodListEntry) → List ℕ → Type 0
+write-row-of-method m r = r ≡ methodRow m
+
+-- write_type::write_type
+abbrev pub write-type-write-type : (text : List ℕ) (d : TypeData) (out : List ℕ) (at : ℕ) → WriteAnswer → List ℕ → Type 0
+write-type-write-type text d out at r out′ = Writes out (lay (writeRecord typeLeaves (givenAll text (typeValues d))) out at) (saidWrite r) out′

@@ -7,11 +7,12 @@ use mathlib.Core.Path.{_≡_}
 use Rattle.answer.specs.declared.Refusal.{Refusal}
 use Rattle.field.specs.declared.index.IdIndex.{IdIndex}
 use Rattle.field.specs.declared.index.TypeIndex.{TypeIndex}
-use Rattle.field_put.specs.Bytes.{bytes}
 use Rattle.field_text.specs.declared.RawString.{RawString}
 use Rattle.record_data.specs.declared.TypeData.{TypeData}
+use Rattle.record_id.specs.declared.IdData.{IdData}
 use Rattle.record_list.specs.declared.ListCursor.{ListCursor}
 use Rattle.record_member.specs.declared.Member.{Member}
+use Rattle.record_member.specs.declared.MethodListEntry.{MethodListEntry}
 use Rattle.record_reader.specs.declared.ListReader.{ListReader}
 use Rattle.stream_finder.specs.declared.ItemFinder.{ItemFinder}
 use Rattle.stream_header.specs.declared.Header.{Header}
@@ -25,6 +26,7 @@ use Rattle.word_attributes.specs.declared.FunctionAttributes.{FunctionAttribute
 use Rattle.word_attributes.specs.declared.ModifierFlags.{ModifierFlags}
 use Rattle.word_attributes.specs.declared.PointerAttributes.{PointerAttributes}
 use Rattle.word_attributes.specs.declared.TypeProperties.{TypeProperties}
+use Rattle.write_pieces.specs.declared.Piece.{Piece}
 use Rattle.claim_promises.specs.Contracts as contract
 
 -- the contract C admits one answer
@@ -179,3 +181,28 @@ pub record OneOutcome : Type 1 where
   pub word-attributes-pointer-attributes-is-mocom : (self : PointerAttributes) → Once (contract.word-attributes-pointer-attributes-is-mocom self)
   -- word_primitive
   pub word-primitive-primitive : (index : TypeIndex) → Once (contract.word-primitive-primitive index)
+  -- write_fit
+  pub write-fit-half : (x : ℕ) → Once (contract.write-fit-half x)
+  pub write-fit-word : (x : ℕ) → Once (contract.write-fit-word x)
+  pub write-fit-natural : (n : ℕ) → Once (contract.write-fit-natural n)
+  pub write-fit-text : (s : RawString) → Once (contract.write-fit-text s)
+  pub write-fit-gap : Once (contract.write-fit-gap)
+  pub write-fit-types : (place : ℕ) (n : ℕ) → Once (contract.write-fit-types place n)
+  -- write_header
+  pub write-header-write-header : (h : Header) (out : List ℕ) (at : ℕ) → OnceLent (contract.write-header-write-header h out at)
+  -- write_id
+  pub write-id-write-id : (text : List ℕ) (d : IdData) (out : List ℕ) (at : ℕ) → OnceLent (contract.write-id-write-id text d out at)
+  -- write_list
+  pub write-list-write-field-list : (text : List ℕ) (rows : List (List ℕ)) (out : List ℕ) (at : ℕ) → OnceLent (contract.write-list-write-field-list text rows out at)
+  pub write-list-write-method-list : (text : List ℕ) (rows : List (List ℕ)) (out : List ℕ) (at : ℕ) → OnceLent (contract.write-list-write-method-list text rows out at)
+  -- write_pieces
+  pub write-pieces-held-sum : (n : ℕ) (k : ℕ) → Once (contract.write-pieces-held-sum n k)
+  pub write-pieces-measured : (text : List ℕ) (xs : List Piece) → Once (contract.write-pieces-measured text xs)
+  pub write-pieces-write-plain : (text : List ℕ) (xs : List Piece) (out : List ℕ) (at : ℕ) → OnceLent (contract.write-pieces-write-plain text xs out at)
+  pub write-pieces-write-filled : (text : List ℕ) (xs : List Piece) (out : List ℕ) (at : ℕ) → OnceLent (contract.write-pieces-write-filled text xs out at)
+  pub write-pieces-write-record : (text : List ℕ) (xs : List Piece) (out : List ℕ) (at : ℕ) → OnceLent (contract.write-pieces-write-record text xs out at)
+  -- write_row
+  pub write-row-of-member : (m : Member) → Once (contract.write-row-of-member m)
+  pub write-row-of-method : (m : MethodListEntry) → Once (contract.write-row-of-method m)
+  -- write_type
+  pub write-type-write-type : (text : List ℕ) (d : TypeData) (out : List ℕ) (at : ℕ) → OnceLent (contract.write-type-write-type text d out at)

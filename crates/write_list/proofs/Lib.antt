@@ -1,0 +1,3 @@
+pub mod ElementLaws
+pub mod ListLaws
+pub mod ListBack
