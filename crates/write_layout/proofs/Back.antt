@@ -246,7 +246,7 @@ pub record BackAll {W : Type 0} (form : ℤ → ℕ → W) (s : List ℕ) (p : �
   pub shows : givenAll s values ≡ vs
   pub forms : AllInShortest form values
 
-same-word : {W : Type 0} (s : List ℕ) (f : Field) (v : Value Part W) (w : ℕ) → wordAfter f (given s v) w ≡ wordAfter f v w
+pub same-word : {W : Type 0} (s : List ℕ) (f : Field) (v : Value Part W) (w : ℕ) → wordAfter f (given s v) w ≡ wordAfter f v w
 same-word s (fixed k) v w = refl
 same-word s type v w = refl
 same-word s id v w = refl

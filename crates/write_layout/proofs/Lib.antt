@@ -2,3 +2,5 @@ pub mod RunLaws
 pub mod Back
 pub mod Padding
 pub mod RoundTripProof
+pub mod Octets
+pub mod Rewrite

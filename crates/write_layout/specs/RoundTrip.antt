@@ -4,6 +4,7 @@ use Prim.Native.Nat.{ℕ, _+_, _%_, _≤_}
 use mathlib.Core.Path.{_≡_}
 use mathlib.Core.Bool.{true, false}
 use mathlib.Core.List.{List, [], _∷_, _++_}
+use mathlib.Core.Option.{none, some}
 use lib.ListN.{length}
 use lib.IntN.{ℤ}
 use Rattle.answer.specs.Answer.{Answer, answered, Read, got}
@@ -74,3 +75,20 @@ pub record WouldRead (table : Table) (vs : List ToWrite) : Type 0 where
   pub values : List Shown
   pub read : recordOf table payload ≡ answered values
   pub same : givenAll payload values ≡ vs
+
+-- the bytes of what is to be written are bytes, as those of every `&[u8]` are
+abbrev pub InBytes : ToWrite → Type 0
+InBytes (many (some bs)) = AllBytes bs
+InBytes (many none) = Unit {0}
+InBytes (number n) = Unit {0}
+InBytes (numeral z u) = Unit {0}
+InBytes absent = Unit {0}
+
+unfoldable pub AllInBytes : List ToWrite → Type 0
+AllInBytes [] = Unit {0}
+AllInBytes (v ∷ vs) = InBytes v × AllInBytes vs
+
+-- R-1's 17, "fields that would not read back": exactly if no bytes read as these values
+pub record Exactly17 : Type 0 where
+  pub refuses : (table : Table) (vs : List ToWrite) → writeRecord table vs ≡ bad → WouldRead table vs → ⊥
+  pub only : (table : Table) (vs : List ToWrite) → AllInBytes vs → (WouldRead table vs → ⊥) → writeLeaf table vs ≡ bad
