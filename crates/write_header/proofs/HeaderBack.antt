@@ -64,7 +64,7 @@ pub record Checked (h : Header) (bs : List ℕ) : Type 0 where
   pub in-order : h .«minimum_index» ≤ h .«maximum_index»
   pub are : headerFields h ≡ bs
 
-checked : (h : Header) (bs : List ℕ) → headerBytes h ≡ answered bs → Checked h bs
+pub checked : (h : Header) (bs : List ℕ) → headerBytes h ≡ answered bs → Checked h bs
 unfolding headerBytes
 checked h bs e = go _ refl _ refl _ refl _ refl e
   where

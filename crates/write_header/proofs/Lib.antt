@@ -1,3 +1,4 @@
 pub mod SignLaws
 pub mod HeaderLaws
 pub mod HeaderBack
+pub mod StreamWalks

@@ -1,0 +1,44 @@
+-- R-1 of a whole stream: a written header and written records walk to done, with those records as its items. proofs/StreamWalks.antt has it.
+use Prim.Native.Nat.{ℕ, _+_, _≤_}
+use mathlib.Core.Path.{_≡_}
+use mathlib.Core.List.{List, [], _∷_, _++_}
+use lib.ListN.{length, take, drop}
+use Rattle.answer.specs.Answer.{answered}
+use Rattle.field.specs.Bytes.{bytes}
+use Rattle.stream_header.specs.Header.{longest}
+use Rattle.stream_header.specs.declared.Header.{Header}
+use Rattle.stream_item.specs.Iterator.{done, overRecord, iterOf, nextOf}
+use Rattle.stream_item.specs.declared.Stream.{Stream}
+use Rattle.stream_item.specs.declared.iter.ItemIter.{ItemIter}
+use Rattle.write_header.specs.Headers.{headerBytes, Narrow}
+
+-- records as they stand in a stream, by their payloads
+unfoldable pub links : List (List ℕ) → List ℕ
+links [] = []
+links (x ∷ xs) = (bytes 2 (length x) ++ x) ++ links xs
+
+-- a payload has a leaf, and a length that a u16 holds, as every record that was written has
+pub record Payload (x : List ℕ) : Type 0 where
+  pub leaf : 2 ≤ length x
+  pub short : length x ≤ 65535
+
+unfoldable pub Payloads : List (List ℕ) → Type 0
+Payloads [] = Unit {0}
+Payloads (x ∷ xs) = Payload x × Payloads xs
+
+-- the cursor behind a record of n bytes
+abbrev pub onward : ItemIter → ℕ → ItemIter
+onward c n = record { stream = c .stream; at = c .at + 2 + n; index = c .index + 1 }
+
+-- from the cursor c on the stream s has exactly these payloads, one item each, and then is done
+unfoldable pub Walks : List ℕ → ItemIter → List (List ℕ) → Type 0
+Walks s c [] = nextOf s c ≡ answered done
+Walks s c (x ∷ xs) = (nextOf s c ≡ answered (overRecord c (length x))) × (take (length x) (drop (c .at + 2) s) ≡ x) × Walks s (onward c (length x)) xs
+
+-- where the stream is not too long and its indices do not pass the last
+abbrev pub StreamWalks : Type 0
+StreamWalks =
+    (tag : Stream) (h : Header) (hs : List ℕ) (xs : List (List ℕ)) → headerBytes h ≡ answered hs → Narrow h → Payloads xs → length (hs ++ links xs) ≤ longest
+    → h .«minimum_index» + length xs ≤ 4294967295
+    → (iterOf tag (hs ++ links xs) ≡ answered (record { stream = tag; at = h .«header_size»; index = h .«minimum_index» }))
+    × Walks (hs ++ links xs) (record { stream = tag; at = h .«header_size»; index = h .«minimum_index» }) xs
