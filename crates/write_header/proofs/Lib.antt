@@ -1,0 +1,3 @@
+pub mod SignLaws
+pub mod HeaderLaws
+pub mod HeaderBack

@@ -1,0 +1,4 @@
+pub mod RunLaws
+pub mod Back
+pub mod Padding
+pub mod RoundTripProof

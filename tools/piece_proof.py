@@ -1,0 +1,121 @@
+"""Writes proofs/FN/Proof.antt of functions that make the pieces of a record, from their source.
+
+    python3 tools/piece_proof.py CRATE [FN..]       run in the root of a repository (the folder of crates.txt)
+
+Two forms of function are taken, FN or all of the crate's that have one of them:
+  - pieces: `let mut xs = [Piece::Nothing; 16];` and then `xs[i] = CALL(..);` for i from 0 up. Each return is one `rw` by what each call
+    ensures, first to last (of a call of write_fit the second part, which says the bytes), and by `no-piece` for the places that are left;
+  - choice: a `match` on a local whose arms `E::V(a) => f(a),` call such a function, or `E::V => f(),`; each return is one `rw` by the variant.
+The names that the returns unfold are in UNFOLD below, by the word that the contract has.
+It is an edit tool: `rt check` is the verdict, and `rt fmt` the layout. A proof says in its first line that this tool wrote it; add its function to
+tools/generated.txt, which tools/generated holds to such lines.
+"""
+import os
+import re
+import sys
+
+ROWS = ["baseClass", "directBase", "indirectBase", "continuation", "tablePointer", "enumerate", "dataMember", "staticMember", "overloads", "nested", "oneMethod"]
+UNFOLD = [
+    ("writeLeaf", "Rattle.write_layout.specs.Records.{writeLeaf}", "writeLeaf"),
+    ("writeLeaf", "Rattle.answer.specs.Tables.{find}", "find"),
+    ("typeLeaves", "Rattle.record_layout.specs.Layouts.{typeLeaves}", "typeLeaves"),
+    ("idLeaves", "Rattle.record_layout.specs.Layouts.{idLeaves}", "idLeaves"),
+    ("memberLeaves", "Rattle.record_layout.specs.Layouts.{memberLeaves}", "memberLeaves"),
+    ("methodRow", "Rattle.write_list.specs.Rows.{methodRow}", "methodRow"),
+] + [(row, f"Rattle.write_list.specs.Rows.{{{row}}}", row) for row in ROWS]
+FIELDS = [
+    "use Rattle.write_layout.specs.Fields.{writeFields, writeField, sizeBytes}",
+    "use Rattle.write_pieces.specs.Pieces.{piecesOf}",
+    "use Rattle.write_fit.proofs.FitLaws.{no-piece}",
+]
+# what a callee's `ensures` is asked at besides the text
+MORE = {"text": " 0", "part_text": " 0"}
+
+
+def functions(source):
+    for m in re.finditer(r"^(?:pub )?fn (\w+)\(.*?^\{\n(.*?)^\}", source, re.M | re.S):
+        yield m.group(1), source[m.start():m.start(2)], m.group(2)
+
+
+def path(n):
+    return "c" + " .before" * n
+
+
+def places(calls):
+    seen, out = {}, []
+    for name in calls:
+        seen[name] = seen.get(name, 0) + 1
+        out.append(name.replace("_", "-") + ("" if seen[name] == 1 else str(seen[name])))
+    return out
+
+
+def used(head):
+    return [(u, n) for word, u, n in UNFOLD if re.search(rf"\b{word}\b", head)]
+
+
+def written(crate, fn, doc, uses, body, spec):
+    name = fn.replace("_", "-")
+    lines = ["-- Written by tools/piece_proof.py.", f"-- `{crate}::{fn}` meets its contract: {doc} Assumes nothing.", "use borrow.Author.Needs.{needs}"] + uses
+    lines += [f"use Rattle.{crate}.proofs.{fn}.Statement.{{statement}}", f"use Rattle.{crate}.proofs.{fn}.Tie as tie", ""]
+    lines += body + ["", f"pub {name}-spec : {{M : Type 1}} → statement M", f"{name}-spec =", f"    tie.close (tie.spec {spec})", ""]
+    folder = f"crates/{crate}/proofs/{fn}"
+    os.makedirs(folder, exist_ok=True)
+    with open(f"{folder}/Proof.antt", "w", encoding="utf-8") as f:
+        f.write("\n".join(lines))
+    print(f"wrote {folder}/Proof.antt")
+
+
+def pieces(crate, fn, head, body):
+    found = re.findall(r"xs\[\d+\] = (write_fit::)?(\w+)\(", body)
+    calls = [name for _, name in found]
+    names = used(head)
+    unfold = " ".join(["piecesOf"] + [n for _, n in names] + ["writeFields", "writeField", "sizeBytes"])
+    steps = [f"{path(len(calls) - 1 - k)} .{p} .ensures{' .1' if found[k][0] else ''} t{MORE.get(calls[k], '')}" for k, p in enumerate(places(calls))]
+    proof = ["returns : tie.Need-returns", f"unfolding {unfold}", "returns c = λ t. rw ("] + [f"  {s}," for s in steps] + ["  no-piece t,", ")"]
+    # an element of an array among the arguments is one need more
+    reads = [len(re.findall(r"\w\[\d+\]", line.split("=", 1)[1])) for line in body.split("\n") if re.match(r"\s+xs\[\d+\] = ", line)]
+    spec = "".join("(λ c. search needs) " * n + "(λ c κs. search needs) (λ c. search needs) " for n in reads) + "returns"
+    written(crate, fn, "the pieces are those of its layout.", [f"use {u}" for u, _ in names] + FIELDS, proof, spec)
+
+
+def choice(crate, fn, head, body):
+    local = re.search(r"match (\w+) \{", body).group(1)
+    arms = re.findall(r"^\s+\w+::\w+(\(\w+\))? => \{?\s*(\w+)\(", body, re.M)
+    names = used(head)
+    proof, spec, bound, told = [], [], 0, 0
+    seen = {}
+    for k, (binds, callee) in enumerate(arms):
+        seen[callee] = seen.get(callee, 0) + 1
+        call = callee.replace("_", "-") + ("" if seen[callee] == 1 else str(seen[callee]))
+        if binds:
+            bound += 1
+            fact = f"{path(2)} .{local}{'' if bound == 1 else bound} .given .1"
+        else:
+            told += 1
+            fact = f"{path(1)} .enum-told{'' if told == 1 else told} .given .1"
+        n = "" if k == 0 else f"-{k + 1}"
+        proof += [f"returns{n} : tie.Need-returns{n}", f"returns{n} c = λ t. rw ({fact}) (c .{call} .ensures t)", ""]
+        spec += ["(λ c. search needs)", "(λ c κs. search needs)"]
+    spec += [f"returns{'' if k == 0 else f'-{k + 1}'}" for k in range(len(arms))]
+    written(crate, fn, "each variant is written by its own function.", [], proof[:-1], " ".join(spec))
+
+
+def main():
+    if len(sys.argv) < 2 or sys.argv[1].startswith("-"):
+        print(__doc__)
+        return 2
+    crate, only = sys.argv[1], sys.argv[2:]
+    for name in sorted(os.listdir(f"crates/{crate}/src")):
+        with open(f"crates/{crate}/src/{name}", encoding="utf-8") as f:
+            source = f.read()
+        for fn, head, body in functions(source):
+            if only and fn not in only:
+                continue
+            if "[Piece::Nothing; 16]" in body:
+                pieces(crate, fn, head, body)
+            elif re.search(r"match \w+ \{", body) and "-> [Piece; 16]" in head:
+                choice(crate, fn, head, body)
+    return 0
+
+
+sys.exit(main())
