@@ -21,8 +21,8 @@ UNFOLD = [
     ("typeLeaves", "Rattle.record_layout.specs.Layouts.{typeLeaves}", "typeLeaves"),
     ("idLeaves", "Rattle.record_layout.specs.Layouts.{idLeaves}", "idLeaves"),
     ("memberLeaves", "Rattle.record_layout.specs.Layouts.{memberLeaves}", "memberLeaves"),
-    ("methodRow", "Rattle.write_list.specs.Rows.{methodRow}", "methodRow"),
-] + [(row, f"Rattle.write_list.specs.Rows.{{{row}}}", row) for row in ROWS]
+    ("listMethod", "Rattle.write_row.specs.Rows.{listMethod}", "listMethod"),
+] + [(row, f"Rattle.write_row.specs.Rows.{{{row}}}", row) for row in ROWS]
 FIELDS = [
     "use Rattle.write_layout.specs.Fields.{writeFields, writeField, sizeBytes}",
     "use Rattle.write_pieces.specs.Pieces.{piecesOf}",

@@ -247,10 +247,12 @@ fn put_piece(text: &[u8], x: Piece, out: &mut [u8], p: usize) -> usize
 }
 
 // n + k, held at 65,536: a payload is refused from there on.
-fn held_sum(n: usize, k: usize) -> usize
-    requires { ⌜ n ≤ 65536 ⌝ }
+pub fn held_sum(n: usize, k: usize) -> usize
     ensures { λ r. ⌜ r ≡ min (n + k) 65536 ⌝ }
 {
+    if 65536 < n {
+        return 65536;
+    }
     if 65536 - n < k {
         return 65536;
     }

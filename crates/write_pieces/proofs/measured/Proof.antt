@@ -43,7 +43,7 @@ returns c =
     sym (l .inv .3 ∙ measure-stop (a .text .now) (a .t2) (l .i) piece.Nothing (omega arith) (l .n) (sym (c .before .before .size-of .ensures) ∙ ap saidMeasure (c .enum-told .given .1))) ∙ measure-all _ _
 
 held-sum-requires : tie.Need-held-sum-requires Inv-loop μ-loop
-held-sum-requires c κs = omega arith
+held-sum-requires c κs = tt
 
 add-i : tie.Need-add-i Inv-loop μ-loop
 add-i c = omega arith
