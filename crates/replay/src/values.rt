@@ -160,12 +160,7 @@ fn string_end(buffer: &mut [u8; 65536], from: Input, used: usize, at: usize) -> 
 }
 
 // The next value of the line, and the input behind its word.
-fn read_value(
-    buffer: &mut [u8; 65536],
-    from: Input,
-    text: &mut [u8; 70000],
-    used: usize,
-) -> Value {
+fn read_value(buffer: &mut [u8; 65536], from: Input, text: &mut [u8; 70000], used: usize) -> Value {
     let start = input::blanks(buffer, from);
     let seen = input::peek(buffer, start);
     let code = seen.code;
@@ -250,11 +245,7 @@ pub fn read_row(
 }
 
 // Numbers alone, as many as there are, each as four bytes of the text.
-pub fn read_run(
-    buffer: &mut [u8; 65536],
-    from: Input,
-    text: &mut [u8; 70000],
-) -> Row {
+pub fn read_run(buffer: &mut [u8; 65536], from: Input, text: &mut [u8; 70000]) -> Row {
     let mut input = from;
     let mut good = true;
     let mut count: usize = 0;
