@@ -176,7 +176,8 @@ pub struct Numeral {
     pub input: Input,
 }
 
-fn more(value: u64, digit: u16) -> u64 {
+// Ten times the value and a digit, held at the largest.
+pub fn more(value: u64, digit: u16) -> u64 {
     if 1844674407370955161 < value {
         return TURNS;
     }
@@ -222,7 +223,7 @@ pub struct Bytes {
 }
 
 // A hex digit's value, or 16.
-fn nibble(code: u16) -> u8 {
+pub fn nibble(code: u16) -> u8 {
     if 48 <= code {
         if code <= 57 {
             return (code - 48) as u8;

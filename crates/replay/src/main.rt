@@ -8,6 +8,8 @@ mod place_lines;
 mod record_lines;
 mod small;
 mod stream_lines;
+mod values;
+mod write_lines;
 
 use input::Arguments;
 use input::Input;
@@ -257,7 +259,8 @@ fn name_of(letters: &[u8; 16], n: usize) -> Name {
           count:a cross:n item:wnnn name:a membername:na idat:na \
           createby:nat updateby:nnnntnn findinby:nannntn maxindexby:nnnn findby:naun \
           wunsigned:a wsigned:a wtype:a welement:na \
-          save:nnannnt load:abt ",
+          save:nnannnt load:abt \
+          writeheader:n write:n rewrite:a rewriteid:a ",
     )
 }
 
@@ -302,7 +305,17 @@ fn carry_out<'a>(
         with_forms(command, tpi, n);
         return a.input;
     }
-    on_files(command, tpi, ipi, places, a.places, n);
+    if command < 45 {
+        on_files(command, tpi, ipi, places, a.places, n);
+        return a.input;
+    }
+    if command == 45 {
+        return write_lines::header(buffer, a.input, n[0]);
+    }
+    if command == 46 {
+        return write_lines::write(buffer, a.input, n[0]);
+    }
+    write_lines::rewrite(tpi, command == 48);
     a.input
 }
 
