@@ -14,14 +14,14 @@ Where an expected line comes from:
 - A known difference: document 01's or 02's line, worked out by layouts.py or written out below, with the name of its line in docs/DIFFERENCES.md.
 - A command that the crate cannot be asked (next, create, update, findin, maxindex, view, marker, element, idelement, and all that end in `by`): 01's
   rule, with 02's R-7 for a shift, written again below beside its sentence, in Python, apart from the Rattle sources; `save` and `load`: 02's R-3,
-  written again in places.py.
+  written again in places.py; `writeheader`, `write`, `rewrite` and `rewriteid`: 02's R-1, written again in writing.py.
 - A command whose BYTES are none: `? bytes`, by PROTOCOL.md's sentence, written again below.
 - 01's examples and 02's words: their lines, written out below. They must be what the rules above give too.
 
 No expected line is taken from REPLAY. It is run at the end, and must answer every line. The exit status is 1, and nothing is written, if an answer
 of the crate is not explained, if an example fails, if REPLAY answers otherwise or has no call of some public function, or if the list lacks one of:
-a command of PROTOCOL.md; a number 0 to 16, 19 to 22, or 26; every shift 0 to 7; a leaf of 01; every prefix of a good record of every leaf; a record of the crate's tests; the largest
-counts; a table exactly full and one short; bytes that are none, in every way, and as many bytes as there may be.
+a command of PROTOCOL.md; a number 0 to 22, or 26; every shift 0 to 7; a leaf of 01; every prefix of a good record of every leaf; every leaf written, and refused
+by 17 and by 19; 18; a record of the crate's tests; the largest counts; a table exactly full and one short; bytes that are none, in every way, and as many bytes as there may be.
 """
 import os
 import random
@@ -35,6 +35,7 @@ import compare
 import layouts
 import make_inputs
 import places
+import writing
 from compare import TOP, blob
 
 HERE = os.path.dirname(os.path.abspath(__file__))
@@ -314,6 +315,8 @@ def by_rule(words, primitive):
         return places.save_line(int(n[0]), int(n[1]), blob(n[2]), int(n[3]), int(n[4]), int(n[5]), table_of(n[6]))
     if kind == "load":
         return places.load_line(blob(n[0]), blob(n[1]), table_of(n[2]))
+    if kind in ("writeheader", "write", "rewrite", "rewriteid"):
+        return writing.answer(words)
     if kind == "view":
         return view_line(blob(n[0] if n[2] == "t" else n[1]), int(n[3]), int(n[4]))
     if kind == "marker":
@@ -340,7 +343,8 @@ def by_rule(words, primitive):
 
 
 PORT_ONLY = ("next", "create", "update", "findin", "maxindex", "view", "marker", "element", "idelement", "count", "cross", "item",
-             "membername", "idat", "createby", "updateby", "findinby", "maxindexby", "findby", "wunsigned", "wsigned", "wtype", "welement", "save", "load")
+             "membername", "idat", "createby", "updateby", "findinby", "maxindexby", "findby", "wunsigned", "wsigned", "wtype", "welement", "save", "load",
+             "writeheader", "write", "rewrite", "rewriteid")
 
 
 # ---- words that should be BYTES ----
@@ -348,7 +352,8 @@ PORT_ONLY = ("next", "create", "update", "findin", "maxindex", "view", "marker",
 # Where a command has its BYTES, the command itself being word 0; most have them as word 1.
 BYTES_AT = {**dict.fromkeys(("itemtype", "itemid", "string", "element", "idelement", "idat", "membername", "createby", "findinby", "findby", "welement"), (2,)),
             "view": (1, 2), "load": (1, 2), "save": (3,),
-            **dict.fromkeys(("prim", "word", "opttype", "optid", "update", "maxindex", "updateby", "maxindexby", "marker", "cross", "item"), ())}
+            **dict.fromkeys(("prim", "word", "opttype", "optid", "update", "maxindex", "updateby", "maxindexby", "marker", "cross", "item", "writeheader",
+                            "write"), ())}
 MOST_BYTES = 65536
 
 
@@ -509,7 +514,7 @@ NO_COMMANDS = ["frobnicate", "antidisestablishmentarianism 12"]
 # Words that should be bytes and are not: another letter, upper case, half a byte, a minus too many, a file, none at all, one byte too many.
 NO_BYTES = [f"{kind} {word}" for kind in ("header", "kind", "type") for word in
             ("zz", "0g", "011", "0", "01z", "0B", "0110AA", "--", "-00", "00-", "@e.tpi", "01,02", "")]
-NO_BYTES += ["save 99 3 0 4096 4098 1 56", "load 0 - 7", "load - zz 7", "createby 3 0 7", "findby 3 0g 0 0", "findinby 3 zz 4096 4120 0 - 4096", "find zz 0 0,1", "find 0 3 4096", "next 001 0 0", "create 0 7", "findin zz 4096 4120 0 - 4096", "view 0 01 t 0 0", "view 01 0 t 0 0",
+NO_BYTES += ["rewrite 0", "rewrite 0G", "rewrite", "rewriteid 051", "rewriteid =00", "rewriteid", "save 99 3 0 4096 4098 1 56", "load 0 - 7", "load - zz 7", "createby 3 0 7", "findby 3 0g 0 0", "findinby 3 zz 4096 4120 0 - 4096", "find zz 0 0,1", "find 0 3 4096", "next 001 0 0", "create 0 7", "findin zz 4096 4120 0 - 4096", "view 0 01 t 0 0", "view 01 0 t 0 0",
              "view zz zz i 0 0", "view 01", "string 4611 4", "element 0 031", "itemtype 4096 0X10", "membername 0 0", "count 5",
              "padding " + "00" * (MOST_BYTES + 1)]
 MOST = "padding " + "f1" * MOST_BYTES
@@ -936,6 +941,46 @@ def place_commands():
             yield load(s, places.file_of(p, shift, low, high, len(s), size), [0] * len(p))
 
 
+# ---- records and headers to write: 02's R-1 ----
+
+# The streams whose every record is read and written again.
+REWRITTEN = ["plain-x64.tpi", "plain-x64.ipi", "hand.tpi", "hand.ipi"]
+
+
+def write_commands():
+    types = [packed(r) for r in GOOD_TYPES.values()] + [packed("0312" + r) for r in GOOD_MEMBERS.values()] + [CRATE_1609] + CRATE_ARRAYS
+    yield from writing.write_commands(types, [packed(r) for r in GOOD_IDS.values()])
+    for name in REWRITTEN:
+        with open(os.path.join(HERE, "..", "samples", name), "rb") as f:
+            s = f.read()
+        at = link(s, places.header(s)[2])
+        while at is not None:
+            yield f"{'rewriteid' if name.endswith('.ipi') else 'rewrite'} {s[at[0]:sum(at)].hex()}"
+            at = link(s, sum(at))
+
+
+def unwritten(answer):
+    """What the commands of R-1 should have and have not."""
+    for leaf in writing.TYPE_LEAVES + writing.ID_LEAVES:
+        for number in ("0", "17", "19"):
+            if not any(re.match(rf"write \d+ {leaf:04x}\b", c) and lines[0].split()[0] == number for c, lines in answer.items()):
+                yield f"write {leaf:04x} answered {number}"
+        kind = "rewriteid" if leaf in writing.ID_LEAVES else "rewrite"
+        if not any(c.startswith(f"{kind} {leaf.to_bytes(2, 'little').hex()}") and lines[0].startswith("0 ") for c, lines in answer.items()):
+            yield f"{kind} {leaf:04x}"
+    for leaf in layouts.MEMBERS:
+        for number in ("0", "17", "19"):
+            if not any(re.match(rf"write \d+ 1203 .*/ {leaf:04x}\b", c) and lines[0].split()[0] == number for c, lines in answer.items()):
+                yield f"write of a member {leaf:04x} answered {number}"
+    for kind, numbers in (("writeheader", "0 2 3 4 5 17 19"), ("write", "0 17 18 19"), ("rewrite", "0 1 10 11 12 18"), ("rewriteid", "0 1 10 18")):
+        for number in numbers.split():
+            if not any(c.startswith(f"{kind} ") and lines[0].split()[0] == number for c, lines in answer.items()):
+                yield f"{kind} answered {number}"
+    for command, said in writing.EXAMPLES:
+        if answer.get(command) != [said]:
+            yield f"an example of R-1: {command}"
+
+
 # ---- what the list must have ----
 
 def numbers_in(words, lines):
@@ -1005,8 +1050,9 @@ def lacking(vectors):
         if not any(c.startswith(f"word {word} ") for c in asked):
             yield f"word {word}"
     numbers = {n for c, lines in vectors if c not in NO_COMMANDS + NO_BYTES for n in numbers_in(c.split(), lines)}
-    for n in (set(range(17)) | {19, 20, 21, 22, 26}) - numbers:
+    for n in (set(range(23)) | {26}) - numbers:
         yield f"number {n}"
+    yield from unwritten(dict(vectors))
     for kind in ("createby", "updateby", "findinby", "maxindexby", "findby"):
         for shift in SHIFTS:
             if not any(c.startswith(f"{kind} {shift} ") for c in asked):
@@ -1060,6 +1106,7 @@ def main():
     rng = make_inputs.rng
     commands = [c for c, _ in EXAMPLES] + NO_COMMANDS + NO_BYTES + [MOST] + list(small_commands()) + list(record_commands(rng)) + list(word_commands(rng)) + list(stream_commands(rng))
     commands += [c for c, _ in CVINFO] + [c for c, _ in FORMS] + list(form_commands()) + list(place_commands())
+    commands += [c for c, _ in writing.EXAMPLES] + list(write_commands())
     commands = list(dict.fromkeys(commands))
     problems = compare.listed()
     crate = [c for c in commands if c.split()[0] not in PORT_ONLY and (c in NO_COMMANDS or not no_bytes(c.split()))]

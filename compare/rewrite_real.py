@@ -125,13 +125,11 @@ def compared(data, ids):
 
 
 def check():
-    import make_vectors as v
-    types = [v.packed(r) for r in v.GOOD_TYPES.values()] + [v.packed("0312" + r) for r in v.GOOD_MEMBERS.values()] + [v.CRATE_1609] + v.CRATE_ARRAYS
-    ids = [v.packed(r) for r in v.GOOD_IDS.values()]
+    import make_vectors
     met, count = set(), 0
-    for kind, word in (c.split() for c in writing.write_commands(types, ids) if c.startswith("rewrite")):
+    for kind, word in (c.split() for c in make_vectors.write_commands() if c.startswith("rewrite")):
         try:
-            met |= compared(v.blob(word), kind == "rewriteid")[1]
+            met |= compared(make_vectors.blob(word), kind == "rewriteid")[1]
             count += 1
         except layouts.Refused:
             pass

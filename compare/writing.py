@@ -1,7 +1,7 @@
 #!/usr/bin/env python3
 """Document 02's R-1 written again in Python, from its text alone: records and headers as bytes from their fields, and the commands `writeheader`,
-`write`, `rewrite` and `rewriteid`, which the port's program `replay` does not take yet. The layouts are those of layouts.py, which reads; this is apart
-from the Rattle sources.
+`write`, `rewrite` and `rewriteid` of PROTOCOL.md. make_vectors.py holds the port's vectors to it. The layouts are those of layouts.py, which reads;
+this is apart from the Rattle sources.
 
     writing.py --check                 what was written reads back by layouts.py, and rewriting it changes nothing
     writing.py write 100 1001 116 1 0 0

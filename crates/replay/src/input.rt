@@ -44,7 +44,7 @@ pub fn peek(buffer: &mut [u8; 65536], input: Input) -> Look {
     first(space, n)
 }
 
-fn wide(b: u8) -> u16 {
+pub fn wide(b: u8) -> u16 {
     b as u16
 }
 

@@ -247,14 +247,14 @@ enum Made {
     Bad,
 }
 
-fn made(shape: &[u8], v: &[u64; 48], r: Row, d: TypeData) -> Made {
+fn type_if(shape: &[u8], v: &[u64; 48], r: Row, d: TypeData) -> Made {
     if r.good && values::fit(shape, v, r.count) {
         return Made::Type(d);
     }
     Made::Bad
 }
 
-fn made_id(shape: &[u8], v: &[u64; 48], r: Row, d: IdData) -> Made {
+fn id_if(shape: &[u8], v: &[u64; 48], r: Row, d: IdData) -> Made {
     if r.good && values::fit(shape, v, r.count) {
         return Made::Id(d);
     }
@@ -263,24 +263,24 @@ fn made_id(shape: &[u8], v: &[u64; 48], r: Row, d: IdData) -> Made {
 
 fn class_like(leaf: u32, v: &[u64; 48], r: Row) -> Made {
     match leaf {
-        0x1504 => made(b"hhooonst", v, r, class(ClassKind::Class, v)),
-        0x1505 => made(b"hhooonst", v, r, class(ClassKind::Struct, v)),
-        0x1519 => made(b"hhooonst", v, r, class(ClassKind::Interface, v)),
-        0x1609 => made(b"hooohnst", v, r, structure19(v)),
-        0x1506 => made(b"hhwnst", v, r, union(v)),
-        0x1507 => made(b"hhwwst", v, r, enumeration(v)),
+        0x1504 => type_if(b"hhooonst", v, r, class(ClassKind::Class, v)),
+        0x1505 => type_if(b"hhooonst", v, r, class(ClassKind::Struct, v)),
+        0x1519 => type_if(b"hhooonst", v, r, class(ClassKind::Interface, v)),
+        0x1609 => type_if(b"hooohnst", v, r, structure19(v)),
+        0x1506 => type_if(b"hhwnst", v, r, union(v)),
+        0x1507 => type_if(b"hhwwst", v, r, enumeration(v)),
         _ => Made::Bad,
     }
 }
 
 fn type_made(leaf: u32, v: &[u64; 48], r: Row) -> Made {
     match leaf {
-        0x1001 => made(b"wfff", v, r, modifier(v)),
-        0x1002 => made(b"wwo", v, r, pointer(v)),
-        0x1008 => made(b"ohhw", v, r, procedure(v)),
-        0x1009 => made(b"wwohhww", v, r, member_function(v)),
-        0x1205 => made(b"wbb", v, r, bitfield(v)),
-        0x1503 => made(b"wwns", v, r, array(v)),
+        0x1001 => type_if(b"wfff", v, r, modifier(v)),
+        0x1002 => type_if(b"wwo", v, r, pointer(v)),
+        0x1008 => type_if(b"ohhw", v, r, procedure(v)),
+        0x1009 => type_if(b"wwohhww", v, r, member_function(v)),
+        0x1205 => type_if(b"wbb", v, r, bitfield(v)),
+        0x1503 => type_if(b"wwns", v, r, array(v)),
         0x000a => table_shape(v, r),
         _ => class_like(leaf, v, r),
     }
@@ -293,7 +293,7 @@ fn table_shape(v: &[u64; 48], r: Row) -> Made {
         return Made::Bad;
     }
     let name = string_at(v, 1);
-    made(
+    type_if(
         b"hs",
         v,
         r,
@@ -353,11 +353,11 @@ fn remote_source(v: &[u64; 48]) -> IdData {
 
 fn id_made(leaf: u32, v: &[u64; 48], r: Row) -> Made {
     match leaf {
-        0x1601 => made_id(b"ows", v, r, function(v)),
-        0x1602 => made_id(b"wws", v, r, member_function_id(v)),
-        0x1605 => made_id(b"os", v, r, string_id(v)),
-        0x1606 => made_id(b"www", v, r, local_source(v)),
-        0x1607 => made_id(b"wwwh", v, r, remote_source(v)),
+        0x1601 => id_if(b"ows", v, r, function(v)),
+        0x1602 => id_if(b"wws", v, r, member_function_id(v)),
+        0x1605 => id_if(b"os", v, r, string_id(v)),
+        0x1606 => id_if(b"www", v, r, local_source(v)),
+        0x1607 => id_if(b"wwwh", v, r, remote_source(v)),
         _ => Made::Bad,
     }
 }
@@ -546,7 +546,7 @@ struct Leaf {
 
 fn digit(letters: &[u8; 16], i: usize) -> u32 {
     if i < 16 {
-        return input::nibble(letters[i] as u16) as u32;
+        return input::nibble(input::wide(letters[i])) as u32;
     }
     16
 }
@@ -556,7 +556,19 @@ fn leaf_in(letters: &[u8; 16], n: usize) -> u32 {
     let b = digit(letters, 1);
     let c = digit(letters, 2);
     let d = digit(letters, 3);
-    if n != 4 || 15 < a || 15 < b || 15 < c || 15 < d {
+    if n != 4 {
+        return 65536;
+    }
+    if 15 < a {
+        return 65536;
+    }
+    if 15 < b {
+        return 65536;
+    }
+    if 15 < c {
+        return 65536;
+    }
+    if 15 < d {
         return 65536;
     }
     4096 * a + 256 * b + 16 * c + d
@@ -714,18 +726,32 @@ pub fn write(buffer: &mut [u8; 65536], from: Input, room: u64) -> Input {
 
 // `writeheader`.
 
-fn signed_at(v: &[u64; 48], i: usize) -> i32 {
-    let n = values::nth(v, i) % 2147483648;
-    if values::kind(v, i) == values::NEGATIVE {
+// -1 - n.
+fn below(n: u32) -> i32 {
+    if n < 2147483648 {
         return -1 - (n as i32);
     }
-    n as i32
+    0
 }
 
-fn slice(v: &[u64; 48], i: usize) -> Slice {
+fn above(n: u32) -> i32 {
+    if n < 2147483648 {
+        return n as i32;
+    }
+    0
+}
+
+fn signed_at(v: &[u64; 48], i: usize) -> i32 {
+    if values::kind(v, i) == values::NEGATIVE {
+        return below(word_at(v, i));
+    }
+    above(word_at(v, i))
+}
+
+fn slice(v: &[u64; 48], i: usize, j: usize) -> Slice {
     Slice {
         offset: signed_at(v, i),
-        size: word_at(v, i + 1),
+        size: word_at(v, j),
     }
 }
 
@@ -740,9 +766,9 @@ fn header_of(v: &[u64; 48]) -> Header {
         tpi_hash_pad_stream: half_at(v, 6),
         hash_key_size: word_at(v, 7),
         hash_bucket_size: word_at(v, 8),
-        hash_values: slice(v, 9),
-        ti_off: slice(v, 11),
-        hash_adj: slice(v, 13),
+        hash_values: slice(v, 9, 10),
+        ti_off: slice(v, 11, 12),
+        hash_adj: slice(v, 13, 14),
     }
 }
 
@@ -796,7 +822,7 @@ fn gather(s: &[u8], from: ListCursor, rows: &mut [[u64; 8]; 8192]) -> Gathered {
                 c = behind;
             }
             StepAnswer::Refused(e) => {
-                return gathered(n, e);
+                return all_gathered(n, e);
             }
         }
         n += 1;
@@ -804,7 +830,7 @@ fn gather(s: &[u8], from: ListCursor, rows: &mut [[u64; 8]; 8192]) -> Gathered {
     Gathered::Rows(n)
 }
 
-fn gathered(n: usize, e: Refusal) -> Gathered {
+fn all_gathered(n: usize, e: Refusal) -> Gathered {
     if e.number() == 15 {
         return Gathered::Rows(n);
     }
