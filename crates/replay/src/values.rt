@@ -120,6 +120,7 @@ fn read_string(
 ) -> Value {
     let mut input = from;
     let mut at = used;
+    let mut half = false;
     while at < 70000 {
         let high = input::peek(buffer, input);
         let h = input::nibble(high.code);
@@ -128,6 +129,7 @@ fn read_string(
             break;
         }
         input = input::past(input);
+        half = true;
         let low = input::peek(buffer, input);
         let l = input::nibble(low.code);
         input = low.input;
@@ -135,16 +137,21 @@ fn read_string(
             break;
         }
         input = input::past(input);
+        half = false;
         text[at] = h * 16 + l;
         at += 1;
     }
-    string_end(buffer, input, used, at)
+    string_end(buffer, input, used, at, half)
 }
 
-fn string_end(buffer: &mut [u8; 65536], from: Input, used: usize, at: usize) -> Value {
+// Half a byte is no value.
+fn string_end(buffer: &mut [u8; 65536], from: Input, used: usize, at: usize, half: bool) -> Value {
     let seen = input::peek(buffer, from);
     let behind = seen.input;
     if !input::ends_word(seen.code) {
+        return plain(STRANGE, 0, used, behind);
+    }
+    if half {
         return plain(STRANGE, 0, used, behind);
     }
     if at < used {

@@ -54,7 +54,7 @@ use write_pieces::WriteAnswer;
 // The most bytes that are lent, and the most elements of a list: each has eight bytes at least.
 const ROOM: usize = 70000;
 
-const ROWS: usize = 8192;
+const ROWS: usize = 9000;
 
 // What was written, as the line has it.
 fn written(a: WriteAnswer, out: &[u8]) {
@@ -599,7 +599,7 @@ fn one_element(
     list: u32,
     l: Rows,
     text: &mut [u8; 70000],
-    rows: &mut [[u64; 8]; 8192],
+    rows: &mut [[u64; 8]; 9000],
 ) -> Rows {
     let at = l.count;
     let before = element_leaf(buffer, list, l.input);
@@ -640,7 +640,7 @@ fn read_rows(
     list: u32,
     from: Input,
     text: &mut [u8; 70000],
-    rows: &mut [[u64; 8]; 8192],
+    rows: &mut [[u64; 8]; 9000],
 ) -> Rows {
     let mut l = first_element(buffer, from, text);
     let mut turns = input::TURNS;
@@ -662,7 +662,7 @@ fn write_rows(list: u32, text: &[u8], rows: &[[u64; 8]], out: &mut [u8]) {
     }
 }
 
-fn write_first(list: u32, text: &[u8], rows: &[[u64; 8]; 8192], n: usize, out: &mut [u8]) {
+fn write_first(list: u32, text: &[u8], rows: &[[u64; 8]; 9000], n: usize, out: &mut [u8]) {
     let all: &[[u64; 8]] = rows;
     if n <= all.len() {
         write_rows(list, text, &all[0..n], out);
@@ -676,7 +676,7 @@ fn write_elements(
     text: &mut [u8; 70000],
     out: &mut [u8],
 ) -> Input {
-    let mut rows = [[0u64; 8]; 8192];
+    let mut rows = [[0u64; 8]; 9000];
     let l = read_rows(buffer, list, from, text, &mut rows);
     let behind = l.input;
     if l.good {
@@ -812,7 +812,7 @@ fn element_row(e: Element) -> [u64; 8] {
 }
 
 // All elements of a list, or what is wrong with one.
-fn gather(s: &[u8], from: ListCursor, rows: &mut [[u64; 8]; 8192]) -> Gathered {
+fn gather(s: &[u8], from: ListCursor, rows: &mut [[u64; 8]; 9000]) -> Gathered {
     let mut c = from;
     let mut n: usize = 0;
     while n < ROWS {
@@ -838,7 +838,7 @@ fn all_gathered(n: usize, e: Refusal) -> Gathered {
 }
 
 fn rewrite_list(list: u32, s: &[u8], out: &mut [u8]) {
-    let mut rows = [[0u64; 8]; 8192];
+    let mut rows = [[0u64; 8]; 9000];
     match record_list::start(Stream::Types, s) {
         StartAnswer::Answered(c) => match gather(s, c, &mut rows) {
             Gathered::Rows(n) => write_first(list, s, &rows, n, out),
@@ -848,10 +848,29 @@ fn rewrite_list(list: u32, s: &[u8], out: &mut [u8]) {
     }
 }
 
+fn flag(given: bool, bit: u16) -> u16 {
+    if given {
+        return bit;
+    }
+    0
+}
+
+// The values of a modifier are three flags: 01 names no other bit of the word, so that the others are written as zero.
+fn plain_modifier(r: ModifierType) -> TypeData {
+    let f = r.flags;
+    TypeData::Modifier(ModifierType {
+        underlying_type: r.underlying_type,
+        flags: ModifierFlags(
+            flag(f.constant(), 1) | flag(f.volatile(), 2) | flag(f.unaligned(), 4),
+        ),
+    })
+}
+
 fn rewrite_type(s: &[u8], d: TypeData, out: &mut [u8]) {
     match d {
         TypeData::FieldList => rewrite_list(0x1203, s, out),
         TypeData::MethodList => rewrite_list(0x1206, s, out),
+        TypeData::Modifier(r) => written(write_type::write_type(s, plain_modifier(r), out, 0), out),
         _ => written(write_type::write_type(s, d, out, 0), out),
     }
 }

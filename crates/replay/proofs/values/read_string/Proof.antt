@@ -5,10 +5,10 @@ use Rattle.replay.proofs.values.read_string.Statement.{statement}
 use Rattle.replay.proofs.values.read_string.Tie as tie
 
 abbrev Inv-loop : tie.InvT-loop
-Inv-loop buffer₀ text₀ used input₀ at₀ buffer text input at = Unit {0}
+Inv-loop buffer₀ text₀ used input₀ at₀ half₀ buffer text input at half = Unit {0}
 
 abbrev μ-loop : tie.MeasureT-loop
-μ-loop buffer₀ text₀ used input₀ at₀ buffer text input at = 70000 - at
+μ-loop buffer₀ text₀ used input₀ at₀ half₀ buffer text input at half = 70000 - at
 
 pub read-string-spec : {M : Type 1} → statement M
 read-string-spec =

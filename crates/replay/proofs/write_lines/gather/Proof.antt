@@ -1,0 +1,16 @@
+-- `replay::write_lines::gather` is safe and ends: its turns are counted down. Assumes nothing.
+use Prim.Native.Nat.{_-_}
+use borrow.Author.Needs.{needs}
+use Rattle.replay.proofs.write_lines.gather.Statement.{statement}
+use Rattle.replay.proofs.write_lines.gather.Tie as tie
+
+abbrev Inv-loop : tie.InvT-loop
+Inv-loop s rows₀ c₀ n₀ rows c n = Unit {0}
+
+abbrev μ-loop : tie.MeasureT-loop
+μ-loop s rows₀ c₀ n₀ rows c n = 9000 - n
+
+pub gather-spec : {M : Type 1} → statement M
+gather-spec =
+    tie.close (tie.spec
+    Inv-loop μ-loop (λ c. search needs) (λ c κs. search needs) (λ c. search needs) (λ c κs. search needs) (λ c. search needs) (λ c. search needs) (λ c. search needs) (λ c κs. search needs) (λ c. search needs) (λ c. search needs) (λ c. search needs) (λ c. search needs) (λ c. search needs))
