@@ -857,12 +857,12 @@ fn flag(given: bool, bit: u16) -> u16 {
 
 // The values of a modifier are three flags: 01 names no other bit of the word, so that the others are written as zero.
 fn plain_modifier(r: ModifierType) -> TypeData {
-    let f = r.flags;
+    let underlying = r.underlying_type;
+    let flags = r.flags;
+    let word = flag(flags.constant(), 1) | flag(flags.volatile(), 2) | flag(flags.unaligned(), 4);
     TypeData::Modifier(ModifierType {
-        underlying_type: r.underlying_type,
-        flags: ModifierFlags(
-            flag(f.constant(), 1) | flag(f.volatile(), 2) | flag(f.unaligned(), 4),
-        ),
+        underlying_type: underlying,
+        flags: ModifierFlags(word),
     })
 }
 
