@@ -2,6 +2,10 @@
 """Reads every record of real streams, writes it again by 02's R-1 (writing.py), and groups those that come back with other bytes by the reason.
 
     rewrite_real.py STREAM..       .tpi and .ipi: raw streams; .debugT: `.debug$T` sections, whose records each go to the reader that takes their leaf
+    rewrite_real.py --port STREAM..
+                                   also has the port write each record again (`rewrite` and `rewriteid` of the program `replay`, which `rt check replay`
+                                   has built; in the root of the repository), and ends at the first line that is not the one by writing.py: the tables
+                                   are then the port's
     rewrite_real.py --check        the reasons themselves, on the records of the vectors: every reason is met there
 
 Prints two tables: the records of each stream, how many come back as they were, with other bytes and not at all; and the reasons by leaf. A record may
@@ -9,6 +13,7 @@ have several reasons. Each is a place where the record's own bytes are other tha
 a reason, or a reason without a difference, ends the script.
 """
 import os
+import subprocess
 import sys
 
 sys.path.insert(0, os.path.dirname(os.path.abspath(__file__)))
@@ -124,6 +129,19 @@ def compared(data, ids):
     return wrote, why
 
 
+def by_port(name, s):
+    """Holds the port's line for each record to writing.py's; how many there are."""
+    commands = [f"{'rewriteid' if ids else 'rewrite'} {data.hex() or '-'}" for data, ids in payloads(name, s)]
+    run = subprocess.run(["tools/program", "replay"], input="".join(c + "\n" for c in commands).encode(), stdout=subprocess.PIPE, check=True)
+    lines = run.stdout.decode().splitlines()
+    if len(lines) != len(commands):
+        raise SystemExit(f"{name}: {len(commands)} records, and the port has {len(lines)} lines")
+    for command, line in zip(commands, lines):
+        if line != writing.answer(command.split()):
+            raise SystemExit(f"{name}: {command[:400]}\n  the port: {line[:400]}\n  by 02:   {writing.answer(command.split())[:400]}")
+    return len(lines)
+
+
 def check():
     import make_vectors
     met, count = set(), 0
@@ -144,11 +162,14 @@ def main():
         return 2
     if sys.argv[1:] == ["--check"]:
         return check()
-    rows, by_reason, refused = [], {}, {}
-    for path in sys.argv[1:]:
+    rows, by_reason, refused, held = [], {}, {}, 0
+    port = sys.argv[1] == "--port"
+    for path in sys.argv[1 + port:]:
         name = os.path.basename(path)
         with open(path, "rb") as f:
             s = f.read()
+        if port:
+            held += by_port(name, s)
         count = same = other = none = bytes_had = bytes_written = 0
         for data, ids in payloads(name, s):
             count += 1
@@ -175,6 +196,8 @@ def main():
         print(f"| {reason} | {leaf} | {sum(names.values()):,} | {', '.join(f'{n} {k:,}' for n, k in names.items())} |")
     for (number, leaf), names in sorted(refused.items()):
         print(f"| refused by {number} | {leaf} | {sum(names.values()):,} | {', '.join(f'{n} {k:,}' for n, k in names.items())} |")
+    if port:
+        print(f"\n{held:,} records by the port, line for line as by writing.py")
     return 0
 
 

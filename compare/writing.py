@@ -486,6 +486,8 @@ def refused_records():
     yield from ((leaf, ["0"]) for leaf in (0x1000, 0x1404, 0x1409, 0x1600, 0x1608, 0xffff))
     yield from ((0x1203, ["/", leaf, "0"]) for leaf in ("1001", "1203", "1403", "1605", "ffff"))
     yield from ((0x1605, ["-", word]) for word in ("=4", "=4g", "41", "x", "--", "/"))
+    yield from ((leaf, words) for leaf in COUNTED for words in (["x"], ["7x"], ["7", "8x"], ["7", "x", "8"], ["7,8"], ["+7"]))
+    yield from ((0x1606, words) for words in (["0", "0", "0x"], ["0", "x", "0"], ["0x", "0", "0"]))
 
 
 def header_commands():

@@ -10,6 +10,8 @@ use Rattle.claim_promises.proofs.ReadingRefuses.{fixed-refuses, signed-
 use Rattle.claim_promises.proofs.StreamRefuses.{primitive-refuses, kind-refuses, mode-refuses, to-member-refuses, reference-refuses, pointer-size-refuses, header-refuses, iter-refuses, len-refuses, is-empty-refuses, next-refuses, view-refuses, raw-kind-refuses, create-refuses, create-by-refuses, update-refuses, find-refuses, turn-refuses, type-refuses, id-refuses, member-refuses, method-refuses, start-refuses, step-refuses, element-by-refuses, element-refuses, element-ids-refuses, parse-refuses}
 use Rattle.claim_promises.proofs.LeftAlone.{leaves-alone, changes-nothing, leads-nowhere, steps-nowhere, saves-nothing}
 use Rattle.claim_promises.proofs.PlacesRefuse.{trailer-refuses, load-refuses, save-refuses}
+use Rattle.write_pieces.specs.Pieces.{saidWrite}
+use Rattle.claim_promises.proofs.WritersRefuse.{header-laid-refuses, record-laid-refuses, field-list-laid-refuses, method-list-laid-refuses, pieces-refuse, plain-laid-refuses, filled-laid-refuses, pieces-laid-refuses, writes-nothing}
 use Rattle.claim_promises.specs.Demand1.{Demand1}
 
 pub demand1 : Demand1
@@ -56,10 +58,19 @@ demand1 = record {
   elements-on = element-by-refuses;
   elements = element-refuses;
   id-elements = element-ids-refuses;
+  headers-written = header-laid-refuses;
+  records-written = record-laid-refuses;
+  field-lists-written = field-list-laid-refuses;
+  method-lists-written = method-list-laid-refuses;
+  pieces = pieces-refuse;
+  pieces-written = plain-laid-refuses;
+  pieces-filled = filled-laid-refuses;
+  pieces-recorded = pieces-laid-refuses;
   create-keeps = λ shift s t. leaves-alone t (createBy shift s t);
   update-keeps = λ f t c. leaves-alone t (updateOf (state f t) c);
   load-keeps = λ s f t. leaves-alone t (loadOf s f t);
   save-keeps = λ s σ o. saves-nothing o (saveOf s σ (length o));
+  write-keeps = λ o w r. writes-nothing o w (saidWrite r);
   turn-keeps = λ s f t c. leads-nowhere t (turnOf s (state f t) c);
   index-all-keeps = λ shift tag s t e t′ h. h .1;
   index-on-keeps = λ s f t c r t′ e w h. sym (w .ended) ∙ ap saidEnd h;

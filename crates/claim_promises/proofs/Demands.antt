@@ -5,11 +5,18 @@ use Rattle.claim_model.proofs.Demand2.{demand2}
 use Rattle.stream_finder.proofs.DemandProof.{demand3, demand3-every, not-indexed, not-indexed-every}
 use Rattle.stream_finder.proofs.SharedProof.{shared}
 use Rattle.stream_places.proofs.KeptProof.{load-serves, round-trip, one-encoding}
+use Rattle.write_layout.proofs.RoundTripProof.{fields-read-back, record-reads-back}
+use Rattle.write_layout.proofs.Rewrite.{exactly-17}
+use Rattle.write_row.proofs.RowLaws.{rows-show}
+use Rattle.write_list.proofs.ListBack.{lists-read-back}
+use Rattle.write_header.proofs.HeaderBack.{header-reads-back}
+use Rattle.write_header.proofs.StreamWalks.{stream-walks}
 use Rattle.pane.proofs.TallyProof.{tally-holds}
 use Rattle.pane.proofs.SameProof.{same}
 use Rattle.claim_promises.proofs.Demand1.{demand1}
 use Rattle.claim_promises.proofs.ExactlyWhen.{exactly-when}
 use Rattle.claim_promises.proofs.PlacesWhen.{places-when}
+use Rattle.claim_promises.proofs.WritesWhen.{writes-when}
 use Rattle.claim_promises.proofs.Examples.{examples-hold}
 use Rattle.claim_promises.proofs.OneOutcome.{one-outcome}
 use Rattle.claim_promises.specs.Demands.{Demands}
@@ -32,6 +39,14 @@ demands = record {
   saved-and-loaded = round-trip;
   one-file = one-encoding;
   given-places = places-when;
+  fields-read-back = fields-read-back;
+  records-read-back = record-reads-back;
+  exactly-17 = exactly-17;
+  lists-read-back = lists-read-back;
+  rows-show = rows-show;
+  headers-read-back = header-reads-back;
+  streams-walk = stream-walks;
+  given-writing = writes-when;
   paged = tally-holds;
   five = same;
   shown = examples-hold;

@@ -2,6 +2,7 @@ pub mod ByTable
 pub mod ReadingRefuses
 pub mod StreamRefuses
 pub mod PlacesRefuse
+pub mod WritersRefuse
 pub mod LeftAlone
 pub mod Demand1
 pub mod Given
@@ -9,6 +10,7 @@ pub mod GivenStreams
 pub mod GivenReading
 pub mod ExactlyWhen
 pub mod PlacesWhen
+pub mod WritesWhen
 pub mod Idle
 pub mod Examples
 pub mod OneOutcome

@@ -8,7 +8,7 @@ use mathlib.Core.Bool.{true}
 use mathlib.Core.Path.{_≡_}
 use mathlib.Core.List.{List, [], _∷_}
 use lib.ListN.{length}
-use Rattle.answer.specs.Answer.{refused}
+use Rattle.answer.specs.Answer.{Answer, refused}
 use Rattle.answer.specs.Refusals.{numberOf, detailsOf, no, listed}
 use Rattle.answer.specs.declared.Refusal.{Refusal}
 use Rattle.field.specs.Fields.{fixedAt, signedAt}
@@ -19,6 +19,7 @@ use Rattle.field_number.specs.Forms.{numeralAt, sizedAt}
 use Rattle.word_primitive.specs.Primitive.{primitiveOf}
 use Rattle.word_attributes.specs.Pointers.{kindOf, modeOf, toMemberOf, referenceOf, sizeOf}
 use Rattle.stream_header.specs.Header.{headerOf}
+use Rattle.stream_header.specs.declared.Header.{Header}
 use Rattle.stream_item.specs.Iterator.{iterOf, nextOf}
 use Rattle.stream_view.specs.Views.{viewOf, rawKindOf}
 use Rattle.stream_item.specs.Information.{lenOf, isEmptyOf}
@@ -41,13 +42,21 @@ use Rattle.stream_places.specs.File.{trailerOf}
 use Rattle.stream_places.specs.Places.{loadOf, saveOf, saidSave, Saves}
 use Rattle.stream_places.specs.declared.SaveAnswer.{SaveAnswer}
 use Rattle.record_layout.specs.Fields.{readFields}
-use Rattle.record_layout.specs.Layouts.{typeLeaves, memberLeaves, method, idLeaves, readRecord, recordOf}
+use Rattle.record_layout.specs.Layouts.{Table, typeLeaves, memberLeaves, method, idLeaves, readRecord, recordOf}
 use Rattle.record_list.specs.Lists.{startOf, stepOf, elementBy, elementOf}
 use Rattle.record_list.specs.Said.{saidElement}
 use Rattle.record_list.specs.declared.ListCursor.{ListCursor}
 use Rattle.record_list.specs.declared.ElementAnswer.{ElementAnswer}
 use Rattle.record_reader.specs.Reader.{Steps}
 use Rattle.record_parse.specs.Record.{parseOf}
+use Rattle.write_layout.specs.Fields.{ToWrite}
+use Rattle.write_layout.specs.Records.{recordBytes, limited, writeRecord}
+use Rattle.write_layout.specs.Lists.{filledEach, fieldListBytes, methodListBytes}
+use Rattle.write_layout.specs.Buffer.{Written, lay, Writes}
+use Rattle.write_pieces.specs.Pieces.{piecesOf, saidWrite}
+use Rattle.write_pieces.specs.declared.Piece.{Piece}
+use Rattle.write_pieces.specs.declared.WriteAnswer.{WriteAnswer}
+use Rattle.write_header.specs.Headers.{headerBytes}
 use Rattle.claim_promises.specs.ByTable.{Refuses, FindRefuses}
 
 pub record Demand1 : Type 0 where
@@ -103,6 +112,16 @@ pub record Demand1 : Type 0 where
   pub elements-on : (s : List ℕ) (k : ℕ) (c : ListCursor) → Refuses (15 ∷ 1 ∷ 10 ∷ 11 ∷ []) (elementBy (stepOf s) k c)
   pub elements : (tag : Stream) (s : List ℕ) (k : ℕ) → Refuses (15 ∷ 1 ∷ 10 ∷ 11 ∷ []) (elementOf tag s k)
   pub id-elements : (s : List ℕ) (k : ℕ) → Refuses (15 ∷ 1 ∷ 10 ∷ []) (elementOf stream.Ids s k)
+  -- document 02, R-1: a header, a record of any table, types and ids among them, and the two lists with their elements, at a place of a buffer
+  pub headers-written : (h : Header) (o : List ℕ) (p : ℕ) → Refuses (2 ∷ 3 ∷ 4 ∷ 5 ∷ 19 ∷ []) (lay (headerBytes h) o p)
+  pub records-written : (table : Table) (vs : List ToWrite) (o : List ℕ) (p : ℕ) → Refuses (17 ∷ 18 ∷ 19 ∷ []) (lay (writeRecord table vs) o p)
+  pub field-lists-written : (vss : List (List ToWrite)) (o : List ℕ) (p : ℕ) → Refuses (17 ∷ 18 ∷ 19 ∷ []) (lay (fieldListBytes vss) o p)
+  pub method-lists-written : (vss : List (List ToWrite)) (o : List ℕ) (p : ℕ) → Refuses (17 ∷ 18 ∷ 19 ∷ []) (lay (methodListBytes vss) o p)
+  -- and the pieces that they are made of: measured; written as they are, filled, and as a record
+  pub pieces : (t : List ℕ) (xs : List Piece) → Refuses (17 ∷ []) (piecesOf t xs)
+  pub pieces-written : (t : List ℕ) (xs : List Piece) (o : List ℕ) (p : ℕ) → Refuses (17 ∷ 18 ∷ 19 ∷ []) (lay (limited (piecesOf t xs)) o p)
+  pub pieces-filled : (t : List ℕ) (xs : List Piece) (o : List ℕ) (p : ℕ) → Refuses (17 ∷ 18 ∷ 19 ∷ []) (lay (limited (filledEach (piecesOf t xs))) o p)
+  pub pieces-recorded : (t : List ℕ) (xs : List Piece) (o : List ℕ) (p : ℕ) → Refuses (17 ∷ 18 ∷ 19 ∷ []) (lay (recordBytes (piecesOf t xs)) o p)
   -- ---- "all lent memory stays unchanged": where the function's answer r is a refusal, what was lent is after the call what it was before
 
   -- the table, lent to creation with any shift, to `update` by value, to a turn and to a walk
@@ -113,6 +132,8 @@ pub record Demand1 : Type 0 where
   pub load-keeps : (s f t : List ℕ) (r : FinderAnswer) (t′ : List ℕ) (n : ℕ) (d : List ℕ) → Fills t (loadOf s f t) r t′ → saidFinder r ≡ refused n d → t′ ≡ t
   pub save-keeps : (s : List ℕ) (σ : State) (o : List ℕ) (r : SaveAnswer) (o′ : List ℕ) (n : ℕ) (d : List ℕ)
       → Saves o (saveOf s σ (length o)) r o′ → saidSave r ≡ refused n d → o′ ≡ o
+  -- the buffer, lent to any writer: w is what its definition answers
+  pub write-keeps : (o : List ℕ) (w : Answer Written) (r : WriteAnswer) (o′ : List ℕ) (n : ℕ) (d : List ℕ) → Writes o w (saidWrite r) o′ → saidWrite r ≡ refused n d → o′ ≡ o
   pub turn-keeps : (s : List ℕ) (f : ItemFinder) (t : List ℕ) (c : ItemIter) (r : TurnAnswer) (t′ : List ℕ) (n : ℕ) (d : List ℕ)
       → Leads t (turnOf s (state f t) c) r t′ → saidTurn r t′ ≡ refused n d → t′ ≡ t
   pub index-all-keeps : (shift : ℕ) (tag : Stream) (s t : List ℕ) (e : Refusal) (t′ : List ℕ) → IndexesBy shift tag s t (walk.Refused e) t′ → t′ ≡ t

@@ -9,11 +9,17 @@ use Rattle.claim_model.specs.Demand2.{Demand2}
 use Rattle.stream_finder.specs.Demand.{Demand3, Demand3Every, NotIndexed, NotIndexedEvery}
 use Rattle.stream_finder.specs.Shared.{Shared}
 use Rattle.stream_places.specs.Kept.{LoadServes, RoundTrip, OneEncoding}
+use Rattle.write_layout.specs.RoundTrip.{FieldsReadBack, RecordReadsBack, Exactly17}
+use Rattle.write_row.specs.Rows.{RowsShow}
+use Rattle.write_list.specs.ListsBack.{ListsReadBack}
+use Rattle.write_header.specs.Headers.{HeaderReadsBack}
+use Rattle.write_header.specs.Streams.{StreamWalks}
 use Rattle.pane.specs.Tally.{Tally}
 use Rattle.pane.specs.Same.{Same}
 use Rattle.claim_promises.specs.Demand1.{Demand1}
 use Rattle.claim_promises.specs.ExactlyWhen.{ExactlyWhen}
 use Rattle.claim_promises.specs.PlacesWhen.{PlacesWhen}
+use Rattle.claim_promises.specs.WritesWhen.{WritesWhen}
 use Rattle.claim_promises.specs.Examples.{examples, asked, given as answers}
 use Rattle.claim_promises.specs.OneOutcome.{OneOutcome}
 
@@ -50,6 +56,19 @@ pub record Demands : Type 1 where
   pub one-file : OneEncoding
   -- and when each of its numbers is given: PlacesWhen.antt
   pub given-places : PlacesWhen
+  -- document 02, R-1: "Reading back gives the fields, and writing those the same bytes", of every layout and of a record of every table; 17 exactly
+  -- where no bytes read back: crates/write_layout/specs/RoundTrip.antt. Of the elements of the two lists, which are given as rows:
+  -- crates/write_list/specs/ListsBack.antt, crates/write_row/specs/Rows.antt. Of a header, and of a stream of a written header and written records:
+  -- crates/write_header/specs/Headers.antt, Streams.antt
+  pub fields-read-back : FieldsReadBack
+  pub records-read-back : RecordReadsBack
+  pub exactly-17 : Exactly17
+  pub lists-read-back : ListsReadBack
+  pub rows-show : RowsShow
+  pub headers-read-back : HeaderReadsBack
+  pub streams-walk : StreamWalks
+  -- and when each of its numbers is given: WritesWhen.antt
+  pub given-writing : WritesWhen
   -- document 02, R-14: "the links passed for looking up each of c indices once, upward from the minimum": crates/pane/specs/Tally.antt; and that the
   -- five functions for C are enough: crates/pane/specs/Same.antt
   pub paged : Tally

@@ -1,12 +1,15 @@
 -- A stream of a written header and written records walks to done with those items. Assumes nothing.
-use Prim.Native.Nat.{ℕ, zero, suc, _+_, _-_, _≤_, _<_}
+use Prim.Native.Nat.{ℕ, zero, suc, _+_, _-_, _^_, _≤_, _<_}
 use native.Mathlib.Omega.{arith}
+use mathlib.Core.Bool.{Bool, true, false}
 use mathlib.Core.Path.{_≡_, refl, ap, sym, _∙_}
-use mathlib.Core.List.{List, [], _∷_, _++_, append-nil}
+use mathlib.Core.List.{List, [], _∷_, _++_, map, append-nil}
 use lib.ListN.{length, take, drop, length-append, length-drop}
 use lib.Seq.{take-append-seam, drop-append-seam}
-use borrow.Author.Tests.{le-leb, lt-leb, le-ltb}
-use Rattle.answer.specs.Answer.{answered, got}
+use lib.Dec.{ltb}
+use borrow.Author.Tests.{le-leb, lt-leb, le-ltb, ltb-false}
+use Rattle.answer.specs.Answer.{answered, refused, got, stop, then}
+use Rattle.answer.specs.Tables.{find}
 use Rattle.field.specs.Fields.{littleAt, fixedAt}
 use Rattle.field.specs.Bytes.{bytes}
 use Rattle.field.proofs.FieldLaws.{field-got}
@@ -15,8 +18,15 @@ use Rattle.stream_header.specs.Header.{longest, headerOf}
 use Rattle.stream_header.specs.declared.Header.{Header}
 use Rattle.stream_item.specs.Iterator.{done, overRecord, iterOf, nextOf}
 use Rattle.stream_item.specs.declared.iter.ItemIter.{ItemIter}
+use Rattle.record_layout.specs.Fields.{number, numeral, absent, many}
+use Rattle.record_layout.specs.Layouts.{Table}
+use Rattle.write_layout.specs.Runs.{pads}
+use Rattle.write_layout.specs.Fields.{ToWrite, Encoded, fixedBytes, and-also}
+use Rattle.write_layout.specs.Records.{byLayout, writeLeaf, missing, filled, whole as wholeRecord, recordBytes, writeRecord}
+use Rattle.write_layout.specs.Lists.{membersBytes, fieldListBytes, methodsBytes, methodListBytes}
+use Rattle.write_layout.proofs.Back.{refusal, passed, written-both}
 use Rattle.write_header.specs.Headers.{headerBytes, Narrow}
-use Rattle.write_header.specs.Streams.{links, Payload, Payloads, onward, Walks, StreamWalks}
+use Rattle.write_header.specs.Streams.{links, Payload, Payloads, onward, Walks, LinksWalk, WrittenAs, by-table, field-list, method-list, AllWritten, inOrder, payloadOf, StreamWalks}
 use Rattle.write_header.proofs.HeaderLaws.{header-length}
 use Rattle.write_header.proofs.HeaderBack.{Checked, checked, header-reads-back}
 
@@ -61,11 +71,83 @@ module _ (s : List ℕ) (l : length s ≤ longest) where
       let m : Stands s (c .at + 2 + length x) (links xs) [] = rw e at n in
       (one-item c x (links xs ++ []) (p .0) f (omega arith), its-bytes c x (links xs ++ []) (p .0) f, walk (onward c (length x)) xs (p .1) m (omega arith))
 
-pub stream-walks : StreamWalks
+pub links-walk : LinksWalk
 unfolding iterOf
-stream-walks tag h hs xs w n p l i =
+links-walk tag h hs xs w n p l i =
     let k = checked h hs w in
     let e : length hs ≡ h .«header_size» = sym (ap length (k .are)) ∙ header-length h (k .not-small) in
     let s = hs ++ links xs in
     let st : Stands s (length hs) (links xs) [] = record { inside = omega (arith, length-append hs (links xs)); here = drop-append-seam hs (links xs) ∙ sym (append-nil (links xs)) } in
     (rw (header-reads-back h hs (links xs) w n l), walk s l _ xs p (rw e at st) i)
+
+-- Written records -------------------------------------------------------------------------------------------------------------------
+
+-- one link, whose payload has its leaf
+record Link (rs : List ℕ) : Type 0 where
+  payload : List ℕ
+  is-link : rs ≡ bytes 2 (length payload) ++ payload
+  right : Payload payload
+
+-- every record begins with its leaf, whatever follows
+record-link : (leaf : ℕ) (more : Encoded) (rs : List ℕ) → recordBytes (and-also (fixedBytes 2 leaf) more) ≡ answered rs → Link rs
+unfolding recordBytes filled fixedBytes
+record-link leaf more rs w = go (and-also (fixedBytes 2 leaf) more) refl w
+  where
+    go : (b : Encoded) → and-also (fixedBytes 2 leaf) more ≡ b → then b (λ bs. wholeRecord (filled bs)) ≡ answered rs → Link rs
+    go (refused n d) e h = refusal h
+    go (answered bs) e h = test (ltb 65535 (length (filled bs))) refl h
+      where
+        test : (c : Bool) → ltb 65535 (length (filled bs)) ≡ c → stop c 18 (answered (bytes 2 (length (filled bs)) ++ filled bs)) ≡ answered rs → Link rs
+        test true f k = refusal k
+        test false f k =
+            let b = written-both (fixedBytes 2 leaf) more bs e in
+            let a = passed (ltb leaf (256 ^ 2)) (bytes 2 leaf) (b .first-bytes) (b .first-is) in
+            let two : length (b .first-bytes) ≡ 2 = ap length (sym (a .bytes-are)) ∙ length-bytes 2 leaf in
+            let all = length-append (b .first-bytes) (b .more-bytes) in
+            let pad = length-append bs (pads (missing (length bs + 2))) in
+            record {
+              payload = filled bs;
+              is-link = cc;
+              right = record { leaf = omega (arith, two, all, pad, ap length (b .all-are)); short = ltb-false _ _ f };
+            }
+
+table-link : (table : Table) (vs : List ToWrite) (rs : List ℕ) → writeRecord table vs ≡ answered rs → Link rs
+unfolding writeRecord writeLeaf recordBytes
+table-link table [] rs w = refusal w
+table-link table (number leaf ∷ vs) rs w = record-link leaf (byLayout (find leaf table) vs) rs w
+table-link table (numeral z u ∷ vs) rs w = refusal w
+table-link table (absent ∷ vs) rs w = refusal w
+table-link table (many x ∷ vs) rs w = refusal w
+
+link-of : (rs : List ℕ) → WrittenAs rs → Link rs
+unfolding fieldListBytes methodListBytes
+link-of rs (by-table table vs w) = table-link table vs rs w
+link-of rs (field-list vss w) = record-link 0x1203 (membersBytes false vss) rs w
+link-of rs (method-list vss w) = record-link 0x1206 (methodsBytes vss) rs w
+
+payload-is : (rs : List ℕ) (k : Link rs) → payloadOf rs ≡ k .payload
+unfolding bytes
+payload-is rs k = ap (drop 2) (k .is-link)
+
+all-links : (rss : List (List ℕ)) → AllWritten rss → links (map payloadOf rss) ≡ inOrder rss
+unfolding AllWritten links inOrder
+all-links [] w = refl
+all-links (rs ∷ rss) w =
+    let k = link-of rs (w .0) in
+    let e : bytes 2 (length (payloadOf rs)) ++ payloadOf rs ≡ rs = rw (payload-is rs k) (sym (k .is-link)) in
+    rw (e, all-links rss (w .1))
+
+all-payloads : (rss : List (List ℕ)) → AllWritten rss → Payloads (map payloadOf rss)
+unfolding AllWritten Payloads
+all-payloads [] w = tt
+all-payloads (rs ∷ rss) w = let k = link-of rs (w .0) in (rw (payload-is rs k) (k .right), all-payloads rss (w .1))
+
+as-many : (rss : List (List ℕ)) → length (map payloadOf rss) ≡ length rss
+as-many [] = refl
+as-many (rs ∷ rss) = ap suc (as-many rss)
+
+pub stream-walks : StreamWalks
+stream-walks tag h hs rss w n a l i =
+    let e : links (map payloadOf rss) ≡ inOrder rss = all-links rss a in
+    let m : h .«minimum_index» + length (map payloadOf rss) ≤ 4294967295 = rw (as-many rss) i in
+    rw (← e) (links-walk tag h hs (map payloadOf rss) w n (all-payloads rss a) (rw e l) m)
