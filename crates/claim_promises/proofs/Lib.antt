@@ -12,4 +12,5 @@ pub mod PlacesWhen
 pub mod Idle
 pub mod Examples
 pub mod OneOutcome
+pub mod SectionsProof
 pub mod Demands

@@ -61,7 +61,7 @@ pub fn iter(s: &[u8]) -> IterAnswer
 }
 
 // Where a walk from a cursor ends: behind the last record, or at the first refusal.
-pub fn last(s: &[u8], c: ItemIter) -> IterAnswer
+fn last(s: &[u8], c: ItemIter) -> IterAnswer
     ensures { λ r. ⌜ saidIter r ≡ lastOf (now (s .entry)) c ⌝ }
 {
     let mut d = c;

@@ -22,7 +22,7 @@ use stream_item::ItemIndex;
 use stream_item::Stream;
 
 // The stream whose reader takes a leaf.
-pub fn reader(leaf: u16) -> Stream
+fn reader(leaf: u16) -> Stream
     ensures { λ r. ⌜ r ≡ readerOf leaf ⌝ }
 {
     if leaf == LF_FUNC_ID {

@@ -1,2 +1,3 @@
 pub mod StreamLaws
 pub mod MadeProof
+pub mod Examples

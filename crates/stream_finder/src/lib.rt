@@ -87,11 +87,11 @@ pub fn create_by(s: &[u8], t: &mut [u32], shift: u32) -> FinderAnswer
 }
 
 // A fresh finder of a run of records: what is fresh is the same wherever the run starts.
-pub fn begin(t: &mut [u32], run: Run, shift: u32) -> FinderAnswer
-    ensures { λ r. ⌜ Fills (now (t .entry)) (begunIn shift (now (t .entry)) run) r (now (t .exit)) ⌝ }
+pub fn begin(t: &mut [u32], records: Run, shift: u32) -> FinderAnswer
+    ensures { λ r. ⌜ Fills (now (t .entry)) (begunIn shift (now (t .entry)) records) r (now (t .exit)) ⌝ }
 {
-    let minimum = run.minimum;
-    let maximum = run.maximum;
+    let minimum = records.minimum;
+    let maximum = records.maximum;
     if shift > LARGEST_SHIFT {
         return FinderAnswer::Refused(Refusal::Shift);
     }
@@ -106,7 +106,7 @@ pub fn begin(t: &mut [u32], run: Run, shift: u32) -> FinderAnswer
     if t.len() == 0 {
         return FinderAnswer::Refused(Refusal::TableFull);
     }
-    t[0] = run.start;
+    t[0] = records.start;
     FinderAnswer::Answered(ItemFinder {
         minimum_index: minimum,
         maximum_index: maximum,
