@@ -7,6 +7,7 @@ use Rattle.stream_finder.proofs.SharedProof.{shared, of-runs}
 use Rattle.stream_places.proofs.KeptProof.{load-serves, round-trip, one-encoding}
 use Rattle.section_item.proofs.SectionLaws.{counts}
 use Rattle.section_finder.proofs.DemandProof.{of-sections}
+use Rattle.section_read.proofs.TakenProof.{each-taken}
 use Rattle.section_stream.proofs.MadeProof.{stream-made}
 use Rattle.pane.proofs.TallyProof.{tally-holds}
 use Rattle.pane.proofs.SameProof.{same}
@@ -42,6 +43,7 @@ demands = record {
   of-sections = of-sections;
   sections-counted = counts;
   made-stream = stream-made;
+  each-taken = each-taken;
   sections = sections-refuse;
   given-sections = sections-when;
   shown = examples-hold;

@@ -12,6 +12,7 @@ use Rattle.stream_places.specs.Kept.{LoadServes, RoundTrip, OneEncoding}
 use Rattle.stream_finder.specs.Runs.{OfRuns}
 use Rattle.section_item.specs.Sections.{Counts}
 use Rattle.section_finder.specs.Demand.{OfSections}
+use Rattle.section_read.specs.Readers.{EachTaken}
 use Rattle.section_stream.specs.Made.{StreamMade}
 use Rattle.pane.specs.Tally.{Tally}
 use Rattle.pane.specs.Same.{Same}
@@ -68,6 +69,8 @@ pub record Demands : Type 1 where
   -- the stream that is made of a section: its header is accepted, its walk is the section's with places 52 higher, its lookups agree:
   -- crates/section_stream/specs/Made.antt
   pub made-stream : StreamMade
+  -- "each item goes to the reader that takes its leaf": crates/section_read/specs/Readers.antt
+  pub each-taken : EachTaken
   -- what refuses a section, and when: Sections.antt
   pub sections : SectionsRefuse
   pub given-sections : SectionsWhen

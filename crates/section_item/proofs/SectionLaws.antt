@@ -185,9 +185,6 @@ counted s n e = go (startOf s) refl e
         let f : c ≡ first = sym (st .cursor) in
         ended (rw f at st) (lastOf s first) refl (rw f at q)
 
-pub counts : Counts
-counts s n e = let k : Counted s n = counted s n e in (k .end, k .walk, k .over, over-end s (k .end) (k .over))
-
 -- what was counted, forward
 pub count-is : (s : List ℕ) (c : ItemIter) (a : Answer ItemIter) → startOf s ≡ answered c → lastOf s c ≡ a → countOf s ≡ then a (λ d. answered (d .index - 0x1000))
 unfolding countOf
@@ -202,3 +199,23 @@ pub counted-from : (s : List ℕ) (c d : ItemIter) → startOf s ≡ answered c 
 counted-from s c d e h =
     let i : 0x1000 ≡ c .index = ap (λ (x : ItemIter). x .index) (starts s c e .cursor) in
     omega (arith, last-ends s c d h .index)
+
+-- ---- the walk by steps, and back
+left-on : (s : List ℕ) (c d : ItemIter) (n : ℕ) (e : ItemIter) → Left s c d → Passed s d n e → Left s c e
+left-on s c d zero e l none = l
+left-on s c d (suc n) e l (more {d = b} {i = i} h w) = left-on s c b n e (left-next s c d l i b h) w
+
+-- the index goes up by one with each record
+passed-index : (s : List ℕ) (c : ItemIter) (n : ℕ) (d : ItemIter) → Passed s c n d → d .index ≡ c .index + n
+passed-index s c zero d none = omega arith
+passed-index s c (suc n) d (more {d = b} {i = i} h w) = omega (arith, passed-index s b n d w, further s c i b h .index)
+
+pub counts : Counts
+counts = record {
+  walked = λ s n e. let k : Counted s n = counted s n e in (k .end, k .walk, k .over, over-end s (k .end) (k .over));
+  counted = λ s n d b w o.
+      let i : d .index ≡ 0x1000 + n = passed-index s first n d w in
+      let j : d .index - 0x1000 ≡ n = omega arith in
+      count-is s first (answered d) b (left-done s first d (left-on s first first n d (left-first s first) w) o) ∙ ap (λ (m : ℕ). answered m) j;
+  own = λ s n d k x b w o. count-is s first (refused k x) b (left-refused s first d (left-on s first first n d (left-first s first) w) k x o);
+}

@@ -57,6 +57,9 @@ pub record Ends (s : List ℕ) (c d : ItemIter) : Type 0 where
   pub led : Passed s c records d
   pub over : nextOf s d ≡ answered done
 
--- so the count is that of a walk from behind the signature that ends at the section's end
-abbrev pub Counts : Type 0
-Counts = (s : List ℕ) (n : ℕ) → countOf s ≡ answered n → (d : ItemIter) × Passed s first n d × (nextOf s d ≡ answered done) × (d .at ≡ length s)
+-- So the count is that of a walk from behind the signature that ends at the section's end, and of every such walk; and a walk that the iterator
+-- refuses is refused by the iterator's own number
+pub record Counts : Type 0 where
+  pub walked : (s : List ℕ) (n : ℕ) → countOf s ≡ answered n → (d : ItemIter) × Passed s first n d × (nextOf s d ≡ answered done) × (d .at ≡ length s)
+  pub counted : (s : List ℕ) (n : ℕ) (d : ItemIter) → startOf s ≡ answered first → Passed s first n d → nextOf s d ≡ answered done → countOf s ≡ answered n
+  pub own : (s : List ℕ) (n : ℕ) (d : ItemIter) (k : ℕ) (x : List ℕ) → startOf s ≡ answered first → Passed s first n d → nextOf s d ≡ refused k x → countOf s ≡ refused k x

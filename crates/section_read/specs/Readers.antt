@@ -3,6 +3,7 @@
 -- has no such leaf. What the readers answer is document 01's: `parseOf` of crates/record_parse, the section being both streams.
 use Prim.Native.Nat.{ℕ}
 use mathlib.Core.List.{List}
+use mathlib.Core.Path.{_≡_}
 use mathlib.Core.Option.{Option, none, some}
 use lib.Dec.{ltb}
 use Rattle.answer.specs.Answer.{Answer, Read, answered, refused, pick}
@@ -13,7 +14,7 @@ use Rattle.stream_item.specs.declared.Stream.{Stream}
 use Rattle.stream_item.specs.declared.Stream.the-variants.{Types, Ids}
 use Rattle.stream_item.specs.declared.Entry.{Entry}
 use Rattle.stream_item.specs.declared.Entry.the-variants as entry
-use Rattle.record_layout.specs.Layouts.{Layout, idLeaves}
+use Rattle.record_layout.specs.Layouts.{Layout, typeLeaves, idLeaves}
 use Rattle.record_parse.specs.Record.{Parsed, parseOf}
 
 abbrev pub takenBy : Option Layout → Stream
@@ -35,6 +36,11 @@ readerAt s p = byLeaf (fixedAt 2 s p)
 -- an item below 0x1000 is read as a primitive, as the type reader does
 unfoldable pub tagOf : List ℕ → ℕ → ℕ → Stream
 tagOf s n p = pick (ltb n 0x1000) Types (readerAt s p)
+
+-- so each leaf that a reader takes goes to that reader: no leaf stands in both tables
+pub record EachTaken : Type 0 where
+  pub types : (leaf : ℕ) (fs : Layout) → find leaf typeLeaves ≡ some fs → readerOf leaf ≡ Types
+  pub ids : (leaf : ℕ) (fs : Layout) → find leaf idLeaves ≡ some fs → readerOf leaf ≡ Ids
 
 -- an entry under the tag of the reader that takes it: one run of numbers, so that the tag it came with says nothing
 abbrev pub sortedOf : List ℕ → Entry → Entry
