@@ -14,13 +14,14 @@ Where an expected line comes from:
 - A known difference: document 01's or 02's line, worked out by layouts.py or written out below, with the name of its line in docs/DIFFERENCES.md.
 - A command that the crate cannot be asked (next, create, update, findin, maxindex, view, marker, element, idelement, and all that end in `by`): 01's
   rule, with 02's R-7 for a shift, written again below beside its sentence, in Python, apart from the Rattle sources; `save` and `load`: 02's R-3,
-  written again in places.py; `writeheader`, `write`, `rewrite` and `rewriteid`: 02's R-1, written again in writing.py.
+  written again in places.py; `writeheader`, `write`, `rewrite` and `rewriteid`: 02's R-1, written again in writing.py; the `sec` commands: 02's R-6,
+  written again in sections.py.
 - A command whose BYTES are none: `? bytes`, by PROTOCOL.md's sentence, written again below.
 - 01's examples and 02's words: their lines, written out below. They must be what the rules above give too.
 
 No expected line is taken from REPLAY. It is run at the end, and must answer every line. The exit status is 1, and nothing is written, if an answer
 of the crate is not explained, if an example fails, if REPLAY answers otherwise or has no call of some public function, or if the list lacks one of:
-a command of PROTOCOL.md; a number 0 to 22, or 26; every shift 0 to 7; a leaf of 01; every prefix of a good record of every leaf; every leaf written, and refused
+a command of PROTOCOL.md; a number 0 to 22, 25 or 26; every shift 0 to 7; a leaf of 01; every prefix of a good record of every leaf; every leaf written, and refused
 by 17 and by 19; 18; a record of the crate's tests; the largest counts; a table exactly full and one short; bytes that are none, in every way, and as many bytes as there may be.
 """
 import os
@@ -35,6 +36,7 @@ import compare
 import layouts
 import make_inputs
 import places
+import sections
 import writing
 from compare import TOP, blob
 
@@ -317,6 +319,8 @@ def by_rule(words, primitive):
         return places.load_line(blob(n[0]), blob(n[1]), table_of(n[2]))
     if kind in ("writeheader", "write", "rewrite", "rewriteid"):
         return writing.answer(words)
+    if kind in sections.COMMANDS:
+        return sections.answer(words)
     if kind == "view":
         return view_line(blob(n[0] if n[2] == "t" else n[1]), int(n[3]), int(n[4]))
     if kind == "marker":
@@ -344,13 +348,14 @@ def by_rule(words, primitive):
 
 PORT_ONLY = ("next", "create", "update", "findin", "maxindex", "view", "marker", "element", "idelement", "count", "cross", "item",
              "membername", "idat", "createby", "updateby", "findinby", "maxindexby", "findby", "wunsigned", "wsigned", "wtype", "welement", "save", "load",
-             "writeheader", "write", "rewrite", "rewriteid")
+             "writeheader", "write", "rewrite", "rewriteid", *sections.COMMANDS)
 
 
 # ---- words that should be BYTES ----
 
 # Where a command has its BYTES, the command itself being word 0; most have them as word 1.
-BYTES_AT = {**dict.fromkeys(("itemtype", "itemid", "string", "element", "idelement", "idat", "membername", "createby", "findinby", "findby", "welement"), (2,)),
+BYTES_AT = {**dict.fromkeys(("itemtype", "itemid", "string", "element", "idelement", "idat", "membername", "createby", "findinby", "findby", "welement",
+                            "seccreate", "sectpi"), (2,)),
             "view": (1, 2), "load": (1, 2), "save": (3,),
             **dict.fromkeys(("prim", "word", "opttype", "optid", "update", "maxindex", "updateby", "maxindexby", "marker", "cross", "item", "writeheader",
                             "write"), ())}
@@ -987,10 +992,13 @@ def numbers_in(words, lines):
     """The numbers of 01's table that an answer shows."""
     for line in lines:
         parts = line.split()
-        if words[0] in ("walk", "parse", "parseids"):
+        if words[0] in ("secwalk", "secparse"):
+            if parts[0] == "refused" or len(parts) == 1:
+                yield int(parts[-1])
+        elif words[0] in ("walk", "parse", "parseids"):
             if parts[0] == "refused":
                 yield int(parts[1])
-        elif words[0] in ("find", "findids", "findby", "prim"):
+        elif words[0] in ("find", "findids", "findby", "secfind", "prim"):
             if parts[0].isdigit() and len(parts) > 1:
                 yield int(parts[1])
         elif words[0] not in ("word", "opttype", "optid", "maxindex", "maxindexby", "cross", "item"):
@@ -1050,7 +1058,7 @@ def lacking(vectors):
         if not any(c.startswith(f"word {word} ") for c in asked):
             yield f"word {word}"
     numbers = {n for c, lines in vectors if c not in NO_COMMANDS + NO_BYTES for n in numbers_in(c.split(), lines)}
-    for n in (set(range(23)) | {26}) - numbers:
+    for n in (set(range(23)) | {25, 26}) - numbers:
         yield f"number {n}"
     yield from unwritten(dict(vectors))
     for kind in ("createby", "updateby", "findinby", "maxindexby", "findby"):
@@ -1107,6 +1115,7 @@ def main():
     commands = [c for c, _ in EXAMPLES] + NO_COMMANDS + NO_BYTES + [MOST] + list(small_commands()) + list(record_commands(rng)) + list(word_commands(rng)) + list(stream_commands(rng))
     commands += [c for c, _ in CVINFO] + [c for c, _ in FORMS] + list(form_commands()) + list(place_commands())
     commands += [c for c, _ in writing.EXAMPLES] + list(write_commands())
+    commands += sections.commands()
     commands = list(dict.fromkeys(commands))
     problems = compare.listed()
     crate = [c for c in commands if c.split()[0] not in PORT_ONLY and (c in NO_COMMANDS or not no_bytes(c.split()))]

@@ -1,5 +1,5 @@
 """Runs a program on cases: a name, what it is given on standard input, and what it has to answer; where it takes them, also its arguments and the files
-that they name. For tools/list_cases, tools/outline_cases and tools/lookup_cases.
+that they name. For tools/list_cases, tools/outline_cases, tools/lookup_cases and tools/obj_cases. What has to be answered is text, or bytes.
 
 Each case is run by `rt try`, which compiles the program as it stands and proves nothing: `rt ci` proves it, from nothing and once.
 """
@@ -22,7 +22,7 @@ def tried(program, case):
                 shutil.copytree(os.path.join("crates", crate, "src"), os.path.join(scratch, "crates", crate, "src"))
         os.mkdir(os.path.join(scratch, "crates", program, "data"))
         named = [(os.path.join("data", file), content) for file, content in files.items()]
-        for file, content in [("stdin", given), ("stdout", wanted.encode()), ("args", "".join(w + "\n" for w in words).encode())] + named:
+        for file, content in [("stdin", given), ("stdout", wanted if isinstance(wanted, bytes) else wanted.encode()), ("args", "".join(w + "\n" for w in words).encode())] + named:
             with open(os.path.join(scratch, "crates", program, file), "wb") as f:
                 f.write(content)
         run = subprocess.run(["rt", "try", program], cwd=scratch, stdout=subprocess.PIPE, stderr=subprocess.STDOUT, timeout=600)

@@ -3,7 +3,7 @@ use Rattle.field_number.proofs.FormsProof.{shortest-form, width-said, as-before
 use Rattle.record_layout.proofs.AsIn01.{as-in-01}
 use Rattle.claim_model.proofs.Demand2.{demand2}
 use Rattle.stream_finder.proofs.DemandProof.{demand3, demand3-every, not-indexed, not-indexed-every}
-use Rattle.stream_finder.proofs.SharedProof.{shared}
+use Rattle.stream_finder.proofs.SharedProof.{shared, of-runs}
 use Rattle.stream_places.proofs.KeptProof.{load-serves, round-trip, one-encoding}
 use Rattle.write_layout.proofs.RoundTripProof.{fields-read-back, record-reads-back}
 use Rattle.write_layout.proofs.Rewrite.{exactly-17}
@@ -11,12 +11,17 @@ use Rattle.write_row.proofs.RowLaws.{rows-show}
 use Rattle.write_list.proofs.ListBack.{lists-read-back}
 use Rattle.write_header.proofs.HeaderBack.{header-reads-back}
 use Rattle.write_header.proofs.StreamWalks.{stream-walks}
+use Rattle.section_item.proofs.SectionLaws.{counts}
+use Rattle.section_finder.proofs.DemandProof.{of-sections}
+use Rattle.section_read.proofs.TakenProof.{each-taken}
+use Rattle.section_stream.proofs.MadeProof.{stream-made}
 use Rattle.pane.proofs.TallyProof.{tally-holds}
 use Rattle.pane.proofs.SameProof.{same}
 use Rattle.claim_promises.proofs.Demand1.{demand1}
 use Rattle.claim_promises.proofs.ExactlyWhen.{exactly-when}
 use Rattle.claim_promises.proofs.PlacesWhen.{places-when}
 use Rattle.claim_promises.proofs.WritesWhen.{writes-when}
+use Rattle.claim_promises.proofs.SectionsProof.{sections-refuse, sections-when}
 use Rattle.claim_promises.proofs.Examples.{examples-hold}
 use Rattle.claim_promises.proofs.OneOutcome.{one-outcome}
 use Rattle.claim_promises.specs.Demands.{Demands}
@@ -49,6 +54,13 @@ demands = record {
   given-writing = writes-when;
   paged = tally-holds;
   five = same;
+  of-runs = of-runs;
+  of-sections = of-sections;
+  sections-counted = counts;
+  made-stream = stream-made;
+  each-taken = each-taken;
+  sections = sections-refuse;
+  given-sections = sections-when;
   shown = examples-hold;
   one = one-outcome;
 }

@@ -14,4 +14,5 @@ pub mod WritesWhen
 pub mod Idle
 pub mod Examples
 pub mod OneOutcome
+pub mod SectionsProof
 pub mod Demands

@@ -32,7 +32,7 @@ use Rattle.record_parse.proofs.OneOutcome.{one-parse}
 use Rattle.pane.proofs.OneOutcome.{one-out, one-out-table}
 use Rattle.write_pieces.proofs.OneOutcome.{one-measure, one-writes}
 use Rattle.stream_item.specs.declared.iter.ItemIter.{ItemIter}
-use Rattle.stream_finder.specs.Finder.{State, state, createOf, createBy, updateOf}
+use Rattle.stream_finder.specs.Finder.{State, state, begunIn, createOf, createBy, updateOf}
 use Rattle.stream_finder.specs.Lent.{Updates}
 use Rattle.stream_finder.specs.declared.ItemFinder.{ItemFinder}
 use Rattle.stream_finder.specs.declared.lent.UpdateStep.{UpdateStep}
@@ -49,6 +49,9 @@ use Rattle.write_layout.specs.Lists.{filledEach, fieldListBytes, methodListByte
 use Rattle.write_layout.specs.Buffer.{lay}
 use Rattle.write_pieces.specs.Pieces.{piecesOf}
 use Rattle.write_header.specs.Headers.{headerBytes}
+use Rattle.section_finder.specs.Finders as sections
+use Rattle.section_finder.proofs.OneOutcome.{one-indexes as one-section}
+use Rattle.section_stream.specs.Streams.{streamOf}
 use Rattle.write_row.specs.Rows.{memberRows, methodRows}
 use Rattle.claim_promises.specs.Contracts as contract
 use Rattle.claim_promises.specs.OneOutcome.{Once, OnceLent, OnceLentTwo, OneOutcome}
@@ -122,7 +125,17 @@ one-outcome = record {
   record-reader-list-reader-step = one-reader-step;
   record-reader-step-of = one-stepped;
   record-reader-nth = λ stream s k r q a b. one-element r q (a ∙ sym b);
+  section-finder-create = λ s t. one-fills t (sections.createOf s t);
+  section-finder-create-by = λ s t shift. one-fills t (sections.createBy shift s t);
+  section-finder-index-all = one-section 3;
+  section-finder-index-all-by = λ s t shift. one-section shift s t;
+  section-item-iter = λ s r q a b. one-iter r q (a ∙ sym b);
+  section-item-len = λ s r q a b. one-len r q (a ∙ sym b);
+  section-read-parse = λ s entry r q a b. one-parse r q (a ∙ sym b);
+  section-read-start = λ bytes r q a b. one-start r q (a ∙ sym b);
+  section-stream-to-stream = λ s out. one-writes out (lay (streamOf s) out 0);
   stream-finder-create = λ s t. one-fills t (createOf s t);
+  stream-finder-begin = λ t records shift. one-fills t (begunIn shift t records);
   stream-finder-create-by = λ s t shift. one-fills t (createBy shift s t);
   stream-finder-update = λ f t c. one-fills t (updateOf (state f t) c);
   stream-finder-item-finder-max-type-index = λ self r q a b i. record { 0 = (a ∙ sym b) i };

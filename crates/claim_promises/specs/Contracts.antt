@@ -47,7 +47,7 @@ use Rattle.record_id.specs.declared.IdAnswer.{IdAnswer}
 use Rattle.record_id.specs.declared.IdData.{IdData}
 use Rattle.record_layout.specs.Fields.{readFields, run, types}
 use Rattle.record_layout.specs.Layouts.{S, idLeaves, memberLeaves, method, readRecord, recordOf, typeLeaves}
-use Rattle.record_list.specs.Lists.{elementBy, elementOf, startOf, stepOf}
+use Rattle.record_list.specs.Lists.{elementBy, elementOf, startOf as startOf-of-record-list, stepOf}
 use Rattle.record_list.specs.Said.{saidElement, saidStart, saidStep}
 use Rattle.record_list.specs.declared.ElementAnswer.{ElementAnswer}
 use Rattle.record_list.specs.declared.ListCursor.{ListCursor}
@@ -63,17 +63,22 @@ use Rattle.record_parse.specs.declared.ParseAnswer.{ParseAnswer}
 use Rattle.record_reader.specs.Reader.{Steps}
 use Rattle.record_reader.specs.declared.ListReader.{ListReader}
 use Rattle.record_reader.specs.declared.Stepped.{Stepped}
-use Rattle.stream_finder.specs.Finder.{Fills, createBy, createOf, findOf, maxIndexOf, saidFind, state, updateOf}
+use Rattle.section_finder.specs.Finders.{Indexes as Indexes-of-section-finder, IndexesBy as IndexesBy-of-section-finder, createBy as createBy-of-section-finder, createOf as createOf-of-section-finder}
+use Rattle.section_item.specs.Sections.{countOf, startOf as startOf-of-section-item}
+use Rattle.section_read.specs.Readers.{readOf, readerAt}
+use Rattle.section_stream.specs.Streams.{streamOf}
+use Rattle.stream_finder.specs.Finder.{Fills, begunIn, createBy as createBy-of-stream-finder, createOf as createOf-of-stream-finder, findOf, maxIndexOf, saidFind, state, updateOf}
 use Rattle.stream_finder.specs.Lent.{Updates}
 use Rattle.stream_finder.specs.declared.FindAnswer.{FindAnswer}
 use Rattle.stream_finder.specs.declared.FinderAnswer.{FinderAnswer}
 use Rattle.stream_finder.specs.declared.ItemFinder.{ItemFinder}
+use Rattle.stream_finder.specs.declared.Run.{Run}
 use Rattle.stream_finder.specs.declared.lent.UpdateAnswer.{UpdateAnswer}
 use Rattle.stream_finder.specs.declared.lent.UpdateStep.{UpdateStep}
 use Rattle.stream_header.specs.Header.{headerOf, saidHeader}
 use Rattle.stream_header.specs.declared.Header.{Header}
 use Rattle.stream_header.specs.declared.HeaderAnswer.{HeaderAnswer}
-use Rattle.stream_index.specs.Walk.{Indexes, IndexesBy, Leads, Walks, turnOf}
+use Rattle.stream_index.specs.Walk.{Indexes as Indexes-of-stream-index, IndexesBy as IndexesBy-of-stream-index, Leads, Walks, turnOf}
 use Rattle.stream_index.specs.declared.IndexAnswer.{IndexAnswer}
 use Rattle.stream_index.specs.declared.Tour.{Tour}
 use Rattle.stream_index.specs.declared.TurnAnswer.{TurnAnswer}
@@ -268,7 +273,7 @@ record-id-id-data s r = saidIdData r ≡ recordOf idLeaves s
 
 -- record_list::start
 abbrev pub record-list-start : (stream : Stream) (s : List ℕ) → StartAnswer → Type 0
-record-list-start stream s r = saidStart r ≡ startOf stream s
+record-list-start stream s r = saidStart r ≡ startOf-of-record-list stream s
 
 -- record_list::step
 abbrev pub record-list-step : (s : List ℕ) (c : ListCursor) → StepAnswer → Type 0
@@ -314,13 +319,53 @@ record-reader-step-of bytes cursor u = Steps cursor (stepOf bytes cursor) (u .an
 abbrev pub record-reader-nth : (stream : Stream) (s : List ℕ) (k : ℕ) → ElementAnswer → Type 0
 record-reader-nth stream s k r = saidElement r ≡ elementOf stream s k
 
+-- section_finder::create
+abbrev pub section-finder-create : (s : List ℕ) (t : List ℕ) → FinderAnswer → List ℕ → Type 0
+section-finder-create s t r t′ = Fills t (createOf-of-section-finder s t) r t′
+
+-- section_finder::create_by
+abbrev pub section-finder-create-by : (s : List ℕ) (t : List ℕ) (shift : ℕ) → FinderAnswer → List ℕ → Type 0
+section-finder-create-by s t shift r t′ = Fills t (createBy-of-section-finder shift s t) r t′
+
+-- section_finder::index_all
+abbrev pub section-finder-index-all : (s : List ℕ) (t : List ℕ) → IndexAnswer → List ℕ → Type 0
+section-finder-index-all s t r t′ = Indexes-of-section-finder s t r t′
+
+-- section_finder::index_all_by
+abbrev pub section-finder-index-all-by : (s : List ℕ) (t : List ℕ) (shift : ℕ) → IndexAnswer → List ℕ → Type 0
+section-finder-index-all-by s t shift r t′ = IndexesBy-of-section-finder shift s t r t′
+
+-- section_item::iter
+abbrev pub section-item-iter : (s : List ℕ) → IterAnswer → Type 0
+section-item-iter s r = saidIter r ≡ startOf-of-section-item s
+
+-- section_item::len
+abbrev pub section-item-len : (s : List ℕ) → LenAnswer → Type 0
+section-item-len s r = saidLen r ≡ countOf s
+
+-- section_read::parse
+abbrev pub section-read-parse : (s : List ℕ) (entry : Entry) → ParseAnswer → Type 0
+section-read-parse s entry r = saidParse r ≡ readOf s entry
+
+-- section_read::start
+abbrev pub section-read-start : (bytes : List ℕ) → StartAnswer → Type 0
+section-read-start bytes r = saidStart r ≡ startOf-of-record-list (readerAt bytes 0) bytes
+
+-- section_stream::to_stream
+abbrev pub section-stream-to-stream : (s : List ℕ) (out : List ℕ) → WriteAnswer → List ℕ → Type 0
+section-stream-to-stream s out r out′ = Writes out (lay (streamOf s) out 0) (saidWrite r) out′
+
 -- stream_finder::create
 abbrev pub stream-finder-create : (s : List ℕ) (t : List ℕ) → FinderAnswer → List ℕ → Type 0
-stream-finder-create s t r t′ = Fills t (createOf s t) r t′
+stream-finder-create s t r t′ = Fills t (createOf-of-stream-finder s t) r t′
 
 -- stream_finder::create_by
 abbrev pub stream-finder-create-by : (s : List ℕ) (t : List ℕ) (shift : ℕ) → FinderAnswer → List ℕ → Type 0
-stream-finder-create-by s t shift r t′ = Fills t (createBy shift s t) r t′
+stream-finder-create-by s t shift r t′ = Fills t (createBy-of-stream-finder shift s t) r t′
+
+-- stream_finder::begin
+abbrev pub stream-finder-begin : (t : List ℕ) (records : Run) (shift : ℕ) → FinderAnswer → List ℕ → Type 0
+stream-finder-begin t records shift r t′ = Fills t (begunIn shift t records) r t′
 
 -- stream_finder::update
 abbrev pub stream-finder-update : (f : ItemFinder) (t : List ℕ) (c : ItemIter) → FinderAnswer → List ℕ → Type 0
@@ -368,11 +413,11 @@ stream-index-index-on s f t c r t′ = Walks s c (state f t) r t′
 
 -- stream_index::index_all
 abbrev pub stream-index-index-all : (stream : Stream) (s : List ℕ) (t : List ℕ) → IndexAnswer → List ℕ → Type 0
-stream-index-index-all stream s t r t′ = Indexes stream s t r t′
+stream-index-index-all stream s t r t′ = Indexes-of-stream-index stream s t r t′
 
 -- stream_index::index_all_by
 abbrev pub stream-index-index-all-by : (stream : Stream) (s : List ℕ) (t : List ℕ) (shift : ℕ) → IndexAnswer → List ℕ → Type 0
-stream-index-index-all-by stream s t shift r t′ = IndexesBy shift stream s t r t′
+stream-index-index-all-by stream s t shift r t′ = IndexesBy-of-stream-index shift stream s t r t′
 
 -- stream_item::Stream::index
 abbrev pub stream-item-stream-index : (self : Stream) (n : ℕ) → ItemIndex → Type 0

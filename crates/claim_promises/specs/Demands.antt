@@ -14,12 +14,18 @@ use Rattle.write_row.specs.Rows.{RowsShow}
 use Rattle.write_list.specs.ListsBack.{ListsReadBack}
 use Rattle.write_header.specs.Headers.{HeaderReadsBack}
 use Rattle.write_header.specs.Streams.{StreamWalks}
+use Rattle.stream_finder.specs.Runs.{OfRuns}
+use Rattle.section_item.specs.Sections.{Counts}
+use Rattle.section_finder.specs.Demand.{OfSections}
+use Rattle.section_read.specs.Readers.{EachTaken}
+use Rattle.section_stream.specs.Made.{StreamMade}
 use Rattle.pane.specs.Tally.{Tally}
 use Rattle.pane.specs.Same.{Same}
 use Rattle.claim_promises.specs.Demand1.{Demand1}
 use Rattle.claim_promises.specs.ExactlyWhen.{ExactlyWhen}
 use Rattle.claim_promises.specs.PlacesWhen.{PlacesWhen}
 use Rattle.claim_promises.specs.WritesWhen.{WritesWhen}
+use Rattle.claim_promises.specs.Sections.{SectionsRefuse, SectionsWhen}
 use Rattle.claim_promises.specs.Examples.{examples, asked, given as answers}
 use Rattle.claim_promises.specs.OneOutcome.{OneOutcome}
 
@@ -73,6 +79,20 @@ pub record Demands : Type 1 where
   -- five functions for C are enough: crates/pane/specs/Same.antt
   pub paged : Tally
   pub five : Same
+  -- document 02, R-6: "Demand 3 holds of the section with 4 for header_size, 4096 for the minimum and 4096 plus the records for the maximum":
+  -- crates/section_finder/specs/Demand.antt, by the theorems of any run, crates/stream_finder/specs/Runs.antt; the records are those of a whole walk:
+  -- crates/section_item/specs/Sections.antt
+  pub of-runs : OfRuns
+  pub of-sections : OfSections
+  pub sections-counted : Counts
+  -- the stream that is made of a section: its header is accepted, its walk is the section's with places 52 higher, its lookups agree:
+  -- crates/section_stream/specs/Made.antt
+  pub made-stream : StreamMade
+  -- "each item goes to the reader that takes its leaf": crates/section_read/specs/Readers.antt
+  pub each-taken : EachTaken
+  -- what refuses a section, and when: Sections.antt
+  pub sections : SectionsRefuse
+  pub given-sections : SectionsWhen
   -- "P marks those proved, together as one statement over their list": Examples.antt
   pub shown : map asked examples ≡ map answers examples
   -- "For each, show that the contract admits one outcome": OneOutcome.antt

@@ -15,6 +15,7 @@ use Rattle.record_member.specs.declared.Member.{Member}
 use Rattle.record_member.specs.declared.MethodListEntry.{MethodListEntry}
 use Rattle.record_reader.specs.declared.ListReader.{ListReader}
 use Rattle.stream_finder.specs.declared.ItemFinder.{ItemFinder}
+use Rattle.stream_finder.specs.declared.Run.{Run}
 use Rattle.stream_header.specs.declared.Header.{Header}
 use Rattle.stream_item.specs.declared.Entry.{Entry}
 use Rattle.stream_item.specs.declared.ItemIndex.{ItemIndex}
@@ -101,9 +102,23 @@ pub record OneOutcome : Type 1 where
   pub record-reader-list-reader-step : (self : ListReader) → OnceLent (contract.record-reader-list-reader-step self)
   pub record-reader-step-of : (bytes : List ℕ) (cursor : ListCursor) → Once (contract.record-reader-step-of bytes cursor)
   pub record-reader-nth : (stream : Stream) (s : List ℕ) (k : ℕ) → Once (contract.record-reader-nth stream s k)
+  -- section_finder
+  pub section-finder-create : (s : List ℕ) (t : List ℕ) → OnceLent (contract.section-finder-create s t)
+  pub section-finder-create-by : (s : List ℕ) (t : List ℕ) (shift : ℕ) → OnceLent (contract.section-finder-create-by s t shift)
+  pub section-finder-index-all : (s : List ℕ) (t : List ℕ) → OnceLent (contract.section-finder-index-all s t)
+  pub section-finder-index-all-by : (s : List ℕ) (t : List ℕ) (shift : ℕ) → OnceLent (contract.section-finder-index-all-by s t shift)
+  -- section_item
+  pub section-item-iter : (s : List ℕ) → Once (contract.section-item-iter s)
+  pub section-item-len : (s : List ℕ) → Once (contract.section-item-len s)
+  -- section_read
+  pub section-read-parse : (s : List ℕ) (entry : Entry) → Once (contract.section-read-parse s entry)
+  pub section-read-start : (bytes : List ℕ) → Once (contract.section-read-start bytes)
+  -- section_stream
+  pub section-stream-to-stream : (s : List ℕ) (out : List ℕ) → OnceLent (contract.section-stream-to-stream s out)
   -- stream_finder
   pub stream-finder-create : (s : List ℕ) (t : List ℕ) → OnceLent (contract.stream-finder-create s t)
   pub stream-finder-create-by : (s : List ℕ) (t : List ℕ) (shift : ℕ) → OnceLent (contract.stream-finder-create-by s t shift)
+  pub stream-finder-begin : (t : List ℕ) (records : Run) (shift : ℕ) → OnceLent (contract.stream-finder-begin t records shift)
   pub stream-finder-update : (f : ItemFinder) (t : List ℕ) (c : ItemIter) → OnceLent (contract.stream-finder-update f t c)
   pub stream-finder-item-finder-max-type-index : (self : ItemFinder) → Once (contract.stream-finder-item-finder-max-type-index self)
   pub stream-finder-item-finder-max-id-index : (self : ItemFinder) → Once (contract.stream-finder-item-finder-max-id-index self)

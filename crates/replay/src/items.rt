@@ -59,7 +59,7 @@ fn walk_on<'a>(tpi: &'a [u8], ipi: &'a [u8], s: &'a [u8], from: ItemIter, data: 
     }
 }
 
-fn walk_from<'a>(tpi: &'a [u8], ipi: &'a [u8], s: &'a [u8], a: IterAnswer, data: bool) {
+pub fn walk_from<'a>(tpi: &'a [u8], ipi: &'a [u8], s: &'a [u8], a: IterAnswer, data: bool) {
     match a {
         IterAnswer::Answered(c) => walk_on(tpi, ipi, s, c, data),
         IterAnswer::Refused(e) => {

@@ -6,6 +6,7 @@ mod lines;
 mod numbers;
 mod place_lines;
 mod record_lines;
+mod section_lines;
 mod small;
 mod stream_lines;
 mod values;
@@ -247,6 +248,32 @@ fn find_by(
     )
 }
 
+// A `find` over a section.
+fn find_in_section(
+    buffer: &mut [u8; 65536],
+    from: Input,
+    s: &[u8],
+    places: &mut [u32; 16384],
+    n: u64,
+) -> Input {
+    let b = section_lines::begin(s, places, n);
+    let Begun::On(f) = b else {
+        return from;
+    };
+    stream_lines::places(places, f, false);
+    lookups(buffer, from, s, false, places, f)
+}
+
+// The other commands on sections.
+fn on_sections(command: u8, s: &[u8], t: &mut [u32], held: usize, n: &[u64; 8]) {
+    match command {
+        49 => section_lines::walk(s),
+        50 => section_lines::parse(s),
+        52 => section_lines::create_by(s, t, held, input::low32(n[0])),
+        _ => section_lines::to_stream(s, n[0]),
+    }
+}
+
 // The commands: a name, a colon, the shape of the arguments (input::read_arguments) and a blank for each.
 fn name_of(letters: &[u8; 16], n: usize) -> Name {
     input::known(
@@ -260,7 +287,8 @@ fn name_of(letters: &[u8; 16], n: usize) -> Name {
           createby:nat updateby:nnnntnn findinby:nannntn maxindexby:nnnn findby:naun \
           wunsigned:a wsigned:a wtype:a welement:na \
           save:nnannnt load:abt \
-          writeheader:n write:n rewrite:a rewriteid:a ",
+          writeheader:n write:n rewrite:a rewriteid:a \
+          secwalk:a secparse:a secfind:an seccreate:nat sectpi:na ",
     )
 }
 
@@ -315,7 +343,14 @@ fn carry_out<'a>(
     if command == 46 {
         return write_lines::write(buffer, a.input, n[0]);
     }
-    write_lines::rewrite(tpi, command == 48);
+    if command < 49 {
+        write_lines::rewrite(tpi, command == 48);
+        return a.input;
+    }
+    if command == 51 {
+        return find_in_section(buffer, a.input, tpi, places, n[0]);
+    }
+    on_sections(command, tpi, places, a.places, n);
     a.input
 }
 

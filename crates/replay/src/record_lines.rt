@@ -511,7 +511,7 @@ fn list_turn(s: &[u8], c: ListCursor, w: bool) -> Onward {
 }
 
 // Each element takes two bytes at least, so that 65,536 bytes end before the turns do.
-fn list_walk(s: &[u8], from: ListCursor, w: bool) {
+pub fn list_walk(s: &[u8], from: ListCursor, w: bool) {
     let mut c = from;
     let mut turns: u32 = 65536;
     while 0 < turns {
@@ -604,13 +604,13 @@ fn id_fields(d: IdData) {
 }
 
 // Whose lists a record may have.
-enum Lists {
+pub enum Lists {
     None,
     Types,
     Ids,
 }
 
-fn fields(a: ParseAnswer, w: bool) -> Lists {
+pub fn fields(a: ParseAnswer, w: bool) -> Lists {
     match a {
         ParseAnswer::Primitive(p) => {
             lines::primitive(p);

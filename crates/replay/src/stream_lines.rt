@@ -318,7 +318,7 @@ pub fn places(t: &[u32], f: ItemFinder, ids: bool) {
 
 // The finder after n records. 65,536 bytes cannot fill a table of 16,384 places, not even with one for each record, so that a turn is refused only
 // where the iterator refuses.
-fn find_walk(
+pub fn find_walk(
     s: &[u8],
     t: &mut [u32; 16384],
     first: ItemFinder,
@@ -374,7 +374,7 @@ fn began(s: &[u8], ids: bool, t: &mut [u32; 16384], f: ItemFinder, early: bool, 
     }
 }
 
-fn refused(e: Refusal) -> Begun {
+pub fn refused(e: Refusal) -> Begun {
     lines::refusal(e);
     lines::put(b"\n");
     Begun::Over

@@ -1,4 +1,4 @@
--- Demand 3, over the shift. The invariant: after n turns the finder holds 1 + n / 2^shift places, each the start of its block, and the cursor stands on the chain.
+-- Demand 3, over the shift and the run; a stream's is the run of its header. The invariant: after n turns the finder holds 1 + n / 2^shift places, each the start of its block, and the cursor stands on the chain.
 -- Assumes nothing.
 use Prim.Native.Nat.{ℕ, zero, suc, _+_, _-_, _*_, _/_, _%_, _^_, _≤_, _<_}
 use mathlib.Core.Path.{_≡_, refl, sym, ap, _∙_, subst}
@@ -26,17 +26,15 @@ use Rattle.stream_item.specs.declared.ItemIndex.{ItemIndex}
 use Rattle.stream_item.specs.declared.iter.ItemIter.{ItemIter}
 use Rattle.stream_item.specs.declared.link.Hit.{Hit}
 use Rattle.stream_item.specs.declared.link.Hit.the-variants.{Landed, Missed}
-use Rattle.stream_finder.specs.Finder.{State, state, blockOf, holding, begunBy, createBy, due, updateOf, after, Found, maxIndexOf, findOf}
+use Rattle.stream_finder.specs.Finder.{State, state, blockOf, runOf, holdingIn, begunIn, createBy, due, updateOf, after, Found, maxIndexOf, findOf}
 use Rattle.stream_finder.specs.Places.{Placed, Ready}
-use Rattle.stream_finder.specs.Demand.{Walked, none, more, gives, looked, Demand3By, Demand3Every, Demand3, numberGiven, NotIndexedBy, NotIndexedEvery, NotIndexed}
+use Rattle.stream_finder.specs.Demand.{Walked, none, more, gives, looked, Premises, Demand3By, Demand3Every, Demand3, numberGiven, NotIndexedBy, NotIndexedEvery, NotIndexed}
+use Rattle.stream_finder.specs.Runs.{startIn, PremisesIn, Demand3In, NotIndexedIn}
+use Rattle.stream_finder.specs.declared.Run.{Run}
 use Rattle.stream_finder.specs.declared.ItemFinder.{ItemFinder}
-use Rattle.stream_finder.proofs.FinderLaws.{begun-full, begun-some, create-is, Open, update-keeps, update-full, update-stores, due-yes, due-rest}
-use Rattle.stream_finder.proofs.Accepted.{Accepted, accepted}
+use Rattle.stream_finder.proofs.FinderLaws.{run-full, run-some, begun-is, create-is, Open, update-keeps, update-full, update-stores, due-yes, due-rest}
+use Rattle.stream_finder.proofs.Accepted.{accepted}
 use Rattle.stream_finder.proofs.PlaceLaws.{OnChain, update-ind, placed-update, on-start, on-next, find-placed}
-
--- the fresh cursor
-abbrev pub start : Stream → Header → ItemIter
-start tag h = record { stream = tag; at = h .«header_size»; index = h .«minimum_index» }
 
 -- ---- counting the places: the block's number grows exactly where a block begins
 module _ (b n : ℕ) (z : 0 < b) where
@@ -68,49 +66,49 @@ module _ (b n : ℕ) (z : 0 < b) where
       go false q = omega (arith, same-block (eqb-false _ _ q))
 
 -- ---- after n turns
-pub record Stage (shift : ℕ) (s : List ℕ) (h : Header) (t : List ℕ) (n : ℕ) (c : ItemIter) (τ : State) : Type 0 where
-  pub finder : τ .finder ≡ holding h shift (1 + n / 2 ^ shift)
+pub record Stage (shift : ℕ) (s : List ℕ) (r : Run) (t : List ℕ) (n : ℕ) (c : ItemIter) (τ : State) : Type 0 where
+  pub finder : τ .finder ≡ holdingIn r shift (1 + n / 2 ^ shift)
   pub room : length (τ .table) ≡ length t
-  pub placed : Placed s (h .«header_size») τ
-  pub cursor : OnChain s (h .«header_size») (h .«minimum_index») c
-  pub index : c .index ≡ h .«minimum_index» + n
+  pub placed : Placed s (r .start) τ
+  pub cursor : OnChain s (r .start) (r .minimum) c
+  pub index : c .index ≡ r .minimum + n
 
-module _ (shift : ℕ) (small : shift ≤ 6) (s : List ℕ) (h : Header) (t : List ℕ) (ok : Accepted s h) where
+module _ (shift : ℕ) (small : shift ≤ 6) (s : List ℕ) (r : Run) (t : List ℕ) where
   abbrev b : ℕ
   b = 2 ^ shift
 
   z : 0 < b
   z = pow-pos shift
 
-  pub begun-placed : 0 < length t → (k : ℕ) → k < 1 → chain s (h .«header_size») (k * b) ≡ reached (getD (set t 0 (h .«header_size»)) k 0)
+  pub begun-placed : 0 < length t → (k : ℕ) → k < 1 → chain s (r .start) (k * b) ≡ reached (getD (set t 0 (r .start)) k 0)
   begun-placed l k lt =
       let e : k ≡ 0 = omega arith in
-      ap (chain s (h .«header_size»)) (ap (λ (x : ℕ). x * b) e ∙ zero-mul b) ∙ chain-none s (h .«header_size»)
-      ∙ ap reached (sym (ap (λ (x : ℕ). getD (set t 0 (h .«header_size»)) x 0) e ∙ getD-set-same t 0 (h .«header_size») 0 l))
+      ap (chain s (r .start)) (ap (λ (x : ℕ). x * b) e ∙ zero-mul b) ∙ chain-none s (r .start)
+      ∙ ap reached (sym (ap (λ (x : ℕ). getD (set t 0 (r .start)) x 0) e ∙ getD-set-same t 0 (r .start) 0 l))
 
-  pub stage-none : (tag : Stream) → 0 < length t → Stage shift s h t 0 (start tag h) (state (holding h shift 1) (set t 0 (h .«header_size»)))
+  pub stage-none : (tag : Stream) → 0 < length t → Stage shift s r t 0 (startIn tag r) (state (holdingIn r shift 1) (set t 0 (r .start)))
   stage-none tag l = record {
-    finder = ap (holding h shift) (omega (arith, zero-div b));
-    room = length-set t 0 (h .«header_size»);
+    finder = ap (holdingIn r shift) (omega (arith, zero-div b));
+    room = length-set t 0 (r .start);
     placed = begun-placed l;
-    cursor = on-start tag s (h .«header_size») (h .«minimum_index»);
+    cursor = on-start tag s (r .start) (r .minimum);
     index = omega arith;
   }
 
   -- what a turn starts from, where the places before it had room
   record Turning (n : ℕ) (τ : State) (d : ItemIter) : Type 0 where
-    pub minimum : τ .finder .«minimum_index» ≡ h .«minimum_index»
+    pub minimum : τ .finder .«minimum_index» ≡ r .minimum
     pub held : τ .finder .held ≡ 1 + n / b
     pub block : b ≡ blockOf (τ .finder)
-    pub index : d .index ≡ h .«minimum_index» + suc n
+    pub index : d .index ≡ r .minimum + suc n
     pub distance : d .index - τ .finder .«minimum_index» ≡ suc n
     pub free : Open τ d
 
-  turning : (n : ℕ) (d : ItemIter) (τ : State) (i : Item) (d′ : ItemIter) → 1 + n / b ≤ length t → Stage shift s h t n d τ → nextOf s d ≡ answered (yielded i d′)
+  turning : (n : ℕ) (d : ItemIter) (τ : State) (i : Item) (d′ : ItemIter) → 1 + n / b ≤ length t → Stage shift s r t n d τ → nextOf s d ≡ answered (yielded i d′)
       → Turning n τ d′
   turning n d τ i d′ fits g e =
       let y : Yields s d i d′ = yields s d i d′ e in
-      let mi : τ .finder .«minimum_index» ≡ h .«minimum_index» = ap (λ (f : ItemFinder). f .«minimum_index») (g .finder) in
+      let mi : τ .finder .«minimum_index» ≡ r .minimum = ap (λ (f : ItemFinder). f .«minimum_index») (g .finder) in
       let he : τ .finder .held ≡ 1 + n / b = ap (λ (f : ItemFinder). f .held) (g .finder) in
       let sh : τ .finder .shift ≡ shift = ap (λ (f : ItemFinder). f .shift) (g .finder) in
       record {
@@ -129,13 +127,13 @@ module _ (shift : ℕ) (small : shift ≤ 6) (s : List ℕ) (h : Header) (t : Li
       (ap (λ (x : ℕ). x % b) (k .distance) ∙ q)
       (ap (λ (x : ℕ). x / b) (k .distance) ∙ omega (arith, next-block b n z q, k .held))
 
-  pub turn : (n : ℕ) (d : ItemIter) (τ : State) (i : Item) (d′ : ItemIter) → 1 + suc n / b ≤ length t → Stage shift s h t n d τ → nextOf s d ≡ answered (yielded i d′)
-      → Stage shift s h t (suc n) d′ (after τ (updateOf τ d′))
+  pub turn : (n : ℕ) (d : ItemIter) (τ : State) (i : Item) (d′ : ItemIter) → 1 + suc n / b ≤ length t → Stage shift s r t n d τ → nextOf s d ≡ answered (yielded i d′)
+      → Stage shift s r t (suc n) d′ (after τ (updateOf τ d′))
   turn n d τ i d′ enough g e =
       record {
         finder = go (eqb (suc n % b) 0) refl;
         room = update-ind τ d′ (λ (ρ : State). length (ρ .table) ≡ length t) (g .room) (λ st. length-set (τ .table) (τ .finder .held) (d′ .at) ∙ g .room);
-        placed = placed-update s (h .«header_size») τ d′ (g .placed) (subst (λ (m : ℕ). OnChain s (h .«header_size») m d′) (sym (k .minimum)) on′);
+        placed = placed-update s (r .start) τ d′ (g .placed) (subst (λ (m : ℕ). OnChain s (r .start) m d′) (sym (k .minimum)) on′);
         cursor = on′;
         index = k .index;
       }
@@ -143,24 +141,24 @@ module _ (shift : ℕ) (small : shift ≤ 6) (s : List ℕ) (h : Header) (t : Li
       k : Turning n τ d′
       k = turning n d τ i d′ (omega (arith, up-block b n z, enough)) g e
 
-      on′ : OnChain s (h .«header_size») (h .«minimum_index») d′
-      on′ = on-next s (h .«header_size») (h .«minimum_index») d i d′ (g .cursor) e
+      on′ : OnChain s (r .start) (r .minimum) d′
+      on′ = on-next s (r .start) (r .minimum) d i d′ (g .cursor) e
 
-      go : (x : Bool) → eqb (suc n % b) 0 ≡ x → after τ (updateOf τ d′) .finder ≡ holding h shift (1 + suc n / b)
+      go : (x : Bool) → eqb (suc n % b) 0 ≡ x → after τ (updateOf τ d′) .finder ≡ holdingIn r shift (1 + suc n / b)
       go true q =
           let nb : suc n / b ≡ n / b + 1 = next-block b n z (eqb-true _ _ q) in
           ap (λ (a : Answer State). after τ a .finder)
           (update-stores τ d′ (k .free) (now-due n τ d′ k (eqb-true _ _ q)) (omega (arith, nb, k .held, enough, g .room)))
           ∙ ap (λ (f : ItemFinder). record { «minimum_index» = f .«minimum_index»; «maximum_index» = f .«maximum_index»; held = f .held + 1; shift = f .shift }) (g .finder)
-          ∙ ap (holding h shift) (omega (arith, nb))
+          ∙ ap (holdingIn r shift) (omega (arith, nb))
       go false q =
           let sb : suc n / b ≡ n / b = same-block b n z (eqb-false _ _ q) in
           let du : due (τ .finder) (d′ .index) ≡ false =
           due-rest (τ .finder) (d′ .index) b (k .block) (λ p. eqb-false _ _ q (sym (ap (λ (x : ℕ). x % b) (k .distance)) ∙ p)) in
-          ap (λ (a : Answer State). after τ a .finder) (update-keeps τ d′ (k .free) du) ∙ g .finder ∙ ap (holding h shift) (omega (arith, sb))
+          ap (λ (a : Answer State). after τ a .finder) (update-keeps τ d′ (k .free) du) ∙ g .finder ∙ ap (holdingIn r shift) (omega (arith, sb))
 
   -- an update that is answered had room
-  pub turn-room : (n : ℕ) (d : ItemIter) (τ : State) (i : Item) (d′ : ItemIter) (τ′ : State) → 1 + n / b ≤ length t → Stage shift s h t n d τ
+  pub turn-room : (n : ℕ) (d : ItemIter) (τ : State) (i : Item) (d′ : ItemIter) (τ′ : State) → 1 + n / b ≤ length t → Stage shift s r t n d τ
       → nextOf s d ≡ answered (yielded i d′) → updateOf τ d′ ≡ answered τ′ → 1 + suc n / b ≤ length t
   turn-room n d τ i d′ τ′ fits g e a = go (eqb (suc n % b) 0) refl (leb (length (τ .table)) (τ .finder .held)) refl
     where
@@ -175,53 +173,76 @@ module _ (shift : ℕ) (small : shift ≤ 6) (s : List ℕ) (h : Header) (t : Li
           absurd (omega arith)
       go true q false p = omega (arith, next-block b n z (eqb-true _ _ q), leb-false (length (τ .table)) (τ .finder .held) p, k .held, g .room)
 
-  stages : (c₀ : ItemIter) (σ : State) (n : ℕ) (c : ItemIter) (τ : State) → Stage shift s h t 0 c₀ σ → 1 + n / b ≤ length t → Walked s c₀ σ n c τ → Stage shift s h t n c τ
+  stages : (c₀ : ItemIter) (σ : State) (n : ℕ) (c : ItemIter) (τ : State) → Stage shift s r t 0 c₀ σ → 1 + n / b ≤ length t → Walked s c₀ σ n c τ → Stage shift s r t n c τ
   stages c₀ σ zero c τ g l none = g
   stages c₀ σ (suc n) c τ g l (more {d = d} {τ = ρ} {i = i} w e) =
       let up : n / b ≤ suc n / b = up-block b n z in
       turn n d ρ i c l (stages c₀ σ n d ρ g (omega arith) w) e
 
 -- ---- what is fresh
-pub fresh-finder : (shift : ℕ) (s : List ℕ) (h : Header) (t : List ℕ) (σ : State) → shift ≤ 6 → headerOf s ≡ answered h → h .«minimum_index» < h .«maximum_index»
-    → 0 < length t → createBy shift s t ≡ answered σ → state (holding h shift 1) (set t 0 (h .«header_size»)) ≡ σ
-fresh-finder shift s h t σ z e l r c =
-    let a : createBy shift s t ≡ begunBy shift t h = create-is shift s t (answered h) e in
-    cc (begun-some shift t h z l r)
+pub fresh-finder : (shift : ℕ) (r : Run) (t : List ℕ) (σ : State) → shift ≤ 6 → r .minimum < r .maximum → 0 < length t → begunIn shift t r ≡ answered σ
+    → state (holdingIn r shift 1) (set t 0 (r .start)) ≡ σ
+fresh-finder shift r t σ z l o e = cc (run-some shift t r z l o)
 
 -- a creation that was answered had room
-pub fresh-room : (shift : ℕ) (s : List ℕ) (h : Header) (t : List ℕ) (σ : State) → shift ≤ 6 → headerOf s ≡ answered h → h .«minimum_index» < h .«maximum_index»
-    → createBy shift s t ≡ answered σ → 0 < length t
-fresh-room shift s h t σ z e l c = go (leb (length t) 0) refl
+pub fresh-room : (shift : ℕ) (r : Run) (t : List ℕ) (σ : State) → shift ≤ 6 → r .minimum < r .maximum → begunIn shift t r ≡ answered σ → 0 < length t
+fresh-room shift r t σ z l e = go (leb (length t) 0) refl
   where
     go : (x : Bool) → leb (length t) 0 ≡ x → 0 < length t
     go true q =
-        let a : createBy shift s t ≡ begunBy shift t h = create-is shift s t (answered h) e in
-        let full : begunBy shift t h ≡ refused 13 [] = begun-full shift t h z l (leb-true _ _ q) in
-        let z : _≡_ {A = ℕ} 0 1 = cc in
+        let full : begunIn shift t r ≡ refused 13 [] = run-full shift t r z l (leb-true _ _ q) in
+        let w : _≡_ {A = ℕ} 0 1 = cc in
         absurd (omega arith)
     go false q = leb-false _ _ q
 
-pub fresh-iter : (tag : Stream) (s : List ℕ) (h : Header) (c : ItemIter) → headerOf s ≡ answered h → iterOf tag s ≡ answered c → start tag h ≡ c
-fresh-iter tag s h c e i = cc (iter-is tag s h e)
+-- the first stage of a finder that was begun with room
+pub stage-first : (shift : ℕ) (small : shift ≤ 6) (tag : Stream) (s : List ℕ) (r : Run) (t : List ℕ) (σ : State) → r .minimum < r .maximum → 0 < length t
+    → begunIn shift t r ≡ answered σ → Stage shift s r t 0 (startIn tag r) σ
+stage-first shift small tag s r t σ l o e =
+    subst (λ (ρ : State). Stage shift s r t 0 (startIn tag r) ρ) (fresh-finder shift r t σ small l o e) (stage-none shift small s r t tag o)
 
--- ---- demand 3
+-- ---- demand 3 of a run
 
-pub demand3-every : Demand3Every
-unfolding Demand3Every Demand3By
-demand3-every shift small tag s h t N τ d p =
-    let ok : Accepted s h = accepted s h (p .accepted) (p .counts) in
-    let e : state (holding h shift 1) (set t 0 (h .«header_size»)) ≡ p .fresh = fresh-finder shift s h t (p .fresh) small (p .accepted) (p .counts) (omega (arith, p .room)) (p .created) in
-    let f : start tag h ≡ p .first = fresh-iter tag s h (p .first) (p .accepted) (p .begun) in
-    let g₀ : Stage shift s h t 0 (start tag h) (p .fresh) = subst (λ (ρ : State). Stage shift s h t 0 (start tag h) ρ) e (stage-none shift small s h t ok tag (omega (arith, p .room))) in
-    let g₁ : Stage shift s h t 0 (p .first) (p .fresh) = subst (λ (c : ItemIter). Stage shift s h t 0 c (p .fresh)) f g₀ in
-    let g : Stage shift s h t N (p .cursor) τ = stages shift small s h t ok (p .first) (p .fresh) N (p .cursor) τ g₁ (p .room) (p .walked) in
+pub demand3-in : (shift : ℕ) → shift ≤ 6 → Demand3In shift
+unfolding Demand3In
+demand3-in shift small tag s r t N τ d p =
+    let g₀ : Stage shift s r t 0 (startIn tag r) (p .fresh) = stage-first shift small tag s r t (p .fresh) (p .counts) (omega (arith, p .room)) (p .created) in
+    let g : Stage shift s r t N (p .cursor) τ = stages shift small s r t (startIn tag r) (p .fresh) N (p .cursor) τ g₀ (p .room) (p .walked) in
     let he : τ .finder .held ≡ 1 + N / 2 ^ shift = ap (λ (f : ItemFinder). f .held) (g .finder) in
     let sh : τ .finder .shift ≡ shift = ap (λ (f : ItemFinder). f .shift) (g .finder) in
-    let mi : τ .finder .«minimum_index» ≡ h .«minimum_index» = ap (λ (f : ItemFinder). f .«minimum_index») (g .finder) in
-    let ma : τ .finder .«maximum_index» ≡ h .«maximum_index» = ap (λ (f : ItemFinder). f .«maximum_index») (g .finder) in
-    let o : Ready s τ = record { short = ok .short; shift = omega arith; held = omega (arith, he, g .room, p .room) } in
-    subst (λ (f : ItemFinder). findOf s τ (indexIn tag (f .«minimum_index» + d)) ≡ looked tag s (h .«header_size») f d) (g .finder)
-    (find-placed tag s (h .«header_size») τ d o (g .placed) (omega (arith, mi, ma, p .upto)))
+    let mi : τ .finder .«minimum_index» ≡ r .minimum = ap (λ (f : ItemFinder). f .«minimum_index») (g .finder) in
+    let ma : τ .finder .«maximum_index» ≡ r .maximum = ap (λ (f : ItemFinder). f .«maximum_index») (g .finder) in
+    let o : Ready s τ = record { short = p .short; shift = omega arith; held = omega (arith, he, g .room, p .room) } in
+    subst (λ (f : ItemFinder). findOf s τ (indexIn tag (f .«minimum_index» + d)) ≡ looked tag s (r .start) f d) (g .finder)
+    (find-placed tag s (r .start) τ d o (g .placed) (omega (arith, mi, ma, p .upto)))
+
+-- ---- demand 3 of a stream: its run is its header's
+
+-- a stream's finder is begun on its run
+pub created-in : (shift : ℕ) (s : List ℕ) (h : Header) (t : List ℕ) (σ : State) → headerOf s ≡ answered h → createBy shift s t ≡ answered σ
+    → begunIn shift t (runOf h) ≡ answered σ
+created-in shift s h t σ e c = sym (begun-is shift t h) ∙ sym (create-is shift s t (answered h) e) ∙ c
+
+-- and so is its iterator
+pub fresh-iter : (tag : Stream) (s : List ℕ) (h : Header) (c : ItemIter) → headerOf s ≡ answered h → iterOf tag s ≡ answered c → startIn tag (runOf h) ≡ c
+fresh-iter tag s h c e i = cc (iter-is tag s h e)
+
+pub premises-in : (shift : ℕ) (tag : Stream) (s : List ℕ) (h : Header) (t : List ℕ) (N : ℕ) (τ : State) (d : ℕ)
+    → Premises shift tag s h t N τ d → PremisesIn shift tag s (runOf h) t N τ d
+premises-in shift tag s h t N τ d p = record {
+  short = accepted s h (p .accepted) (p .counts) .short;
+  counts = p .counts;
+  room = p .room;
+  fresh = p .fresh;
+  created = created-in shift s h t (p .fresh) (p .accepted) (p .created);
+  cursor = p .cursor;
+  walked = subst (λ (c : ItemIter). Walked s c (p .fresh) N (p .cursor) τ) (sym (fresh-iter tag s h (p .first) (p .accepted) (p .begun))) (p .walked);
+  upto = p .upto;
+}
+
+pub demand3-every : Demand3Every
+unfolding Demand3Every Demand3By Demand3In
+demand3-every shift small tag s h t N τ d p = demand3-in shift small tag s (runOf h) t N τ d (premises-in shift tag s h t N τ d p)
 
 pub demand3 : Demand3
 unfolding Demand3 Demand3Every
@@ -236,12 +257,16 @@ pub looked-number : (x : Bool) (n m : ℕ) (i : ItemIndex) (k from : ℕ) (y : H
 looked-number true n m i k from y = refl
 looked-number false n m i k from y = gives-number i k from y
 
-pub not-indexed-every : NotIndexedEvery
-unfolding NotIndexedEvery NotIndexedBy Demand3Every Demand3By
-not-indexed-every shift small tag s h t N τ d p =
-    ap (λ (a : Answer Found). eqb (numberGiven a) 9) (demand3-every shift small tag s h t N τ d p)
-    ∙ looked-number (leb (1 + N / 2 ^ shift) (d / 2 ^ shift)) (h .«minimum_index» + d) (maxIndexOf (holding h shift (1 + N / 2 ^ shift))) (indexIn tag (h .«minimum_index» + d)) (d % 2 ^ shift) (d / 2 ^ shift * 2 ^ shift) (linkOf s (h .«header_size») d)
+pub not-indexed-in : (shift : ℕ) → shift ≤ 6 → NotIndexedIn shift
+unfolding NotIndexedIn Demand3In
+not-indexed-in shift small tag s r t N τ d p =
+    ap (λ (a : Answer Found). eqb (numberGiven a) 9) (demand3-in shift small tag s r t N τ d p)
+    ∙ looked-number (leb (1 + N / 2 ^ shift) (d / 2 ^ shift)) (r .minimum + d) (maxIndexOf (holdingIn r shift (1 + N / 2 ^ shift))) (indexIn tag (r .minimum + d)) (d % 2 ^ shift) (d / 2 ^ shift * 2 ^ shift) (linkOf s (r .start) d)
     ∙ ap (λ (x : ℕ). leb x (d / 2 ^ shift)) (one-add (N / 2 ^ shift))
+
+pub not-indexed-every : NotIndexedEvery
+unfolding NotIndexedEvery NotIndexedBy NotIndexedIn
+not-indexed-every shift small tag s h t N τ d p = not-indexed-in shift small tag s (runOf h) t N τ d (premises-in shift tag s h t N τ d p)
 
 pub not-indexed : NotIndexed
 unfolding NotIndexed NotIndexedEvery

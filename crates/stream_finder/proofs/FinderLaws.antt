@@ -17,29 +17,44 @@ use Rattle.stream_item.specs.Links.{linkOf}
 use Rattle.stream_item.specs.declared.ItemIndex.{ItemIndex}
 use Rattle.stream_item.specs.declared.Entry.the-variants as entry
 use Rattle.stream_item.specs.declared.iter.ItemIter.{ItemIter}
-use Rattle.stream_finder.specs.Finder.{State, state, blockOf, holding, begunBy, createBy, due, stored, updateOf, Found, maxIndexOf, landed, lookOf, findOf, saidFinder, finderOf, tableAfter, Fills}
+use Rattle.stream_finder.specs.Finder.{State, state, blockOf, runOf, holdingIn, holding, begunIn, begunBy, createBy, due, stored, updateOf, Found, maxIndexOf, landed, lookOf, findOf, saidFinder, finderOf, tableAfter, Fills}
 use Rattle.stream_finder.specs.Places.{Ready}
+use Rattle.stream_finder.specs.declared.Run.{Run}
 use Rattle.stream_finder.specs.declared.ItemFinder.{ItemFinder}
 use Rattle.stream_finder.specs.declared.FinderAnswer.{FinderAnswer}
 
 -- ---- creation
+module _ (shift : ℕ) (t : List ℕ) (r : Run) where
+  pub run-shift : 6 < shift → begunIn shift t r ≡ refused 26 []
+  run-shift a = simp (lt-ltb _ _ a)
+
+  pub run-none : shift ≤ 6 → r .maximum ≤ r .minimum → begunIn shift t r ≡ answered (state (holdingIn r shift 0) t)
+  run-none a b = simp (le-ltb _ _ a, le-ltb _ _ b)
+
+  pub run-full : shift ≤ 6 → r .minimum < r .maximum → length t ≤ 0 → begunIn shift t r ≡ refused 13 []
+  run-full a b l = simp (le-ltb _ _ a, lt-ltb _ _ b, le-leb _ _ l)
+
+  pub run-some : shift ≤ 6 → r .minimum < r .maximum → 0 < length t → begunIn shift t r ≡ answered (state (holdingIn r shift 1) (set t 0 (r .start)))
+  run-some a b l = simp (le-ltb _ _ a, lt-ltb _ _ b, lt-leb _ _ l)
+
+-- of a header's stream
 module _ (shift : ℕ) (t : List ℕ) (h : Header) where
-  pub begun-shift : 6 < shift → begunBy shift t h ≡ refused 26 []
+  pub begun-is : begunBy shift t h ≡ begunIn shift t (runOf h)
   unfolding begunBy
-  begun-shift a = simp (lt-ltb _ _ a)
+  begun-is = refl
+
+  pub begun-shift : 6 < shift → begunBy shift t h ≡ refused 26 []
+  begun-shift a = begun-is ∙ run-shift shift t (runOf h) a
 
   pub begun-none : shift ≤ 6 → h .«maximum_index» ≤ h .«minimum_index» → begunBy shift t h ≡ answered (state (holding h shift 0) t)
-  unfolding begunBy
-  begun-none a b = simp (le-ltb _ _ a, le-ltb _ _ b)
+  begun-none a b = begun-is ∙ run-none shift t (runOf h) a b
 
   pub begun-full : shift ≤ 6 → h .«minimum_index» < h .«maximum_index» → length t ≤ 0 → begunBy shift t h ≡ refused 13 []
-  unfolding begunBy
-  begun-full a b l = simp (le-ltb _ _ a, lt-ltb _ _ b, le-leb _ _ l)
+  begun-full a b l = begun-is ∙ run-full shift t (runOf h) a b l
 
   pub begun-some : shift ≤ 6 → h .«minimum_index» < h .«maximum_index» → 0 < length t
       → begunBy shift t h ≡ answered (state (holding h shift 1) (set t 0 (h .«header_size»)))
-  unfolding begunBy
-  begun-some a b l = simp (le-ltb _ _ a, lt-ltb _ _ b, lt-leb _ _ l)
+  begun-some a b l = begun-is ∙ run-some shift t (runOf h) a b l
 
 pub create-is : (shift : ℕ) (s t : List ℕ) (a : Answer Header) → headerOf s ≡ a → createBy shift s t ≡ then a (begunBy shift t)
 unfolding createBy

@@ -15,7 +15,7 @@ ghost use mathlib.Core.Path.{_≡_};
 ghost use Rattle.stream_item.specs.declared.ItemIndex.the-variants as index;
 ghost use Prim.Native.Nat.{_%_, _^_, _≤_};
 ghost use lib.ListN.{length};
-ghost use Rattle.stream_finder.specs.Finder.{state, begunBy, createBy, createOf, updateOf, Fills, maxIndexOf, lookOf, findOf, saidFind};
+ghost use Rattle.stream_finder.specs.Finder.{state, begunIn, createBy, createOf, updateOf, Fills, maxIndexOf, lookOf, findOf, saidFind};
 use answer::Refusal;
 use field::index::IdIndex;
 use field::index::TypeIndex;
@@ -33,6 +33,14 @@ pub const SHIFT: u32 = 3;
 
 // The largest shift: blocks of 64 links.
 const LARGEST_SHIFT: u32 = 6;
+
+// A run of records, by three numbers: where its first link starts, the least index, and the index behind the last. A stream's are its
+// header's.
+pub struct Run {
+    pub start: u32,
+    pub minimum: u32,
+    pub maximum: u32,
+}
 
 // The finder: the stream's least index, the index behind its last, how many places of the lent table it holds, and its shift: a block is
 // 2^shift links.
@@ -66,17 +74,24 @@ pub fn create_by(s: &[u8], t: &mut [u32], shift: u32) -> FinderAnswer
     ensures { λ r. ⌜ Fills (now (t .entry)) (createBy shift (now (s .entry)) (now (t .entry))) r (now (t .exit)) ⌝ }
 {
     match Header::parse(s) {
-        HeaderAnswer::Answered(h) => begun(t, h, shift),
+        HeaderAnswer::Answered(h) => {
+            let run = Run {
+                start: h.header_size,
+                minimum: h.minimum_index,
+                maximum: h.maximum_index,
+            };
+            begin(t, run, shift)
+        }
         HeaderAnswer::Refused(e) => FinderAnswer::Refused(e),
     }
 }
 
-// A fresh finder of the stream that has this header.
-fn begun(t: &mut [u32], h: Header, shift: u32) -> FinderAnswer
-    ensures { λ r. ⌜ Fills (now (t .entry)) (begunBy shift (now (t .entry)) h) r (now (t .exit)) ⌝ }
+// A fresh finder of a run of records: what is fresh is the same wherever the run starts.
+pub fn begin(t: &mut [u32], records: Run, shift: u32) -> FinderAnswer
+    ensures { λ r. ⌜ Fills (now (t .entry)) (begunIn shift (now (t .entry)) records) r (now (t .exit)) ⌝ }
 {
-    let minimum = h.minimum_index;
-    let maximum = h.maximum_index;
+    let minimum = records.minimum;
+    let maximum = records.maximum;
     if shift > LARGEST_SHIFT {
         return FinderAnswer::Refused(Refusal::Shift);
     }
@@ -91,7 +106,7 @@ fn begun(t: &mut [u32], h: Header, shift: u32) -> FinderAnswer
     if t.len() == 0 {
         return FinderAnswer::Refused(Refusal::TableFull);
     }
-    t[0] = h.header_size;
+    t[0] = records.start;
     FinderAnswer::Answered(ItemFinder {
         minimum_index: minimum,
         maximum_index: maximum,

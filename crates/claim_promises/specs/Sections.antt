@@ -1,0 +1,54 @@
+-- R-6 of document 02, by the numbers: what refuses a section, a finder over it, the stream that is made of it and its entries; that a refusal leaves
+-- what was lent; and when each number is given. Demand 3 and R-11 of a section are crates/section_finder/specs/Demand.antt, and what is true of the
+-- stream that is made of one crates/section_stream/specs/Made.antt.
+use Prim.Native.Nat.{ℕ, _+_, _≤_, _<_}
+use mathlib.Core.Path.{_≡_}
+use mathlib.Core.List.{List, [], _∷_}
+use lib.ListN.{length}
+use Rattle.answer.specs.Answer.{answered, refused}
+use Rattle.answer.specs.declared.Refusal.{Refusal}
+use Rattle.field.specs.Fields.{littleAt}
+use Rattle.stream_header.specs.Header.{longest}
+use Rattle.stream_item.specs.declared.Entry.{Entry}
+use Rattle.stream_finder.specs.Finder.{saidFinder, Fills}
+use Rattle.stream_finder.specs.declared.FinderAnswer.{FinderAnswer}
+use Rattle.stream_index.specs.declared.IndexAnswer.the-variants as walk
+use Rattle.record_list.specs.Lists as lists
+use Rattle.section_item.specs.Sections.{startOf, countOf}
+use Rattle.section_finder.specs.Finders.{createBy, IndexesBy}
+use Rattle.section_read.specs.Readers.{readerAt, readOf}
+use Rattle.section_stream.specs.Streams.{streamOf}
+use Rattle.write_layout.specs.Buffer.{lay, Writes}
+use Rattle.write_pieces.specs.Pieces.{saidWrite}
+use Rattle.write_pieces.specs.declared.WriteAnswer.{WriteAnswer}
+use Rattle.claim_promises.specs.ByTable.{Refuses}
+use Rattle.claim_promises.specs.Given.{Given}
+
+-- demand 1: answered, or refused by these numbers; and lent memory stays
+pub record SectionsRefuse : Type 0 where
+  pub starts : (s : List ℕ) → Refuses (16 ∷ 1 ∷ 25 ∷ []) (startOf s)
+  pub counts : (s : List ℕ) → Refuses (16 ∷ 1 ∷ 25 ∷ 6 ∷ 7 ∷ []) (countOf s)
+  pub creations : (shift : ℕ) (s t : List ℕ) → Refuses (16 ∷ 1 ∷ 25 ∷ 6 ∷ 7 ∷ 26 ∷ 13 ∷ []) (createBy shift s t)
+  pub streams : (s o : List ℕ) → Refuses (16 ∷ 1 ∷ 25 ∷ 6 ∷ 7 ∷ 19 ∷ []) (lay (streamOf s) o 0)
+  pub entries : (s : List ℕ) (e : Entry) → Refuses (16 ∷ 1 ∷ 8 ∷ 10 ∷ 11 ∷ 12 ∷ []) (readOf s e)
+  pub lists : (b : List ℕ) → Refuses (1 ∷ 10 ∷ []) (lists.startOf (readerAt b 0) b)
+  -- the table, lent to creation and to indexing; the buffer, lent to what makes a stream
+  pub create-keeps : (shift : ℕ) (s t : List ℕ) (r : FinderAnswer) (t′ : List ℕ) (n : ℕ) (d : List ℕ) → Fills t (createBy shift s t) r t′ → saidFinder r ≡ refused n d → t′ ≡ t
+  pub index-keeps : (shift : ℕ) (s t : List ℕ) (e : Refusal) (t′ : List ℕ) → IndexesBy shift s t (walk.Refused e) t′ → t′ ≡ t
+  pub stream-keeps : (s o : List ℕ) (r : WriteAnswer) (o′ : List ℕ) (n : ℕ) (d : List ℕ) → Writes o (lay (streamOf s) o 0) (saidWrite r) o′ → saidWrite r ≡ refused n d → o′ ≡ o
+
+-- the column "Given exactly when", for what R-6 adds: "16 (section or stream), 1 below four bytes, 25 signature is not 4, then the iterator's own, then
+-- 13 (finder) or 19 (stream)"
+pub record SectionsWhen : Type 0 where
+  pub starts-16 : (s : List ℕ) → Given 16 [] (startOf s) (longest < length s)
+  pub starts-1 : (s : List ℕ) → Given 1 [] (startOf s) (length s < 4)
+  pub starts-25 : (s : List ℕ) → Given 25 [] (startOf s) ((length s ≤ longest) × (4 ≤ length s) × (littleAt 4 s 0 ≡ 4 → ⊥))
+  -- what refuses the start refuses the count, and what refuses the count refuses creation; 26 and 13 come after it
+  pub counts-start : (s : List ℕ) (n : ℕ) (d : List ℕ) → startOf s ≡ refused n d → countOf s ≡ refused n d
+  pub creations-count : (shift : ℕ) (s t : List ℕ) (n : ℕ) (d : List ℕ) → countOf s ≡ refused n d → createBy shift s t ≡ refused n d
+  pub creations-26 : (shift : ℕ) (s t : List ℕ) (n : ℕ) → countOf s ≡ answered n → Given 26 [] (createBy shift s t) (6 < shift)
+  pub creations-13 : (shift : ℕ) (s t : List ℕ) (n : ℕ) → countOf s ≡ answered n → Given 13 [] (createBy shift s t) ((shift ≤ 6) × (0 < n) × (length t ≡ 0))
+  -- of a stream: 16 where it would be too long, the count's own refusal, and 19 where the buffer is shorter than the section and 52
+  pub streams-16 : (s : List ℕ) → Given 16 [] (streamOf s) (longest < length s + 52)
+  pub streams-count : (s : List ℕ) (n : ℕ) (d : List ℕ) → length s + 52 ≤ longest → countOf s ≡ refused n d → streamOf s ≡ refused n d
+  pub streams-19 : (s o : List ℕ) (n : ℕ) → length s + 52 ≤ longest → countOf s ≡ answered n → Given 19 [] (lay (streamOf s) o 0) (length o < length s + 52)

@@ -1,0 +1,108 @@
+// Lists the records of an object file's `.debug$T` section, as `list` does those of a type stream: R-6 of document 02. It reads a section of at
+// most 65,536 bytes from standard input.
+use answer::Refusal;
+use libc::STDIN_FILENO;
+use libc::STDOUT_FILENO;
+use stream_item::Entry;
+use stream_item::Item;
+use stream_item::iter::ItemIter;
+use stream_item::iter::IterAnswer;
+use stream_item::iter::NextAnswer;
+use stream_view::RawKindAnswer;
+
+fn put(text: &[u8]) {
+    io::write_all(STDOUT_FILENO, text);
+}
+
+fn put_number(n: u64) {
+    io::print_decimal(STDOUT_FILENO, n);
+}
+
+fn put_refused(e: Refusal) {
+    put(b"refused ");
+    put_number(e.number() as u64);
+    put(b"\n");
+}
+
+fn put_leaf(k: RawKindAnswer) {
+    match k {
+        RawKindAnswer::Answered(leaf) => {
+            io::print_hex(STDOUT_FILENO, leaf as u64, 4);
+        }
+        RawKindAnswer::Refused(_) => put(b"----"),
+    }
+}
+
+// A record's line: its index, its leaf in four hex digits, its payload's length.
+fn put_record(s: &[u8], item: Item) {
+    let index = item.index;
+    put_number(index.number() as u64);
+    put(b" ");
+    put_leaf(stream_view::raw_kind(s, &s[0..0], Entry::Record(item)));
+    put(b" ");
+    put_number(item.length as u64);
+    put(b"\n");
+}
+
+// The cursor behind a record that was listed, or that the walk is over.
+enum Onward {
+    On(ItemIter),
+    Over,
+}
+
+fn turn(s: &[u8], c: ItemIter, listed: u64) -> Onward {
+    match stream_item::iter::next(s, c) {
+        NextAnswer::Yielded(item, behind) => {
+            put_record(s, item);
+            Onward::On(behind)
+        }
+        NextAnswer::Done => {
+            put(b"end ");
+            put_number(listed);
+            put(b"\n");
+            Onward::Over
+        }
+        NextAnswer::Refused(e) => {
+            put_refused(e);
+            Onward::Over
+        }
+    }
+}
+
+// Each record takes four bytes at least, so that 65,536 bytes end before the turns do.
+fn walk(s: &[u8], first: ItemIter) {
+    let mut c = first;
+    let mut listed: u64 = 0;
+    while listed < 65536 {
+        let t = turn(s, c, listed);
+        let Onward::On(behind) = t else {
+            return;
+        };
+        c = behind;
+        listed += 1;
+    }
+}
+
+fn list(s: &[u8]) {
+    match section_item::iter(s) {
+        IterAnswer::Answered(c) => {
+            put(b"section ");
+            put_number(c.index as u64);
+            put(b" ");
+            put_number(s.len() as u64);
+            put(b"\n");
+            walk(s, c);
+        }
+        IterAnswer::Refused(e) => put_refused(e),
+    }
+}
+
+fn main() {
+    let mut section = [0u8; 65537];
+    let n = io::read_full(STDIN_FILENO, &mut section);
+    if 65536 < n {
+        put(b"refused 16\n");
+        return;
+    }
+    list(&section[..n]);
+}

@@ -1,0 +1,58 @@
+-- The records of document 01's stream E as a section: a section that meets the premises of its demand 3, and what lookups give there.
+use Prim.Native.Nat.{ℕ, _≤_}
+use mathlib.Core.Path.{_≡_, refl}
+use mathlib.Core.List.{[], _∷_}
+use native.Mathlib.Omega.{arith}
+use Rattle.answer.specs.Answer.{answered, refused}
+use Rattle.field.specs.Fields.{littleAt}
+use Rattle.stream_item.specs.Items.{indexIn}
+use Rattle.stream_item.specs.Links.{linkOf, chain, linkAt}
+use Rattle.stream_item.specs.Iterator.{nextOf}
+use Rattle.stream_item.specs.declared.Stream.the-variants.{Types}
+use Rattle.stream_finder.specs.Finder.{State, state, updateOf, lookOf, findOf}
+use Rattle.stream_finder.specs.Demand.{Walked, none, more}
+use Rattle.stream_finder.specs.Finder.{holdingIn}
+use Rattle.stream_item.specs.declared.Entry.the-variants as entry
+use Rattle.section_item.specs.Sections.{first, startOf, walkBy, lastOf, countOf}
+use Rattle.section_item.proofs.Examples.{sectionE}
+use Rattle.section_finder.specs.Finders.{sectionRun, createBy}
+use Rattle.section_finder.specs.Demand.{Premises}
+
+-- a fresh finder of it stores 4 in place 0
+pub createE : createBy 3 sectionE (0 ∷ 7 ∷ []) ≡ answered (state (holdingIn (sectionRun 2) 3 1) (4 ∷ 7 ∷ []))
+unfolding createBy countOf startOf lastOf walkBy nextOf littleAt
+createE = refl
+
+-- 26 right before 13; 13 with no table
+pub shiftE : createBy 7 sectionE [] ≡ refused 26 []
+unfolding createBy countOf startOf lastOf walkBy nextOf littleAt
+shiftE = refl
+
+pub fullE : createBy 3 sectionE [] ≡ refused 13 []
+unfolding createBy countOf startOf lastOf walkBy nextOf littleAt
+fullE = refl
+
+-- 4097 passes 1 link, and its payload starts at 16, 52 below its place in the stream; 4098 gives 1 with 2 passed
+pub findE : findOf sectionE (state (holdingIn (sectionRun 2) 3 1) (4 ∷ [])) (indexIn Types 4097)
+    ≡ answered (record { entry = entry.Record (record { index = indexIn Types 4097; place = 16; length = 10 }); passed = 1 })
+unfolding lookOf linkOf chain linkAt littleAt
+findE = refl
+
+pub behindE : findOf sectionE (state (holdingIn (sectionRun 2) 3 1) (4 ∷ [])) (indexIn Types 4098) ≡ refused 1 (2 ∷ [])
+unfolding lookOf linkOf chain linkAt littleAt
+behindE = refl
+
+-- the premises of demand 3 are met, with both records yielded
+pub premisesE : (d : ℕ) → d ≤ 2 → Premises 3 sectionE 2 (0 ∷ []) 2 (state (holdingIn (sectionRun 2) 3 1) (4 ∷ [])) d
+unfolding createBy countOf startOf lastOf walkBy nextOf updateOf littleAt
+premisesE d l = record {
+  accepted = refl;
+  counts = omega arith;
+  room = omega arith;
+  fresh = state (holdingIn (sectionRun 2) 3 1) (4 ∷ []);
+  created = refl;
+  begun = refl;
+  cursor = record { stream = Types; at = 26; index = 4098 };
+  walked = more (more none refl) refl;
+  upto = l;
+}

@@ -1,0 +1,4 @@
+pub mod FinderLaws
+pub mod DemandProof
+pub mod OneOutcome
+pub mod Examples

@@ -1,0 +1,2 @@
+pub mod SectionLaws
+pub mod Examples

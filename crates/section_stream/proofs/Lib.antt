@@ -1,0 +1,3 @@
+pub mod StreamLaws
+pub mod MadeProof
+pub mod Examples
