@@ -9,7 +9,7 @@
 # Wanted: the port's program measure, which `rt check measure` makes; and valgrind, on x86-64.
 # Each operation is done 10 times and 20 times; the difference over 10 times the records is what one record costs, and what both runs do
 # once (starting, reading the input, a finder for `find`, a places file for `load`) is not in it. `header` is counted by the header and not by the
-# record. The crate has no `load`: load0, load and load6 are the port's alone, at the shifts 0, 3 and 6.
+# record, `primitives` by the 4,096 indices. The crate has no `load`: load0, load and load6 are the port's alone, at the shifts 0, 3 and 6.
 # valgrind's callgrind counts every instruction of the program, so that a run can be repeated and gives the same numbers.
 # On another processor the port, which is compiled for x86-64, runs under the toolchain's emulator, one instruction a line of its log, once and
 # twice. The crate is then not counted: its own build is for that processor (SPEED may be `-`).
@@ -53,13 +53,14 @@ for stream; do
   records=$(($(word "$stream" 12) - $(word "$stream" 8)))
   case $stream in
     *.ipi) operations="parseids" ;;
-    *) operations="header walk index load0 load load6 find parse elements" ;;
+    *) operations="header walk index load0 load load6 find parse elements primitives" ;;
   esac
   for op in $operations; do
     n=$fewest over=$((fewest * records))
-    if [ $op = header ]; then
-      n=$((100 * fewest)) over=$n
-    fi
+    case $op in
+      header) n=$((100 * fewest)) over=$n ;;
+      primitives) over=$((4096 * fewest)) ;;
+    esac
     case $op in
       load0) "$root/compare/places.py" save "$stream" "$places" 0; op=load name=load0 ;;
       load6) "$root/compare/places.py" save "$stream" "$places" 6; op=load name=load6 ;;

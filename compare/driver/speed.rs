@@ -129,6 +129,19 @@ fn ids(info: &IdInformation<'_>) -> u64 {
     sum
 }
 
+/// Every primitive, in an order that the compiler does not know.
+fn primitives(turned: u32) -> u64 {
+    let mut sum = 0u64;
+    for i in 0..4096u32 {
+        let index = i ^ turned;
+        sum = sum.wrapping_add(match acc::primitive_of(index) {
+            Ok(TypeData::Primitive(p)) => p.kind as u64 + p.indirection.map_or(0, |i| i as u64 + 1),
+            _ => u64::from(index),
+        });
+    }
+    sum
+}
+
 fn main() {
     let args: Vec<String> = std::env::args().collect();
     let times: u64 = args[2].parse().expect("a number");
@@ -140,6 +153,12 @@ fn main() {
             for i in 0..times {
                 bytes[0] = i as u8;
                 sum = sum.wrapping_add(speed_header::sum(opaque(&bytes)));
+            }
+        }
+        "primitives" => {
+            for i in 0..times {
+                bytes[0] = i as u8;
+                sum = sum.wrapping_add(primitives(u32::from(opaque(&bytes)[0])));
             }
         }
         "parseids" => {

@@ -28,8 +28,9 @@ use stream_item::iter::IterAnswer;
 use stream_item::iter::NextAnswer;
 use stream_view::RawKindAnswer;
 use sums::add;
+use word_primitive::PrimitiveAnswer;
 
-// The operations, by the letters that their names start with; parseids has one of its own. Any other is `elements`.
+// The operations, by the letters that their names start with; parseids and primitives have one of their own. Any other is `elements`.
 const HEADER: u8 = b'h';
 
 const WALK: u8 = b'w';
@@ -43,6 +44,8 @@ const PARSE: u8 = b'p';
 const IDS: u8 = b'd';
 
 const LOAD: u8 = b'l';
+
+const PRIMITIVES: u8 = b't';
 
 // The longest stream, and the places that its finder holds at most: a record takes four bytes or more.
 const LONGEST: usize = 262144;
@@ -275,6 +278,24 @@ fn found(a: FindAnswer) -> u64 {
     }
 }
 
+// Asks for every primitive, in an order of its own each time.
+fn primitives_once(turned: u32) -> u64 {
+    let mut sum: u64 = 0;
+    let mut i: u32 = 0;
+    while i < 4096 {
+        sum = add(sum, primitive_read(TypeIndex(i ^ turned)));
+        i += 1;
+    }
+    sum
+}
+
+fn primitive_read(i: TypeIndex) -> u64 {
+    match word_primitive::primitive(i) {
+        PrimitiveAnswer::Answered(p) => sums::primitive(p),
+        PrimitiveAnswer::Refused(_) => sums::wide(i.0),
+    }
+}
+
 // Many times -------------------------------------------------------------------------------------------------------------------
 
 fn once(op: u8, s: &[u8], t: &mut [u32; PLACES], f: ItemFinder) -> u64 {
@@ -328,6 +349,17 @@ fn repeat_load(times: u64, stream: &mut [u8], file: &[u8], t: &mut [u32; PLACES]
     sum
 }
 
+// The same for `primitives`, which needs no stream.
+fn repeat_primitives(times: u64) -> u64 {
+    let mut sum: u64 = 0;
+    let mut i: u64 = 0;
+    while i < times {
+        sum = add(sum, primitives_once((i % 256) as u32));
+        i += 1;
+    }
+    sum
+}
+
 // The first n bytes of an array.
 fn first(file: &[u8; FILE], n: usize) -> &[u8] {
     let s: &[u8] = file;
@@ -355,6 +387,9 @@ fn run(op: u8, times: u64, at: usize, stream: &mut [u8], t: &mut [u32; PLACES]) 
     if op == LOAD {
         return load_many(times, stream, t);
     }
+    if op == PRIMITIVES {
+        return repeat_primitives(times);
+    }
     repeat(op, times, at, stream, t)
 }
 
@@ -363,6 +398,9 @@ fn operation(word: &[u8; 16], n: usize) -> u8 {
     if first == PARSE {
         if n == 8 {
             return IDS;
+        }
+        if n == 10 {
+            return PRIMITIVES;
         }
     }
     first

@@ -31,6 +31,9 @@ use stream_header::Header;
 use stream_header::Slice;
 use stream_item::Item;
 use word_attributes::FieldAttributes;
+use word_primitive::Indirection;
+use word_primitive::PrimitiveKind;
+use word_primitive::PrimitiveType;
 
 // The sum of two numbers, from the start again past the largest.
 pub fn add(a: u64, b: u64) -> u64 {
@@ -340,5 +343,72 @@ pub fn element(e: Element) -> u64 {
         Element::Id(i) => wide(i.0),
         Element::Method(m) => entry(m),
         Element::Member(m) => member(m),
+    }
+}
+
+pub fn primitive(p: PrimitiveType) -> u64 {
+    let kind = p.kind;
+    let indirection = p.indirection;
+    add(kind_number(kind), indirection_number(indirection))
+}
+
+// The kinds in the order in which the crate has them.
+fn kind_number(k: PrimitiveKind) -> u64 {
+    match k {
+        PrimitiveKind::NoType => 0,
+        PrimitiveKind::Void => 1,
+        PrimitiveKind::Char => 2,
+        PrimitiveKind::UChar => 3,
+        PrimitiveKind::RChar => 4,
+        PrimitiveKind::WChar => 5,
+        PrimitiveKind::RChar16 => 6,
+        PrimitiveKind::RChar32 => 7,
+        PrimitiveKind::I8 => 8,
+        PrimitiveKind::U8 => 9,
+        PrimitiveKind::Short => 10,
+        PrimitiveKind::UShort => 11,
+        PrimitiveKind::I16 => 12,
+        PrimitiveKind::U16 => 13,
+        PrimitiveKind::Long => 14,
+        PrimitiveKind::ULong => 15,
+        PrimitiveKind::I32 => 16,
+        PrimitiveKind::U32 => 17,
+        PrimitiveKind::Quad => 18,
+        PrimitiveKind::UQuad => 19,
+        PrimitiveKind::I64 => 20,
+        PrimitiveKind::U64 => 21,
+        PrimitiveKind::Octa => 22,
+        PrimitiveKind::UOcta => 23,
+        PrimitiveKind::I128 => 24,
+        PrimitiveKind::U128 => 25,
+        PrimitiveKind::F16 => 26,
+        PrimitiveKind::F32 => 27,
+        PrimitiveKind::F32PP => 28,
+        PrimitiveKind::F48 => 29,
+        PrimitiveKind::F64 => 30,
+        PrimitiveKind::F80 => 31,
+        PrimitiveKind::F128 => 32,
+        PrimitiveKind::Complex32 => 33,
+        PrimitiveKind::Complex64 => 34,
+        PrimitiveKind::Complex80 => 35,
+        PrimitiveKind::Complex128 => 36,
+        PrimitiveKind::Bool8 => 37,
+        PrimitiveKind::Bool16 => 38,
+        PrimitiveKind::Bool32 => 39,
+        PrimitiveKind::Bool64 => 40,
+        PrimitiveKind::HRESULT => 41,
+    }
+}
+
+fn indirection_number(i: Indirection) -> u64 {
+    match i {
+        Indirection::Direct => 0,
+        Indirection::Near16 => 1,
+        Indirection::Far16 => 2,
+        Indirection::Huge16 => 3,
+        Indirection::Near32 => 4,
+        Indirection::Far32 => 5,
+        Indirection::Near64 => 6,
+        Indirection::Near128 => 7,
     }
 }

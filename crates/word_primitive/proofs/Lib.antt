@@ -1,2 +1,4 @@
 pub mod OneOutcome
 pub mod Examples
+pub mod SheetTable
+pub mod SheetLaws

@@ -12,10 +12,6 @@ use Rattle.word_primitive.specs.declared.Indirection.{Indirection}
 use Rattle.word_primitive.specs.declared.PrimitiveType.{PrimitiveType}
 use Rattle.word_primitive.specs.declared.PrimitiveAnswer.{PrimitiveAnswer}
 use Rattle.word_primitive.specs.declared.PrimitiveAnswer.the-variants as primitive
-use Rattle.word_primitive.specs.declared.KindFound.{KindFound}
-use Rattle.word_primitive.specs.declared.KindFound.the-variants as kind
-use Rattle.word_primitive.specs.declared.IndirectionFound.{IndirectionFound}
-use Rattle.word_primitive.specs.declared.IndirectionFound.the-variants as indirection
 
 -- 8, "not found", with the index
 abbrev pub unknown : {A : Type 0} → ℕ → Answer A
@@ -38,11 +34,3 @@ primitiveOf i =
 abbrev pub saidPrimitive : PrimitiveAnswer → Answer PrimitiveType
 saidPrimitive (primitive.Answered p) = answered p
 saidPrimitive (primitive.Refused e) = no e
-
-abbrev pub foundKind : KindFound → Option PrimitiveKind
-foundKind (kind.Known k) = some k
-foundKind kind.Unknown = none
-
-abbrev pub foundIndirection : IndirectionFound → Option Indirection
-foundIndirection (indirection.Known d) = some d
-foundIndirection indirection.Unknown = none

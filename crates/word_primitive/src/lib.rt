@@ -1,11 +1,13 @@
 // The primitive types of document 01, "Indices and primitives" (the crate's primitive.rs): an index below 0x1000 names a
-// simple type, or a pointer to one. specs/Kinds.antt has the lists of kinds and indirections, specs/Primitive.antt the answer for every index.
+// simple type, or a pointer to one. specs/Kinds.antt has the lists of kinds and indirections, specs/Primitive.antt the answer for every index,
+// specs/Sheet.antt what a number of the sheet stands for; sheet.rt is the sheet.
 ghost use mathlib.Core.Path.{_≡_};
-ghost use Rattle.answer.specs.Tables.{find};
-ghost use Rattle.word_primitive.specs.Kinds.{kinds, indirections};
-ghost use Rattle.word_primitive.specs.Primitive.{foundKind, foundIndirection, saidPrimitive, primitiveOf};
+ghost use Rattle.word_primitive.specs.Primitive.{saidPrimitive, primitiveOf};
+ghost use Rattle.word_primitive.specs.Sheet.{sheetAt, kindBy, indirectionBy};
 use answer::Refusal;
 use field::index::TypeIndex;
+
+mod sheet;
 
 // A simple type.
 pub enum PrimitiveKind {
@@ -127,83 +129,148 @@ pub enum PrimitiveAnswer {
     Refused(Refusal),
 }
 
-// What the list of kinds has for a low byte.
-enum KindFound {
-    Known(PrimitiveKind),
-    Unknown,
-}
+// What stands in the sheet where 01 refuses.
+const REFUSED: u16 = 0xffff;
 
-// What the list of indirections has for bits 8 to 11.
-enum IndirectionFound {
-    Known(Indirection),
-    Unknown,
-}
-
-// The kind that an index's low byte names.
-fn kind_of(low: u32) -> KindFound
-    ensures { λ r. ⌜ foundKind r ≡ find low kinds ⌝ }
+// The sheet's number for an index: a row has 64 of them, and past the last row all are refused.
+fn entry(index: u32) -> u16
+    ensures { λ r. ⌜ r ≡ sheetAt index ⌝ }
 {
-    match low {
-        0x00 => KindFound::Known(PrimitiveKind::NoType),
-        0x03 => KindFound::Known(PrimitiveKind::Void),
-        0x08 => KindFound::Known(PrimitiveKind::HRESULT),
-        0x10 => KindFound::Known(PrimitiveKind::Char),
-        0x20 => KindFound::Known(PrimitiveKind::UChar),
-        0x68 => KindFound::Known(PrimitiveKind::I8),
-        0x69 => KindFound::Known(PrimitiveKind::U8),
-        0x70 => KindFound::Known(PrimitiveKind::RChar),
-        0x71 => KindFound::Known(PrimitiveKind::WChar),
-        0x7a => KindFound::Known(PrimitiveKind::RChar16),
-        0x7b => KindFound::Known(PrimitiveKind::RChar32),
-        0x11 => KindFound::Known(PrimitiveKind::Short),
-        0x21 => KindFound::Known(PrimitiveKind::UShort),
-        0x72 => KindFound::Known(PrimitiveKind::I16),
-        0x73 => KindFound::Known(PrimitiveKind::U16),
-        0x12 => KindFound::Known(PrimitiveKind::Long),
-        0x22 => KindFound::Known(PrimitiveKind::ULong),
-        0x74 => KindFound::Known(PrimitiveKind::I32),
-        0x75 => KindFound::Known(PrimitiveKind::U32),
-        0x13 => KindFound::Known(PrimitiveKind::Quad),
-        0x23 => KindFound::Known(PrimitiveKind::UQuad),
-        0x76 => KindFound::Known(PrimitiveKind::I64),
-        0x77 => KindFound::Known(PrimitiveKind::U64),
-        0x14 => KindFound::Known(PrimitiveKind::Octa),
-        0x24 => KindFound::Known(PrimitiveKind::UOcta),
-        0x78 => KindFound::Known(PrimitiveKind::I128),
-        0x79 => KindFound::Known(PrimitiveKind::U128),
-        0x46 => KindFound::Known(PrimitiveKind::F16),
-        0x40 => KindFound::Known(PrimitiveKind::F32),
-        0x45 => KindFound::Known(PrimitiveKind::F32PP),
-        0x44 => KindFound::Known(PrimitiveKind::F48),
-        0x41 => KindFound::Known(PrimitiveKind::F64),
-        0x42 => KindFound::Known(PrimitiveKind::F80),
-        0x43 => KindFound::Known(PrimitiveKind::F128),
-        0x50 => KindFound::Known(PrimitiveKind::Complex32),
-        0x51 => KindFound::Known(PrimitiveKind::Complex64),
-        0x52 => KindFound::Known(PrimitiveKind::Complex80),
-        0x53 => KindFound::Known(PrimitiveKind::Complex128),
-        0x30 => KindFound::Known(PrimitiveKind::Bool8),
-        0x31 => KindFound::Known(PrimitiveKind::Bool16),
-        0x32 => KindFound::Known(PrimitiveKind::Bool32),
-        0x33 => KindFound::Known(PrimitiveKind::Bool64),
-        _ => KindFound::Unknown,
+    let column = (index % 64) as usize;
+    match index / 64 {
+        0 => sheet::ROW_00[column],
+        1 => sheet::ROW_01[column],
+        2 => sheet::ROW_02[column],
+        3 => sheet::ROW_03[column],
+        4 => sheet::ROW_04[column],
+        5 => sheet::ROW_05[column],
+        6 => sheet::ROW_06[column],
+        7 => sheet::ROW_07[column],
+        8 => sheet::ROW_08[column],
+        9 => sheet::ROW_09[column],
+        10 => sheet::ROW_0A[column],
+        11 => sheet::ROW_0B[column],
+        12 => sheet::ROW_0C[column],
+        13 => sheet::ROW_0D[column],
+        14 => sheet::ROW_0E[column],
+        15 => sheet::ROW_0F[column],
+        16 => sheet::ROW_10[column],
+        17 => sheet::ROW_11[column],
+        18 => sheet::ROW_12[column],
+        19 => sheet::ROW_13[column],
+        20 => sheet::ROW_14[column],
+        21 => sheet::ROW_15[column],
+        22 => sheet::ROW_16[column],
+        23 => sheet::ROW_17[column],
+        24 => sheet::ROW_18[column],
+        25 => sheet::ROW_19[column],
+        26 => sheet::ROW_1A[column],
+        27 => sheet::ROW_1B[column],
+        28 => sheet::ROW_1C[column],
+        29 => sheet::ROW_1D[column],
+        30 => sheet::ROW_1E[column],
+        31 => sheet::ROW_1F[column],
+        32 => sheet::ROW_20[column],
+        33 => sheet::ROW_21[column],
+        34 => sheet::ROW_22[column],
+        35 => sheet::ROW_23[column],
+        36 => sheet::ROW_24[column],
+        37 => sheet::ROW_25[column],
+        38 => sheet::ROW_26[column],
+        39 => sheet::ROW_27[column],
+        40 => sheet::ROW_28[column],
+        41 => sheet::ROW_29[column],
+        42 => sheet::ROW_2A[column],
+        43 => sheet::ROW_2B[column],
+        44 => sheet::ROW_2C[column],
+        45 => sheet::ROW_2D[column],
+        46 => sheet::ROW_2E[column],
+        47 => sheet::ROW_2F[column],
+        48 => sheet::ROW_30[column],
+        49 => sheet::ROW_31[column],
+        50 => sheet::ROW_32[column],
+        51 => sheet::ROW_33[column],
+        52 => sheet::ROW_34[column],
+        53 => sheet::ROW_35[column],
+        54 => sheet::ROW_36[column],
+        55 => sheet::ROW_37[column],
+        56 => sheet::ROW_38[column],
+        57 => sheet::ROW_39[column],
+        58 => sheet::ROW_3A[column],
+        59 => sheet::ROW_3B[column],
+        60 => sheet::ROW_3C[column],
+        61 => sheet::ROW_3D[column],
+        62 => sheet::ROW_3E[column],
+        63 => sheet::ROW_3F[column],
+        _ => REFUSED,
     }
 }
 
-// The indirection that bits 8 to 11 of an index name.
-fn indirection_of(high: u32) -> IndirectionFound
-    ensures { λ r. ⌜ foundIndirection r ≡ find high indirections ⌝ }
+// The kind that the low byte of a number of the sheet stands for.
+fn kind_by(low: u16) -> PrimitiveKind
+    ensures { λ r. ⌜ r ≡ kindBy low ⌝ }
+{
+    match low {
+        0x00 => PrimitiveKind::NoType,
+        0x03 => PrimitiveKind::Void,
+        0x08 => PrimitiveKind::HRESULT,
+        0x10 => PrimitiveKind::Char,
+        0x20 => PrimitiveKind::UChar,
+        0x68 => PrimitiveKind::I8,
+        0x69 => PrimitiveKind::U8,
+        0x70 => PrimitiveKind::RChar,
+        0x71 => PrimitiveKind::WChar,
+        0x7a => PrimitiveKind::RChar16,
+        0x7b => PrimitiveKind::RChar32,
+        0x11 => PrimitiveKind::Short,
+        0x21 => PrimitiveKind::UShort,
+        0x72 => PrimitiveKind::I16,
+        0x73 => PrimitiveKind::U16,
+        0x12 => PrimitiveKind::Long,
+        0x22 => PrimitiveKind::ULong,
+        0x74 => PrimitiveKind::I32,
+        0x75 => PrimitiveKind::U32,
+        0x13 => PrimitiveKind::Quad,
+        0x23 => PrimitiveKind::UQuad,
+        0x76 => PrimitiveKind::I64,
+        0x77 => PrimitiveKind::U64,
+        0x14 => PrimitiveKind::Octa,
+        0x24 => PrimitiveKind::UOcta,
+        0x78 => PrimitiveKind::I128,
+        0x79 => PrimitiveKind::U128,
+        0x46 => PrimitiveKind::F16,
+        0x40 => PrimitiveKind::F32,
+        0x45 => PrimitiveKind::F32PP,
+        0x44 => PrimitiveKind::F48,
+        0x41 => PrimitiveKind::F64,
+        0x42 => PrimitiveKind::F80,
+        0x43 => PrimitiveKind::F128,
+        0x50 => PrimitiveKind::Complex32,
+        0x51 => PrimitiveKind::Complex64,
+        0x52 => PrimitiveKind::Complex80,
+        0x53 => PrimitiveKind::Complex128,
+        0x30 => PrimitiveKind::Bool8,
+        0x31 => PrimitiveKind::Bool16,
+        0x32 => PrimitiveKind::Bool32,
+        0x33 => PrimitiveKind::Bool64,
+        _ => PrimitiveKind::NoType,
+    }
+}
+
+// The indirection that the high byte of a number of the sheet stands for.
+fn indirection_by(high: u16) -> Indirection
+    ensures { λ r. ⌜ r ≡ indirectionBy high ⌝ }
 {
     match high {
-        0 => IndirectionFound::Known(Indirection::Direct),
-        1 => IndirectionFound::Known(Indirection::Near16),
-        2 => IndirectionFound::Known(Indirection::Far16),
-        3 => IndirectionFound::Known(Indirection::Huge16),
-        4 => IndirectionFound::Known(Indirection::Near32),
-        5 => IndirectionFound::Known(Indirection::Far32),
-        6 => IndirectionFound::Known(Indirection::Near64),
-        7 => IndirectionFound::Known(Indirection::Near128),
-        _ => IndirectionFound::Unknown,
+        0 => Indirection::Direct,
+        1 => Indirection::Near16,
+        2 => Indirection::Far16,
+        3 => Indirection::Huge16,
+        4 => Indirection::Near32,
+        5 => Indirection::Far32,
+        6 => Indirection::Near64,
+        7 => Indirection::Near128,
+        _ => Indirection::Direct,
     }
 }
 
@@ -218,17 +285,11 @@ pub fn primitive(index: TypeIndex) -> PrimitiveAnswer
 fn numbered(index: u32) -> PrimitiveAnswer
     ensures { λ r. ⌜ saidPrimitive r ≡ primitiveOf index ⌝ }
 {
-    if 0x1000 <= index {
+    let number = entry(index);
+    if number == REFUSED {
         return PrimitiveAnswer::Refused(Refusal::NotFound(index));
     }
-    match indirection_of(index / 256 % 16) {
-        IndirectionFound::Unknown => PrimitiveAnswer::Refused(Refusal::NotFound(index)),
-        IndirectionFound::Known(indirection) => match kind_of(index % 256) {
-            KindFound::Unknown => PrimitiveAnswer::Refused(Refusal::NotFound(index)),
-            KindFound::Known(kind) => PrimitiveAnswer::Answered(PrimitiveType {
-                kind,
-                indirection,
-            }),
-        },
-    }
+    let kind = kind_by(number % 256);
+    let indirection = indirection_by(number / 256);
+    PrimitiveAnswer::Answered(PrimitiveType { kind, indirection })
 }

@@ -1,13 +1,16 @@
--- `word_primitive::kind_of` meets its contract: each arm's key computes to its line of the list, and what meets no key is not found. Assumes nothing.
+-- `word_primitive::kind_by` meets its contract: each arm's key computes to its line of the list, and what meets no key is not found. Assumes nothing.
+use mathlib.Core.Path.{ap}
 use Rattle.answer.specs.Tables.{find}
-use Rattle.word_primitive.specs.Kinds.{kinds}
 use Rattle.answer.proofs.TableLaws.{missed}
-use Rattle.word_primitive.proofs.kind_of.Statement.{statement}
-use Rattle.word_primitive.proofs.kind_of.Tie as tie
+use Rattle.word_primitive.specs.Kinds.{kinds}
+use Rattle.word_primitive.specs.Sheet.{kindBy, orElse}
+use Rattle.word_primitive.specs.declared.PrimitiveKind.the-variants.{NoType}
+use Rattle.word_primitive.proofs.kind_by.Statement.{statement}
+use Rattle.word_primitive.proofs.kind_by.Tie as tie
 
-pub kind-of-spec : {M : Type 1} → statement M
-unfolding find kinds
-kind-of-spec =
+pub kind-by-spec : {M : Type 1} → statement M
+unfolding kindBy find kinds
+kind-by-spec =
     tie.close (tie.spec
     (λ c. simp (c .match .keys1)) (λ c. simp (c .match .keys2)) (λ c. simp (c .match .keys3)) (λ c. simp (c .match .keys4))
     (λ c. simp (c .match .keys5)) (λ c. simp (c .match .keys6)) (λ c. simp (c .match .keys7)) (λ c. simp (c .match .keys8))
@@ -19,4 +22,5 @@ kind-of-spec =
     (λ c. simp (c .match .keys29)) (λ c. simp (c .match .keys30)) (λ c. simp (c .match .keys31)) (λ c. simp (c .match .keys32))
     (λ c. simp (c .match .keys33)) (λ c. simp (c .match .keys34)) (λ c. simp (c .match .keys35)) (λ c. simp (c .match .keys36))
     (λ c. simp (c .match .keys37)) (λ c. simp (c .match .keys38)) (λ c. simp (c .match .keys39)) (λ c. simp (c .match .keys40))
-    (λ c. simp (c .match .keys41)) (λ c. simp (c .match .keys42)) (λ c. missed kinds _ (c .match .rest)))
+    (λ c. simp (c .match .keys41)) (λ c. simp (c .match .keys42))
+    (λ c. ap (orElse NoType) (missed kinds _ (c .match .rest))))
