@@ -619,16 +619,18 @@ def write_commands(types, ids):
         yield write_line(leaf, words)
     for leaf, words in refused_records():
         yield write_line(leaf, words)
+    # each case of 17 by its name, and beside it what is written
+    yield from (f"write 100 {values}" for _, bad, near in SEVENTEEN for values in (bad, near))
     # 19 for every room up to the record's length and one more
     for leaf, text in ((0x1001, GOOD[0x1001][0]), (0x1504, GOOD[0x1504][0]), (0x1605, "- =7374"), (0x1603, "4097 4098"), (0x1206, f"/ {METHODS[1]} / {METHODS[0]}"),
                        (0x1203, "/ 1502 3 -1 =61 / 150e 3 116 =7374"), (0x1203, ""), (0x000a, "3 =5505")):
         whole = len(record(leaf, text.split(), LENT))
         yield from (write_line(leaf, text.split(), room) for room in range(whole + 2))
-    # 19 of every leaf and member, one byte short and exactly; 17 before 19: one value too few
+    # the same of every leaf and member; 17 before 19: one value too few
     for leaf, words in [(leaf, all_values[0].split()) for leaf, all_values in {**GOOD, **ELEMENTS}.items()] + \
             [(0x1203, ["/", f"{leaf:04x}", *all_values[0].split()]) for leaf, all_values in GOOD_MEMBERS.items()]:
         whole = len(record(leaf, words, LENT))
-        yield from (write_line(leaf, words, room) for room in (whole - 1, whole))
+        yield from (write_line(leaf, words, room) for room in range(whole + 1))
         if leaf not in COUNTED:
             yield write_line(leaf, words[:-1], 0)
     for leaf, words in refused_records():

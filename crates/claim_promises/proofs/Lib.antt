@@ -11,6 +11,7 @@ pub mod GivenReading
 pub mod ExactlyWhen
 pub mod PlacesWhen
 pub mod WritesWhen
+pub mod Written
 pub mod Idle
 pub mod Examples
 pub mod OneOutcome

@@ -46,10 +46,10 @@ fn plain(kind: u64, number: u64, text: usize, input: Input) -> Value {
     }
 }
 
-// A number; `wide` if it passes 64 bits.
+// A number; `good` if it has a digit, is no more than 64 bits hold, and nothing but digits stands in its word.
 struct Digits {
     value: u64,
-    wide: bool,
+    good: bool,
     input: Input,
 }
 
@@ -64,6 +64,7 @@ fn passes(value: u64, digit: u16) -> bool {
 fn read_digits(buffer: &mut [u8; 65536], from: Input) -> Digits {
     let mut input = from;
     let mut value: u64 = 0;
+    let mut given = false;
     let mut wide = false;
     let mut turns = input::TURNS;
     while 0 < turns {
@@ -78,12 +79,18 @@ fn read_digits(buffer: &mut [u8; 65536], from: Input) -> Digits {
         }
         wide = wide || passes(value, seen.code - 48);
         value = input::more(value, seen.code - 48);
+        given = true;
         input = input::past(input);
     }
+    digits_end(buffer, input, value, given && !wide)
+}
+
+fn digits_end(buffer: &mut [u8; 65536], from: Input, value: u64, good: bool) -> Digits {
+    let seen = input::peek(buffer, from);
     Digits {
         value: value,
-        wide: wide,
-        input: input,
+        good: good && input::ends_word(seen.code),
+        input: seen.input,
     }
 }
 
@@ -91,7 +98,7 @@ fn read_digits(buffer: &mut [u8; 65536], from: Input) -> Digits {
 fn number(d: Digits, negative: bool, text: usize) -> Value {
     let input = d.input;
     let n = d.value;
-    if d.wide {
+    if !d.good {
         return plain(STRANGE, 0, text, input);
     }
     if !negative {
