@@ -28,7 +28,7 @@ use Rattle.declare_node.specs.declared.Sized.{Sized}
 use Rattle.declare_node.specs.declared.Sized.the-variants as sized
 use Rattle.declare_node.specs.Looked.{Seen, numbered, held, nothing, declaredLeaves, listLeaves, typeSeen}
 use Rattle.declare_node.specs.Nodes.{leafIn, num, classes, sizedIn, sizedBy, through, sizeThrough, extentOf, nameIn, nodeIn, nodeBy, nodeOf, listIn, listBy, listOf}
-use Rattle.declare_node.specs.Inside.{NamedInside, ListInside}
+use Rattle.declare_node.specs.Inside.{ListInside}
 use Rattle.field.specs.declared.index.TypeIndex.{TypeIndex}
 
 -- ---- a class, by its kind
@@ -108,15 +108,6 @@ module _ (s : List ℕ) (σ : State) (k i : ℕ) (z : Sized) (v : Seen) (y : z �
 
 -- ---- inside the stream
 
-pub named-inside : (s : List ℕ) (p n : ℕ) (v : Shown) (r : Node) → r ≡ nameIn p n v → p + n ≤ length s → NamedInside s r
-named-inside s p n (many x) r e h = rw e (go (leb (x .place + x .length) n) refl) where
-  go : (b : Bool) → leb (x .place + x .length) n ≡ b → NamedInside s (pick b (node.Named (p + x .place) (x .length)) (node.Refused refusal.Ended))
-  go true f = omega (arith, h, leb-true (x .place + x .length) n f)
-  go false f = tt
-named-inside s p n (number k) r e h = rw e tt
-named-inside s p n (numeral z f) r e h = rw e tt
-named-inside s p n absent r e h = rw e tt
-
 pub list-inside : (s : List ℕ) (p n : ℕ) (vs : List Shown) (r : Arguments) → r ≡ listBy (held p n vs) → p + n ≤ length s → ListInside s r
 list-inside s p n vs r e h = rw e (go (eqb (leafIn vs) 0x1201) (nth 2 vs)) where
   in-it : (k : ℕ) (x : Part) (b : Bool) → leb (x .place + 4 * k) n ≡ b → ListInside s (pick b (arguments.At (p + x .place) k) (arguments.Refused refusal.Ended))
@@ -129,19 +120,3 @@ list-inside s p n vs r e h = rw e (go (eqb (leafIn vs) 0x1201) (nth 2 vs)) where
   go true (number k) = tt
   go true (numeral z f) = tt
   go true absent = tt
-
-pub node-inside : (s : List ℕ) (σ : State) (p n leaf : ℕ) (vs : List Shown) (r : Node) → r ≡ nodeIn s σ p n leaf vs → p + n ≤ length s → NamedInside s r
-unfolding nodeIn
-node-inside s σ p n leaf vs r e h =
-    rw e
-    (either (eqb leaf 0x1001) _ _ tt
-    (either (eqb leaf 0x1002) _ _ tt
-    (either (eqb leaf 0x1008) _ _ tt
-    (either (eqb leaf 0x1503) _ _ tt
-    (either (eqb leaf 0x1506) _ _ (named-inside s p n (nth 5 vs) _ refl h)
-    (either (eqb leaf 0x1507) _ _ (named-inside s p n (nth 5 vs) _ refl h)
-    (either (eqb leaf 0x1609) _ _ (named-inside s p n (nth 8 vs) _ refl h)
-    (either (among leaf classes) _ _ (named-inside s p n (nth 7 vs) _ refl h) tt)))))))) where
-      either : (b : Bool) (x y : Node) → NamedInside s x → NamedInside s y → NamedInside s (pick b x y)
-      either true x y k l = k
-      either false x y k l = l

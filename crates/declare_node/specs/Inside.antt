@@ -3,22 +3,10 @@ use Prim.Native.Nat.{ℕ, _+_, _*_, _≤_}
 use mathlib.Core.Path.{_≡_}
 use mathlib.Core.List.{List}
 use lib.ListN.{length}
-use Rattle.declare_node.specs.declared.Node.{Node}
-use Rattle.declare_node.specs.declared.Node.the-variants as node
 use Rattle.declare_node.specs.declared.Arguments.{Arguments}
 use Rattle.declare_node.specs.declared.Arguments.the-variants as arguments
 use Rattle.declare_node.specs.declared.Looked.{Looked}
 use Rattle.declare_node.specs.declared.Looked.the-variants as looked
-
--- a name's bytes are there
-abbrev pub NamedInside : List ℕ → Node → Type 0
-NamedInside s (node.Primitive k b) = Unit
-NamedInside s (node.Named p n) = p + n ≤ length s
-NamedInside s (node.Pointer i m q) = Unit
-NamedInside s (node.Modifier i q) = Unit
-NamedInside s (node.Array i e) = Unit
-NamedInside s (node.Procedure i j) = Unit
-NamedInside s (node.Refused e) = Unit
 
 -- a list's indices are there
 abbrev pub ListInside : List ℕ → Arguments → Type 0

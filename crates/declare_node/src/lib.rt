@@ -16,7 +16,7 @@ ghost use Rattle.record_data.specs.Said.{typeValues};
 ghost use Rattle.declare_node.specs.Sizes.{kindSize, primitiveSize};
 ghost use Rattle.declare_node.specs.Looked.{declaredLeaves, listLeaves, asPrimitive, byLeaf, bytesSeen, held, saidLooked, recordSeen, typeSeen};
 ghost use Rattle.declare_node.specs.Nodes.{typeIndex, leafIn, sizedIn, sizedBy, sizeThrough, extentOf, nameIn, pointerQuals, modifierQuals, nodeIn, nodeOf, listBy, listOf, indexAt};
-ghost use Rattle.declare_node.specs.Inside.{HeldAt, HeldInside, NamedInside, ListInside};
+ghost use Rattle.declare_node.specs.Inside.{HeldAt, HeldInside, ListInside};
 use answer::Refusal;
 use field::fixed;
 use field::fixed::Read16;
@@ -509,7 +509,7 @@ fn node_in(s: &[u8], f: ItemFinder, t: &[u32], p: usize, n: usize, d: TypeData) 
 
 // What type i is.
 pub fn node_of(s: &[u8], f: ItemFinder, t: &[u32], i: TypeIndex) -> Node
-    ensures { λ r. ⌜ (r ≡ nodeOf (now (s .entry)) (state f (now (t .entry))) (i .0)) × NamedInside (now (s .entry)) r ⌝ }
+    ensures { λ r. ⌜ r ≡ nodeOf (now (s .entry)) (state f (now (t .entry))) (i .0) ⌝ }
 {
     match look(s, f, t, i) {
         Looked::Numbered(p) => {

@@ -1,7 +1,6 @@
 use Rattle.answer.proofs.Told.{told}
 use Rattle.declare_node.specs.Looked.{saidLooked}
 use Rattle.declare_node.specs.Nodes.{nodeOf}
-use Rattle.declare_node.proofs.NodeLaws.{node-inside}
 use borrow.Author.Needs.{needs}
 use Rattle.declare_node.proofs.node_of.Statement.{statement}
 use Rattle.declare_node.proofs.node_of.Tie as tie
@@ -21,7 +20,7 @@ enum-known-p c = search needs
 -- src/lib.rt:474:13
 returns : tie.Need-returns
 unfolding nodeOf
-returns c = (rw (told saidLooked (c .before .before .before .look .ensures .0) (c .before .p .given .1)), tt)
+returns c = rw (told saidLooked (c .before .before .before .look .ensures .0) (c .before .p .given .1))
 
 -- src/lib.rt:476:22
 enum-known-p-2 : tie.Need-enum-known-p-2
@@ -34,7 +33,7 @@ node-in-requires c κs = (rw (c .before .p2 .given .1) at (c .before .before .be
 -- src/lib.rt:477:13
 returns-2 : tie.Need-returns-2
 unfolding nodeOf
-returns-2 c = (rw (told saidLooked (c .before .before .before .before .look .ensures .0) (c .before .before .p2 .given .1)) (c .node-in .ensures), node-inside _ _ _ _ _ _ _ (c .node-in .ensures) (rw (c .before .before .p2 .given .1) at (c .before .before .before .before .look .ensures .1)))
+returns-2 c = rw (told saidLooked (c .before .before .before .before .look .ensures .0) (c .before .before .p2 .given .1)) (c .node-in .ensures)
 
 -- src/lib.rt:479:25
 enum-known-w : tie.Need-enum-known-w
@@ -43,7 +42,7 @@ enum-known-w c = search needs
 -- src/lib.rt:480:13
 returns-3 : tie.Need-returns-3
 unfolding nodeOf
-returns-3 c = (rw (told saidLooked (c .before .before .before .look .ensures .0) (c .before .w .given .1)), tt)
+returns-3 c = rw (told saidLooked (c .before .before .before .look .ensures .0) (c .before .w .given .1))
 
 pub node-of-spec : {M : Type 1} → statement M
 node-of-spec =

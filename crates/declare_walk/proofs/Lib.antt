@@ -1,0 +1,3 @@
+pub mod StepLaws
+pub mod RoomLaws
+pub mod WalkLaws
