@@ -85,7 +85,7 @@ module _ (s : List ℕ) (t : State) (d i room : ℕ) (a : Around) (h : 0 < d) (o
       module _ (u v : ℕ) (c : measured.Fits u v ≡ capped (room - x - y) (argsIn s t (d - 1) (g .0))) where
         pub call-shut : room - x - y - (u + v) < length (textOf s z) → measured.Refused refusal.NoRoom ≡ capped room (walk s t d i a)
         call-shut h₁ =
-            sym (inside ∙ ap (grown x y) (joined-fits (room - x - y) u v (argsIn s t (d - 1) (g .0)) _ c ∙ ap (grown 0 (u + v)) (over (room - x - y - (u + v)) [] (textOf s z) (walk s t (d - 1) (j .0) b) h₁)))
+            sym (inside ∙ ap (grown x y) (joined-fits (room - x - y) u v (argsIn s t (d - 1) (g .0)) _ c ∙ ap (grown 0 (u + v)) (over (room - x - y - (u + v)) [] (textOf s z) (walk s t (d - 1) (j .0) b) (omega arith))))
 
         pub call-is : (k₁ : ℕ) (m : Measured) → k₁ ≡ length (textOf s z) → k₁ ≤ room - x - y - (u + v) → m ≡ capped (room - x - y - (u + v) - k₁) (walk s t (d - 1) (j .0) b)
             → grown x y (grown 0 (u + v) (grown 0 k₁ m)) ≡ capped room (walk s t d i a)

@@ -128,7 +128,7 @@ fn primitive_piece(k: PrimitiveKind, y: Indirection, a: Around) -> Piece
 }
 
 // What type i adds.
-pub fn step(s: &[u8], f: ItemFinder, t: &[u32], i: TypeIndex, a: Around) -> Step
+pub fn step_of(s: &[u8], f: ItemFinder, t: &[u32], i: TypeIndex, a: Around) -> Step
     ensures { λ r. ⌜ r ≡ stepOf (now (s .entry)) (state f (now (t .entry))) (i .0) a ⌝ }
 {
     let quals = a.quals;
@@ -205,7 +205,7 @@ pub fn declarator(
     if d == 0 {
         return Measured::Refused(Refusal::TooDeep);
     }
-    match step(s, f, t, i, a) {
+    match step_of(s, f, t, i, a) {
         Step::Last(p) => {
             let n = declare_piece::len(s, p);
             if room < n {
@@ -242,7 +242,7 @@ pub fn declarator(
             if room - x < y {
                 return Measured::Refused(Refusal::NoRoom);
             }
-            match arguments(s, f, t, g, d - 1, room - x - y) {
+            match arguments(s, f, t, g.0, d - 1, room - x - y) {
                 Measured::Fits(u, v) => {
                     let w = u + v;
                     let more = room - x - y - w;
@@ -273,10 +273,10 @@ pub fn declarator(
 }
 
 // The arguments of list g, from left to right.
-fn arguments(s: &[u8], f: ItemFinder, t: &[u32], g: TypeIndex, d: u32, room: usize) -> Measured
-    ensures { λ r. ⌜ r ≡ capped room (listed (λ j. walk (now (s .entry)) (state f (now (t .entry))) d j startOf) (now (s .entry)) (listOf (now (s .entry)) (state f (now (t .entry))) (g .0))) ⌝ }
+fn arguments(s: &[u8], f: ItemFinder, t: &[u32], g: u32, d: u32, room: usize) -> Measured
+    ensures { λ r. ⌜ r ≡ capped room (listed (λ j. walk (now (s .entry)) (state f (now (t .entry))) d j startOf) (now (s .entry)) (listOf (now (s .entry)) (state f (now (t .entry))) g)) ⌝ }
 {
-    match declare_node::list_of(s, f, t, g) {
+    match declare_node::list_of(s, f, t, TypeIndex(g)) {
         Arguments::At(p, n) => {
             if n == 0 {
                 if room < 4 {

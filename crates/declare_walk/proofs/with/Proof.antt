@@ -17,9 +17,12 @@ either-requires-2 c κs = search needs
 either-requires-3 : tie.Need-either-requires-3
 either-requires-3 c κs = search needs
 
+either-requires-4 : tie.Need-either-requires-4
+either-requires-4 c κs = search needs
+
 -- src/steps.rt:41:1
 returns : tie.Need-returns
-returns c = rw (c .before .before .either .ensures, c .before .either2 .ensures, c .either3 .ensures)
+returns c = rw (c .before .before .before .either .ensures, c .before .before .either2 .ensures, c .before .either3 .ensures, c .either4 .ensures)
 
 pub with-spec : {M : Type 1} → statement M
-with-spec = tie.close (tie.spec either-requires either-requires-2 either-requires-3 returns)
+with-spec = tie.close (tie.spec either-requires either-requires-2 either-requires-3 either-requires-4 returns)

@@ -1,0 +1,5 @@
+pub mod PutLaws
+pub mod SideLaws
+pub mod RowLaws
+pub mod WriteLaws
+pub mod DeclareLaws
