@@ -1,5 +1,6 @@
 // Answers the commands of compare/PROTOCOL.md: reads them from standard input, one to a line, and prints the port's answers, so that any list
 // of vectors can be run against it. Each line comes from one public function of the libraries.
+mod declare_lines;
 mod input;
 mod items;
 mod lines;
@@ -260,7 +261,8 @@ fn name_of(letters: &[u8; 16], n: usize) -> Name {
           createby:nat updateby:nnnntnn findinby:nannntn maxindexby:nnnn findby:naun \
           wunsigned:a wsigned:a wtype:a welement:na \
           save:nnannnt load:abt \
-          writeheader:n write:n rewrite:a rewriteid:a ",
+          writeheader:n write:n rewrite:a rewriteid:a \
+          declare:nan ",
     )
 }
 
@@ -314,6 +316,10 @@ fn carry_out<'a>(
     }
     if command == 46 {
         return write_lines::write(buffer, a.input, n[0]);
+    }
+    if command == 49 {
+        declare_lines::declare(tpi, places, input::low32(n[1]), n[0]);
+        return a.input;
     }
     write_lines::rewrite(tpi, command == 48);
     a.input

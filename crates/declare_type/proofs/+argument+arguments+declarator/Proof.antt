@@ -1,3 +1,14 @@
+use native.Mathlib.Omega.{arith}
+use borrow.Author.Needs.{needs}
+use Prim.Native.Nat.{_≤_, _+_, _*_, _-_}
+use mathlib.Core.Path.{_≡_, sym, _∙_}
+use lib.ListN.{length}
+use Rattle.stream_finder.specs.Finder.{state}
+use Rattle.declare_walk.specs.Steps.{startOf}
+use Rattle.declare_walk.specs.Walk.{walk, restOf}
+use Rattle.declare_type.specs.Sides.{Rest}
+use Rattle.declare_type.proofs.WriteLaws.{room-as, both-as, no-room, deep-eq, refused-eq, last-eq, inward-eq, call-eq, last-small, last-fits, last-both, left-small, left-fits, right-fits, inner-room, inner-both, args-room, close-fits, after-room, after-both, argument-fits, argument-sides, argument-puts, argument-never}
+use Rattle.declare_type.proofs.RowLaws.{never-refused, void-room, void-puts, argument-room, argument-rest, argument-all, rest-all, comma-fits, next-room, next-rest}
 use Prim.Native.Nat.{ℕ, _<_}
 use borrow.Fn.Kinds.{In}
 use borrow.Fn.PlainCycle.{Measures, is, falls, and}
@@ -21,13 +32,13 @@ use Rattle.declare_type.proofs.+argument+arguments+declarator.{statemen
 use Rattle.declare_type.proofs.+argument+arguments+declarator.Tie.{close}
 
 abbrev μ-argument : Measures 3 argument-kinds.ps ℕ
-μ-argument κs a = ?
+μ-argument κs a = 3 * a .1 .1 .1 .1 .0 + 1
 
 abbrev μ-arguments : Measures 3 arguments-kinds.ps ℕ
-μ-arguments κs a = ?
+μ-arguments κs a = 3 * a .1 .1 .1 .1 .0 + 2
 
 abbrev μ-declarator : Measures 3 declarator-kinds.ps ℕ
-μ-declarator κs a = ?
+μ-declarator κs a = 3 * a .1 .1 .1 .1 .0
 
 abbrev argument-at : ℕ → In 3 argument-kinds.ps
 argument-at t = and 3 argument-kinds.ps (is 3 argument-kinds.ps μ-argument t) argument.Pre
@@ -60,7 +71,7 @@ argument-start-requires : (t : ℕ) → argument-lts.Need-start-requires (
   declarator-below t,
   declarator.Post,
 ) (argument-at t) argument.Post
-argument-start-requires t c κs = ?
+argument-start-requires t c κs = omega arith
 
 -- src/lib.rt:150:16
 argument-sub-room : (t : ℕ) → argument-lts.Need-sub-room (
@@ -71,7 +82,7 @@ argument-sub-room : (t : ℕ) → argument-lts.Need-sub-room (
   declarator-below t,
   declarator.Post,
 ) (argument-at t) argument.Post
-argument-sub-room t c = ?
+argument-sub-room t c = omega (arith, (c .before .before .before .before .pre .1) .high)
 
 -- src/lib.rt:151:11
 argument-declarator-requires : (t : ℕ) → argument-lts.Need-declarator-requires (
@@ -82,7 +93,7 @@ argument-declarator-requires : (t : ℕ) → argument-lts.Need-declarator-requir
   declarator-below t,
   declarator.Post,
 ) (argument-at t) argument.Post
-argument-declarator-requires t c κs = ?
+argument-declarator-requires t c κs = tt
 
 -- src/lib.rt:152:24
 argument-enum-known-l : (t : ℕ) → argument-lts.Need-enum-known-l (
@@ -93,7 +104,7 @@ argument-enum-known-l : (t : ℕ) → argument-lts.Need-enum-known-l (
   declarator-below t,
   declarator.Post,
 ) (argument-at t) argument.Post
-argument-enum-known-l t c = ?
+argument-enum-known-l t c = search needs
 
 -- src/lib.rt:153:21
 argument-add-m : (t : ℕ) → argument-lts.Need-add-m (
@@ -104,7 +115,7 @@ argument-add-m : (t : ℕ) → argument-lts.Need-add-m (
   declarator-below t,
   declarator.Post,
 ) (argument-at t) argument.Post
-argument-add-m t c = ?
+argument-add-m t c = omega (arith, argument-fits _ _ _ (c .before .before .before .before .before .before .before .before .pre .1) _ _ (rw (c .before .before .before .before .start .ensures) at (sym (c .before .l .given .1) ∙ c .before .before .before .declarator .ensures)), c .before .before .before .before .before .before .before .before .good .1 .1 .1 .1 .1 .0 .0)
 
 -- src/lib.rt:154:13
 argument-declarator-requires-2 : (t : ℕ) → argument-lts.Need-declarator-requires-2 (
@@ -115,7 +126,7 @@ argument-declarator-requires-2 : (t : ℕ) → argument-lts.Need-declarator-requ
   declarator-below t,
   declarator.Post,
 ) (argument-at t) argument.Post
-argument-declarator-requires-2 t c κs = ?
+argument-declarator-requires-2 t c κs = (omega (arith, c .before .before .before .before .before .before .before .before .before .pre .0), rw (c .before .before .before .before .before .start .ensures) (argument-sides _ _ _ (c .before .before .before .before .before .before .before .before .before .pre .1) _ _ (rw (c .before .before .before .before .before .start .ensures) at (sym (c .before .before .l .given .1) ∙ c .before .before .before .before .declarator .ensures))))
 
 -- src/lib.rt:154:13
 argument-same-length : (t : ℕ) → argument-lts.Need-same-length (
@@ -126,7 +137,7 @@ argument-same-length : (t : ℕ) → argument-lts.Need-same-length (
   declarator-below t,
   declarator.Post,
 ) (argument-at t) argument.Post
-argument-same-length t c = ?
+argument-same-length t c = search needs
 
 -- src/lib.rt:154:13
 argument-returns : (t : ℕ) → argument-lts.Need-returns (
@@ -137,7 +148,7 @@ argument-returns : (t : ℕ) → argument-lts.Need-returns (
   declarator-below t,
   declarator.Post,
 ) (argument-at t) argument.Post
-argument-returns t c = ?
+argument-returns t c = argument-puts _ _ _ (c .before .before .before .before .before .before .before .before .before .before .before .before .pre .1) _ _ _ _ (rw (c .before .before .before .before .before .before .before .before .start .ensures) at (sym (c .before .before .before .before .before .l .given .1) ∙ c .before .before .before .before .before .before .before .declarator .ensures)) (rw (c .before .before .before .before .before .before .before .before .start .ensures) at (c .before .before .declarator2 .ensures))
 
 -- src/lib.rt:157:13
 argument-enum-told : (t : ℕ) → argument-lts.Need-enum-told (
@@ -148,7 +159,7 @@ argument-enum-told : (t : ℕ) → argument-lts.Need-enum-told (
   declarator-below t,
   declarator.Post,
 ) (argument-at t) argument.Post
-argument-enum-told t c = ?
+argument-enum-told t c = search needs
 
 -- src/lib.rt:157:13
 argument-returns-2 : (t : ℕ) → argument-lts.Need-returns-2 (
@@ -159,13 +170,15 @@ argument-returns-2 : (t : ℕ) → argument-lts.Need-returns-2 (
   declarator-below t,
   declarator.Post,
 ) (argument-at t) argument.Post
-argument-returns-2 t c = ?
+argument-returns-2 t c = argument-never _ _ _ (c .before .before .before .before .before .before .before .pre .1) _ (rw (c .before .before .before .start .ensures) at (sym (c .enum-told .given .1) ∙ c .before .before .declarator .ensures))
 
 abbrev arguments-Inv-loop : arguments-lts.InvT-loop
-arguments-Inv-loop s f t g d out₀ at p n e₀ q₀ left₀ out e q left = ?
+arguments-Inv-loop s f t g d out₀ at p n e₀ q₀ left₀ out e q left =
+    (q + 4 * left ≤ length s)
+    × Rest (restOf (λ j. walk s (state f t) d j startOf) s q left) (restOf (λ j. walk s (state f t) d j startOf) s q₀ left₀) out e out₀ e₀
 
 abbrev arguments-μ-loop : arguments-lts.MeasureT-loop
-arguments-μ-loop s f t g d out₀ at p n e₀ q₀ left₀ out e q left = ?
+arguments-μ-loop s f t g d out₀ at p n e₀ q₀ left₀ out e q left = left
 
 -- src/lib.rt:112:11
 arguments-list-of-requires : (t : ℕ) → arguments-lts.Need-list-of-requires (
@@ -178,7 +191,7 @@ arguments-list-of-requires : (t : ℕ) → arguments-lts.Need-list-of-requires (
   argument-below t,
   argument.Post,
 ) (arguments-at t) arguments.Post arguments-Inv-loop arguments-μ-loop
-arguments-list-of-requires t c κs = ?
+arguments-list-of-requires t c κs = omega arith
 
 -- src/lib.rt:113:23
 arguments-enum-known-p : (t : ℕ) → arguments-lts.Need-enum-known-p (
@@ -191,7 +204,7 @@ arguments-enum-known-p : (t : ℕ) → arguments-lts.Need-enum-known-p (
   argument-below t,
   argument.Post,
 ) (arguments-at t) arguments.Post arguments-Inv-loop arguments-μ-loop
-arguments-enum-known-p t c = ?
+arguments-enum-known-p t c = search needs
 
 -- src/lib.rt:115:17
 arguments-piece-requires : (t : ℕ) → arguments-lts.Need-piece-requires (
@@ -204,7 +217,7 @@ arguments-piece-requires : (t : ℕ) → arguments-lts.Need-piece-requires (
   argument-below t,
   argument.Post,
 ) (arguments-at t) arguments.Post arguments-Inv-loop arguments-μ-loop
-arguments-piece-requires t c κs = ?
+arguments-piece-requires t c κs = void-room (λ j. walk (c .before .before .before .before .before .before .before .before .before .args .s .now) (state (c .before .before .before .before .before .before .before .before .before .args .f) (c .before .before .before .before .before .before .before .before .before .args .t .now)) (c .before .before .before .before .before .before .before .before .before .args .d) j startOf) _ _ _ _ _ _ (c .before .before .before .before .before .list-of .ensures .0) (c .before .before .before .before .before .before .before .before .before .pre .1) _ _ (c .before .before .before .p .given .1) (c .before .if1 .taken)
 
 -- src/lib.rt:115:17
 arguments-same-length : (t : ℕ) → arguments-lts.Need-same-length (
@@ -217,7 +230,7 @@ arguments-same-length : (t : ℕ) → arguments-lts.Need-same-length (
   argument-below t,
   argument.Post,
 ) (arguments-at t) arguments.Post arguments-Inv-loop arguments-μ-loop
-arguments-same-length t c = ?
+arguments-same-length t c = search needs
 
 -- src/lib.rt:115:17
 arguments-returns : (t : ℕ) → arguments-lts.Need-returns (
@@ -230,7 +243,7 @@ arguments-returns : (t : ℕ) → arguments-lts.Need-returns (
   argument-below t,
   argument.Post,
 ) (arguments-at t) arguments.Post arguments-Inv-loop arguments-μ-loop
-arguments-returns t c = ?
+arguments-returns t c = void-puts (λ j. walk (c .before .before .before .before .before .before .before .before .before .before .before .before .args .s .now) (state (c .before .before .before .before .before .before .before .before .before .before .before .before .args .f) (c .before .before .before .before .before .before .before .before .before .before .before .before .args .t .now)) (c .before .before .before .before .before .before .before .before .before .before .before .before .args .d) j startOf) _ _ _ _ _ _ (c .before .before .before .before .before .before .before .before .list-of .ensures .0) (c .before .before .before .before .before .before .before .before .before .before .before .before .pre .1) _ _ (c .before .before .before .before .before .before .p .given .1) _ _ (c .before .before .before .before .if1 .taken) (c .before .before .piece .ensures)
 
 -- src/lib.rt:117:17
 arguments-index-at-requires : (t : ℕ) → arguments-lts.Need-index-at-requires (
@@ -243,7 +256,7 @@ arguments-index-at-requires : (t : ℕ) → arguments-lts.Need-index-at-requires
   argument-below t,
   argument.Post,
 ) (arguments-at t) arguments.Post arguments-Inv-loop arguments-μ-loop
-arguments-index-at-requires t c κs = ?
+arguments-index-at-requires t c κs = tt
 
 -- src/lib.rt:118:17
 arguments-argument-requires : (t : ℕ) → arguments-lts.Need-argument-requires (
@@ -256,7 +269,7 @@ arguments-argument-requires : (t : ℕ) → arguments-lts.Need-argument-requires
   argument-below t,
   argument.Post,
 ) (arguments-at t) arguments.Post arguments-Inv-loop arguments-μ-loop
-arguments-argument-requires t c κs = ?
+arguments-argument-requires t c κs = (omega (arith, c .before .before .before .before .before .before .before .before .before .before .pre .0), rw (c .before .index-at .ensures) (argument-room (λ j. walk (c .before .before .before .before .before .before .before .before .before .before .args .s .now) (state (c .before .before .before .before .before .before .before .before .before .before .args .f) (c .before .before .before .before .before .before .before .before .before .before .args .t .now)) (c .before .before .before .before .before .before .before .before .before .before .args .d) j startOf) _ _ _ _ _ _ (c .before .before .before .before .before .before .list-of .ensures .0) (c .before .before .before .before .before .before .before .before .before .before .pre .1) _ _ (c .before .before .before .before .p .given .1) (omega arith)))
 
 -- src/lib.rt:119:25
 arguments-add-q : (t : ℕ) → arguments-lts.Need-add-q (
@@ -269,7 +282,7 @@ arguments-add-q : (t : ℕ) → arguments-lts.Need-add-q (
   argument-below t,
   argument.Post,
 ) (arguments-at t) arguments.Post arguments-Inv-loop arguments-μ-loop
-arguments-add-q t c = ?
+arguments-add-q t c = omega (arith, (rw (c .before .before .before .before .before .before .before .p .given .1) at (c .before .before .before .before .before .before .before .before .before .list-of .ensures .1)), c .before .before .before .before .before .before .before .before .before .before .before .before .before .good .0 .1)
 
 -- src/lib.rt:120:28
 arguments-sub-left : (t : ℕ) → arguments-lts.Need-sub-left (
@@ -282,7 +295,7 @@ arguments-sub-left : (t : ℕ) → arguments-lts.Need-sub-left (
   argument-below t,
   argument.Post,
 ) (arguments-at t) arguments.Post arguments-Inv-loop arguments-μ-loop
-arguments-sub-left t c = ?
+arguments-sub-left t c = omega arith
 
 -- src/lib.rt:121:13
 arguments-loop-holds : (t : ℕ) → arguments-lts.Need-loop-holds (
@@ -295,7 +308,7 @@ arguments-loop-holds : (t : ℕ) → arguments-lts.Need-loop-holds (
   argument-below t,
   argument.Post,
 ) (arguments-at t) arguments.Post arguments-Inv-loop arguments-μ-loop
-arguments-loop-holds t c = ?
+arguments-loop-holds t c = (omega (arith, (rw (c .before .before .before .before .before .before .before .p .given .1) at (c .before .before .before .before .before .before .before .before .before .list-of .ensures .1))), argument-rest (λ j. walk (c .before .before .before .before .before .before .before .before .before .before .before .before .before .args .s .now) (state (c .before .before .before .before .before .before .before .before .before .before .before .before .before .args .f) (c .before .before .before .before .before .before .before .before .before .before .before .before .before .args .t .now)) (c .before .before .before .before .before .before .before .before .before .before .before .before .before .args .d) j startOf) _ _ _ _ _ _ (c .before .before .before .before .before .before .before .before .before .list-of .ensures .0) (c .before .before .before .before .before .before .before .before .before .before .before .before .before .pre .1) _ _ (c .before .before .before .before .before .before .before .p .given .1) _ _ (omega arith) (rw (c .before .before .before .before .index-at .ensures) at (c .before .before .argument .ensures)))
 
 -- src/lib.rt:122:21
 arguments-piece-requires-2 : (t : ℕ) → arguments-lts.Need-piece-requires-2 (
@@ -308,7 +321,7 @@ arguments-piece-requires-2 : (t : ℕ) → arguments-lts.Need-piece-requires-2 (
   argument-below t,
   argument.Post,
 ) (arguments-at t) arguments.Post arguments-Inv-loop arguments-μ-loop
-arguments-piece-requires-2 t c κs = ?
+arguments-piece-requires-2 t c κs = comma-fits (λ j. walk (c .before .before .before .before .before .before .before .before .before .before .before .before .before .before .before .before .args .s .now) (state (c .before .before .before .before .before .before .before .before .before .before .before .before .before .before .before .before .args .f) (c .before .before .before .before .before .before .before .before .before .before .before .before .before .before .before .before .args .t .now)) (c .before .before .before .before .before .before .before .before .before .before .before .before .before .before .before .before .args .d) j startOf) _ _ _ _ _ _ _ _ (c .before .before .loop .inv .1) (omega arith)
 
 -- src/lib.rt:123:21
 arguments-index-at-requires-2 : (t : ℕ) → arguments-lts.Need-index-at-requires-2 (
@@ -321,7 +334,7 @@ arguments-index-at-requires-2 : (t : ℕ) → arguments-lts.Need-index-at-requir
   argument-below t,
   argument.Post,
 ) (arguments-at t) arguments.Post arguments-Inv-loop arguments-μ-loop
-arguments-index-at-requires-2 t c κs = ?
+arguments-index-at-requires-2 t c κs = tt
 
 -- src/lib.rt:124:17
 arguments-argument-requires-2 : (t : ℕ) → arguments-lts.Need-argument-requires-2 (
@@ -334,7 +347,7 @@ arguments-argument-requires-2 : (t : ℕ) → arguments-lts.Need-argument-requir
   argument-below t,
   argument.Post,
 ) (arguments-at t) arguments.Post arguments-Inv-loop arguments-μ-loop
-arguments-argument-requires-2 t c κs = ?
+arguments-argument-requires-2 t c κs = (omega (arith, c .before .before .before .before .before .before .before .before .before .before .before .before .before .before .before .before .before .before .before .before .before .pre .0), rw (c .before .index-at2 .ensures) (next-room (λ j. walk (c .before .before .before .before .before .before .before .before .before .before .before .before .before .before .before .before .before .before .before .before .before .args .s .now) (state (c .before .before .before .before .before .before .before .before .before .before .before .before .before .before .before .before .before .before .before .before .before .args .f) (c .before .before .before .before .before .before .before .before .before .before .before .before .before .before .before .before .before .before .before .before .before .args .t .now)) (c .before .before .before .before .before .before .before .before .before .before .before .before .before .before .before .before .before .before .before .before .before .args .d) j startOf) _ _ _ _ _ _ _ _ (c .before .before .before .before .before .before .before .loop .inv .1) _ _ (omega arith) (c .before .before .before .before .piece2 .ensures)))
 
 -- src/lib.rt:125:21
 arguments-add-q-2 : (t : ℕ) → arguments-lts.Need-add-q-2 (
@@ -347,7 +360,7 @@ arguments-add-q-2 : (t : ℕ) → arguments-lts.Need-add-q-2 (
   argument-below t,
   argument.Post,
 ) (arguments-at t) arguments.Post arguments-Inv-loop arguments-μ-loop
-arguments-add-q-2 t c = ?
+arguments-add-q-2 t c = omega (arith, c .before .before .before .before .before .before .before .before .before .before .before .before .before .before .before .before .before .before .before .before .before .before .before .before .good .0 .1)
 
 -- src/lib.rt:126:24
 arguments-sub-left-2 : (t : ℕ) → arguments-lts.Need-sub-left-2 (
@@ -360,7 +373,7 @@ arguments-sub-left-2 : (t : ℕ) → arguments-lts.Need-sub-left-2 (
   argument-below t,
   argument.Post,
 ) (arguments-at t) arguments.Post arguments-Inv-loop arguments-μ-loop
-arguments-sub-left-2 t c = ?
+arguments-sub-left-2 t c = omega arith
 
 -- src/lib.rt:121:13
 arguments-loop-less : (t : ℕ) → arguments-lts.Need-loop-less (
@@ -373,7 +386,7 @@ arguments-loop-less : (t : ℕ) → arguments-lts.Need-loop-less (
   argument-below t,
   argument.Post,
 ) (arguments-at t) arguments.Post arguments-Inv-loop arguments-μ-loop
-arguments-loop-less t c = ?
+arguments-loop-less t c = omega arith
 
 -- src/lib.rt:121:13
 arguments-loop-again : (t : ℕ) → arguments-lts.Need-loop-again (
@@ -386,7 +399,7 @@ arguments-loop-again : (t : ℕ) → arguments-lts.Need-loop-again (
   argument-below t,
   argument.Post,
 ) (arguments-at t) arguments.Post arguments-Inv-loop arguments-μ-loop
-arguments-loop-again t c = ?
+arguments-loop-again t c = (omega arith, next-rest (λ j. walk (c .before .before .before .before .before .before .before .before .before .before .before .before .before .before .before .before .before .before .before .before .before .before .before .before .args .s .now) (state (c .before .before .before .before .before .before .before .before .before .before .before .before .before .before .before .before .before .before .before .before .before .before .before .before .args .f) (c .before .before .before .before .before .before .before .before .before .before .before .before .before .before .before .before .before .before .before .before .before .before .before .before .args .t .now)) (c .before .before .before .before .before .before .before .before .before .before .before .before .before .before .before .before .before .before .before .before .before .before .before .before .args .d) j startOf) _ _ _ _ _ _ _ _ (c .before .before .before .before .before .before .before .before .before .before .loop .inv .1) _ _ _ _ (omega arith) (c .before .before .before .before .before .before .before .piece2 .ensures) (rw (c .before .before .before .before .index-at2 .ensures) at (c .before .before .argument2 .ensures)))
 
 -- src/lib.rt:128:13
 arguments-same-length-2 : (t : ℕ) → arguments-lts.Need-same-length-2 (
@@ -399,7 +412,7 @@ arguments-same-length-2 : (t : ℕ) → arguments-lts.Need-same-length-2 (
   argument-below t,
   argument.Post,
 ) (arguments-at t) arguments.Post arguments-Inv-loop arguments-μ-loop
-arguments-same-length-2 t c = ?
+arguments-same-length-2 t c = c .before .loop .inv .1 .same ∙ c .before .before .before .before .argument .kept .1 .1 .1 .1 .1 .0
 
 -- src/lib.rt:128:13
 arguments-returns-2 : (t : ℕ) → arguments-lts.Need-returns-2 (
@@ -412,7 +425,7 @@ arguments-returns-2 : (t : ℕ) → arguments-lts.Need-returns-2 (
   argument-below t,
   argument.Post,
 ) (arguments-at t) arguments.Post arguments-Inv-loop arguments-μ-loop
-arguments-returns-2 t c = ?
+arguments-returns-2 t c = argument-all (λ j. walk (c .before .before .before .before .before .before .before .before .before .before .before .before .before .before .before .args .s .now) (state (c .before .before .before .before .before .before .before .before .before .before .before .before .before .before .before .args .f) (c .before .before .before .before .before .before .before .before .before .before .before .before .before .before .before .args .t .now)) (c .before .before .before .before .before .before .before .before .before .before .before .before .before .before .before .args .d) j startOf) _ _ _ _ _ _ (c .before .before .before .before .before .before .before .before .before .before .before .list-of .ensures .0) (c .before .before .before .before .before .before .before .before .before .before .before .before .before .before .before .pre .1) _ _ (c .before .before .before .before .before .before .before .before .before .p .given .1) _ _ (omega arith) (rw (c .before .before .before .before .before .before .index-at .ensures) at (c .before .before .before .before .argument .ensures)) _ _ (rest-all (λ j. walk (c .before .before .before .before .before .before .before .before .before .before .before .before .before .before .before .args .s .now) (state (c .before .before .before .before .before .before .before .before .before .before .before .before .before .before .before .args .f) (c .before .before .before .before .before .before .before .before .before .before .before .before .before .before .before .args .t .now)) (c .before .before .before .before .before .before .before .before .before .before .before .before .before .before .before .args .d) j startOf) _ _ _ _ _ _ _ _ (c .before .loop .inv .1) (omega arith))
 
 -- src/lib.rt:131:13
 arguments-enum-told : (t : ℕ) → arguments-lts.Need-enum-told (
@@ -425,7 +438,7 @@ arguments-enum-told : (t : ℕ) → arguments-lts.Need-enum-told (
   argument-below t,
   argument.Post,
 ) (arguments-at t) arguments.Post arguments-Inv-loop arguments-μ-loop
-arguments-enum-told t c = ?
+arguments-enum-told t c = search needs
 
 -- src/lib.rt:131:13
 arguments-returns-3 : (t : ℕ) → arguments-lts.Need-returns-3 (
@@ -438,7 +451,7 @@ arguments-returns-3 : (t : ℕ) → arguments-lts.Need-returns-3 (
   argument-below t,
   argument.Post,
 ) (arguments-at t) arguments.Post arguments-Inv-loop arguments-μ-loop
-arguments-returns-3 t c = ?
+arguments-returns-3 t c = never-refused (λ j. walk (c .before .before .before .before .before .before .args .s .now) (state (c .before .before .before .before .before .before .args .f) (c .before .before .before .before .before .before .args .t .now)) (c .before .before .before .before .before .before .args .d) j startOf) _ _ _ _ _ _ (c .before .before .list-of .ensures .0) (c .before .before .before .before .before .before .pre .1) _ (c .enum-told .given .1)
 
 -- src/lib.rt:76:9
 declarator-returns : (t : ℕ) → declarator-lts.Need-returns (
@@ -453,7 +466,7 @@ declarator-returns : (t : ℕ) → declarator-lts.Need-returns (
   arguments-below t,
   arguments.Post,
 ) (declarator-at t) declarator.Post
-declarator-returns t c = ?
+declarator-returns t c = no-room _ _ _ _ _ _ (deep-eq _ _ (c .before .before .before .before .args .d) _ _ (c .if1 .taken)) (c .before .before .before .before .pre .1)
 
 -- src/lib.rt:78:11
 declarator-step-of-requires : (t : ℕ) → declarator-lts.Need-step-of-requires (
@@ -468,7 +481,7 @@ declarator-step-of-requires : (t : ℕ) → declarator-lts.Need-step-of-requires
   arguments-below t,
   arguments.Post,
 ) (declarator-at t) declarator.Post
-declarator-step-of-requires t c κs = ?
+declarator-step-of-requires t c κs = omega arith
 
 -- src/lib.rt:79:20
 declarator-enum-known-p : (t : ℕ) → declarator-lts.Need-enum-known-p (
@@ -483,7 +496,7 @@ declarator-enum-known-p : (t : ℕ) → declarator-lts.Need-enum-known-p (
   arguments-below t,
   arguments.Post,
 ) (declarator-at t) declarator.Post
-declarator-enum-known-p t c = ?
+declarator-enum-known-p t c = search needs
 
 -- src/lib.rt:80:17
 declarator-len-requires : (t : ℕ) → declarator-lts.Need-len-requires (
@@ -498,7 +511,7 @@ declarator-len-requires : (t : ℕ) → declarator-lts.Need-len-requires (
   arguments-below t,
   arguments.Post,
 ) (declarator-at t) declarator.Post
-declarator-len-requires t c κs = ?
+declarator-len-requires t c κs = tt
 
 -- src/lib.rt:81:22
 declarator-sub-at : (t : ℕ) → declarator-lts.Need-sub-at (
@@ -513,7 +526,7 @@ declarator-sub-at : (t : ℕ) → declarator-lts.Need-sub-at (
   arguments-below t,
   arguments.Post,
 ) (declarator-at t) declarator.Post
-declarator-sub-at t c = ?
+declarator-sub-at t c = omega (arith, last-small _ _ _ _ _ (c .before .before .before .before .before .before .before .before .before .pre .1) (last-eq _ _ (c .before .before .before .before .before .before .before .before .before .args .d) _ _ (omega (arith, c .before .before .before .before .before .if1 .left)) _ (c .before .before .before .before .step-of .ensures) _ (c .before .before .p .given .1)))
 
 -- src/lib.rt:82:13
 declarator-piece-requires : (t : ℕ) → declarator-lts.Need-piece-requires (
@@ -528,7 +541,7 @@ declarator-piece-requires : (t : ℕ) → declarator-lts.Need-piece-requires (
   arguments-below t,
   arguments.Post,
 ) (declarator-at t) declarator.Post
-declarator-piece-requires t c κs = ?
+declarator-piece-requires t c κs = last-fits _ _ _ _ _ (c .before .before .before .before .before .before .before .before .before .before .pre .1) (last-eq _ _ (c .before .before .before .before .before .before .before .before .before .before .args .d) _ _ (omega (arith, c .before .before .before .before .before .before .if1 .left)) _ (c .before .before .before .before .before .step-of .ensures) _ (c .before .before .before .p .given .1)) _ (c .before .len .ensures)
 
 -- src/lib.rt:83:13
 declarator-same-length : (t : ℕ) → declarator-lts.Need-same-length (
@@ -543,7 +556,7 @@ declarator-same-length : (t : ℕ) → declarator-lts.Need-same-length (
   arguments-below t,
   arguments.Post,
 ) (declarator-at t) declarator.Post
-declarator-same-length t c = ?
+declarator-same-length t c = search needs
 
 -- src/lib.rt:83:13
 declarator-returns-2 : (t : ℕ) → declarator-lts.Need-returns-2 (
@@ -558,7 +571,7 @@ declarator-returns-2 : (t : ℕ) → declarator-lts.Need-returns-2 (
   arguments-below t,
   arguments.Post,
 ) (declarator-at t) declarator.Post
-declarator-returns-2 t c = ?
+declarator-returns-2 t c = last-both _ _ _ _ _ (c .before .before .before .before .before .before .before .before .before .before .before .before .before .pre .1) (last-eq _ _ (c .before .before .before .before .before .before .before .before .before .before .before .before .before .args .d) _ _ (omega (arith, c .before .before .before .before .before .before .before .before .before .if1 .left)) _ (c .before .before .before .before .before .before .before .before .step-of .ensures) _ (c .before .before .before .before .before .before .p .given .1)) _ _ _ (c .before .before .before .before .len .ensures) (c .before .before .piece .ensures)
 
 -- src/lib.rt:85:22
 declarator-enum-known-l : (t : ℕ) → declarator-lts.Need-enum-known-l (
@@ -573,7 +586,7 @@ declarator-enum-known-l : (t : ℕ) → declarator-lts.Need-enum-known-l (
   arguments-below t,
   arguments.Post,
 ) (declarator-at t) declarator.Post
-declarator-enum-known-l t c = ?
+declarator-enum-known-l t c = search needs
 
 -- src/lib.rt:86:17
 declarator-len-requires-2 : (t : ℕ) → declarator-lts.Need-len-requires-2 (
@@ -588,7 +601,7 @@ declarator-len-requires-2 : (t : ℕ) → declarator-lts.Need-len-requires-2 (
   arguments-below t,
   arguments.Post,
 ) (declarator-at t) declarator.Post
-declarator-len-requires-2 t c κs = ?
+declarator-len-requires-2 t c κs = tt
 
 -- src/lib.rt:87:22
 declarator-sub-at-2 : (t : ℕ) → declarator-lts.Need-sub-at-2 (
@@ -603,7 +616,7 @@ declarator-sub-at-2 : (t : ℕ) → declarator-lts.Need-sub-at-2 (
   arguments-below t,
   arguments.Post,
 ) (declarator-at t) declarator.Post
-declarator-sub-at-2 t c = ?
+declarator-sub-at-2 t c = omega (arith, left-small _ _ _ _ _ _ (room-as _ _ _ _ _ (inward-eq _ _ (c .before .before .before .before .before .before .before .before .before .args .d) _ _ (omega (arith, c .before .before .before .before .before .if1 .left)) _ (c .before .before .before .before .step-of .ensures) _ _ _ _ (c .before .before .l .given .1)) (c .before .before .before .before .before .before .before .before .before .pre .1)))
 
 -- src/lib.rt:88:13
 declarator-piece-requires-2 : (t : ℕ) → declarator-lts.Need-piece-requires-2 (
@@ -618,7 +631,7 @@ declarator-piece-requires-2 : (t : ℕ) → declarator-lts.Need-piece-requires-2
   arguments-below t,
   arguments.Post,
 ) (declarator-at t) declarator.Post
-declarator-piece-requires-2 t c κs = ?
+declarator-piece-requires-2 t c κs = left-fits _ _ _ _ _ _ (room-as _ _ _ _ _ (inward-eq _ _ (c .before .before .before .before .before .before .before .before .before .before .args .d) _ _ (omega (arith, c .before .before .before .before .before .before .if1 .left)) _ (c .before .before .before .before .before .step-of .ensures) _ _ _ _ (c .before .before .before .l .given .1)) (c .before .before .before .before .before .before .before .before .before .before .pre .1)) _ (c .before .len2 .ensures)
 
 -- src/lib.rt:89:17
 declarator-piece-requires-3 : (t : ℕ) → declarator-lts.Need-piece-requires-3 (
@@ -633,7 +646,7 @@ declarator-piece-requires-3 : (t : ℕ) → declarator-lts.Need-piece-requires-3
   arguments-below t,
   arguments.Post,
 ) (declarator-at t) declarator.Post
-declarator-piece-requires-3 t c κs = ?
+declarator-piece-requires-3 t c κs = right-fits _ _ _ _ _ _ (room-as _ _ _ _ _ (inward-eq _ _ (c .before .before .before .before .before .before .before .before .before .before .before .before .before .before .args .d) _ _ (omega (arith, c .before .before .before .before .before .before .before .before .before .before .if1 .left)) _ (c .before .before .before .before .before .before .before .before .before .step-of .ensures) _ _ _ _ (c .before .before .before .before .before .before .before .l .given .1)) (c .before .before .before .before .before .before .before .before .before .before .before .before .before .before .pre .1)) _ _ _ (c .before .before .before .before .before .len2 .ensures) (c .before .before .before .piece2 .ensures)
 
 -- src/lib.rt:90:43
 declarator-sub-declarator : (t : ℕ) → declarator-lts.Need-sub-declarator (
@@ -648,7 +661,7 @@ declarator-sub-declarator : (t : ℕ) → declarator-lts.Need-sub-declarator (
   arguments-below t,
   arguments.Post,
 ) (declarator-at t) declarator.Post
-declarator-sub-declarator t c = ?
+declarator-sub-declarator t c = omega arith
 
 -- src/lib.rt:90:13
 declarator-declarator-requires : (t : ℕ) → declarator-lts.Need-declarator-requires (
@@ -663,7 +676,7 @@ declarator-declarator-requires : (t : ℕ) → declarator-lts.Need-declarator-re
   arguments-below t,
   arguments.Post,
 ) (declarator-at t) declarator.Post
-declarator-declarator-requires t c κs = ?
+declarator-declarator-requires t c κs = (omega (arith, c .before .before .before .before .before .before .before .before .before .before .before .before .before .before .before .before .before .before .pre .0), inner-room _ _ _ _ _ _ (room-as _ _ _ _ _ (inward-eq _ _ (c .before .before .before .before .before .before .before .before .before .before .before .before .before .before .before .before .before .before .args .d) _ _ (omega (arith, c .before .before .before .before .before .before .before .before .before .before .before .before .before .before .if1 .left)) _ (c .before .before .before .before .before .before .before .before .before .before .before .before .before .step-of .ensures) _ _ _ _ (c .before .before .before .before .before .before .before .before .before .before .before .l .given .1)) (c .before .before .before .before .before .before .before .before .before .before .before .before .before .before .before .before .before .before .pre .1)) _ _ _ (c .before .before .before .before .before .before .before .before .before .len2 .ensures) (c .before .before .before .before .before .before .before .piece2 .ensures) _ _ (c .before .before .before .piece3 .ensures))
 
 -- src/lib.rt:90:13
 declarator-same-length-2 : (t : ℕ) → declarator-lts.Need-same-length-2 (
@@ -678,7 +691,7 @@ declarator-same-length-2 : (t : ℕ) → declarator-lts.Need-same-length-2 (
   arguments-below t,
   arguments.Post,
 ) (declarator-at t) declarator.Post
-declarator-same-length-2 t c = ?
+declarator-same-length-2 t c = search needs
 
 -- src/lib.rt:90:13
 declarator-returns-3 : (t : ℕ) → declarator-lts.Need-returns-3 (
@@ -693,7 +706,7 @@ declarator-returns-3 : (t : ℕ) → declarator-lts.Need-returns-3 (
   arguments-below t,
   arguments.Post,
 ) (declarator-at t) declarator.Post
-declarator-returns-3 t c = ?
+declarator-returns-3 t c = both-as _ _ _ _ _ _ _ (inward-eq _ _ (c .before .before .before .before .before .before .before .before .before .before .before .before .before .before .before .before .before .before .before .before .before .args .d) _ _ (omega (arith, c .before .before .before .before .before .before .before .before .before .before .before .before .before .before .before .before .before .if1 .left)) _ (c .before .before .before .before .before .before .before .before .before .before .before .before .before .before .before .before .step-of .ensures) _ _ _ _ (c .before .before .before .before .before .before .before .before .before .before .before .before .before .before .l .given .1)) (inner-both _ _ _ _ _ _ (room-as _ _ _ _ _ (inward-eq _ _ (c .before .before .before .before .before .before .before .before .before .before .before .before .before .before .before .before .before .before .before .before .before .args .d) _ _ (omega (arith, c .before .before .before .before .before .before .before .before .before .before .before .before .before .before .before .before .before .if1 .left)) _ (c .before .before .before .before .before .before .before .before .before .before .before .before .before .before .before .before .step-of .ensures) _ _ _ _ (c .before .before .before .before .before .before .before .before .before .before .before .before .before .before .l .given .1)) (c .before .before .before .before .before .before .before .before .before .before .before .before .before .before .before .before .before .before .before .before .before .pre .1)) _ _ _ (c .before .before .before .before .before .before .before .before .before .before .before .before .len2 .ensures) (c .before .before .before .before .before .before .before .before .before .before .piece2 .ensures) _ _ (c .before .before .before .before .before .before .piece3 .ensures) _ _ (c .before .before .declarator .ensures))
 
 -- src/lib.rt:92:20
 declarator-enum-known-l-2 : (t : ℕ) → declarator-lts.Need-enum-known-l-2 (
@@ -708,7 +721,7 @@ declarator-enum-known-l-2 : (t : ℕ) → declarator-lts.Need-enum-known-l-2 (
   arguments-below t,
   arguments.Post,
 ) (declarator-at t) declarator.Post
-declarator-enum-known-l-2 t c = ?
+declarator-enum-known-l-2 t c = search needs
 
 -- src/lib.rt:93:17
 declarator-len-requires-3 : (t : ℕ) → declarator-lts.Need-len-requires-3 (
@@ -723,7 +736,7 @@ declarator-len-requires-3 : (t : ℕ) → declarator-lts.Need-len-requires-3 (
   arguments-below t,
   arguments.Post,
 ) (declarator-at t) declarator.Post
-declarator-len-requires-3 t c κs = ?
+declarator-len-requires-3 t c κs = tt
 
 -- src/lib.rt:94:22
 declarator-sub-at-3 : (t : ℕ) → declarator-lts.Need-sub-at-3 (
@@ -738,7 +751,7 @@ declarator-sub-at-3 : (t : ℕ) → declarator-lts.Need-sub-at-3 (
   arguments-below t,
   arguments.Post,
 ) (declarator-at t) declarator.Post
-declarator-sub-at-3 t c = ?
+declarator-sub-at-3 t c = omega (arith, left-small _ _ _ _ _ _ (room-as _ _ _ _ _ (call-eq _ _ (c .before .before .before .before .before .before .before .before .before .args .d) _ _ (omega (arith, c .before .before .before .before .before .if1 .left)) _ (c .before .before .before .before .step-of .ensures) _ _ _ _ _ _ (c .before .before .l2 .given .1)) (c .before .before .before .before .before .before .before .before .before .pre .1)))
 
 -- src/lib.rt:95:13
 declarator-piece-requires-4 : (t : ℕ) → declarator-lts.Need-piece-requires-4 (
@@ -753,7 +766,7 @@ declarator-piece-requires-4 : (t : ℕ) → declarator-lts.Need-piece-requires-4
   arguments-below t,
   arguments.Post,
 ) (declarator-at t) declarator.Post
-declarator-piece-requires-4 t c κs = ?
+declarator-piece-requires-4 t c κs = left-fits _ _ _ _ _ _ (room-as _ _ _ _ _ (call-eq _ _ (c .before .before .before .before .before .before .before .before .before .before .args .d) _ _ (omega (arith, c .before .before .before .before .before .before .if1 .left)) _ (c .before .before .before .before .before .step-of .ensures) _ _ _ _ _ _ (c .before .before .before .l2 .given .1)) (c .before .before .before .before .before .before .before .before .before .before .pre .1)) _ (c .before .len3 .ensures)
 
 -- src/lib.rt:96:17
 declarator-piece-requires-5 : (t : ℕ) → declarator-lts.Need-piece-requires-5 (
@@ -768,7 +781,7 @@ declarator-piece-requires-5 : (t : ℕ) → declarator-lts.Need-piece-requires-5
   arguments-below t,
   arguments.Post,
 ) (declarator-at t) declarator.Post
-declarator-piece-requires-5 t c κs = ?
+declarator-piece-requires-5 t c κs = right-fits _ _ _ _ _ _ (room-as _ _ _ _ _ (call-eq _ _ (c .before .before .before .before .before .before .before .before .before .before .before .before .before .before .args .d) _ _ (omega (arith, c .before .before .before .before .before .before .before .before .before .before .if1 .left)) _ (c .before .before .before .before .before .before .before .before .before .step-of .ensures) _ _ _ _ _ _ (c .before .before .before .before .before .before .before .l2 .given .1)) (c .before .before .before .before .before .before .before .before .before .before .before .before .before .before .pre .1)) _ _ _ (c .before .before .before .before .before .len3 .ensures) (c .before .before .before .piece4 .ensures)
 
 -- src/lib.rt:97:45
 declarator-sub-arguments : (t : ℕ) → declarator-lts.Need-sub-arguments (
@@ -783,7 +796,7 @@ declarator-sub-arguments : (t : ℕ) → declarator-lts.Need-sub-arguments (
   arguments-below t,
   arguments.Post,
 ) (declarator-at t) declarator.Post
-declarator-sub-arguments t c = ?
+declarator-sub-arguments t c = omega arith
 
 -- src/lib.rt:97:17
 declarator-arguments-requires : (t : ℕ) → declarator-lts.Need-arguments-requires (
@@ -798,7 +811,7 @@ declarator-arguments-requires : (t : ℕ) → declarator-lts.Need-arguments-requ
   arguments-below t,
   arguments.Post,
 ) (declarator-at t) declarator.Post
-declarator-arguments-requires t c κs = ?
+declarator-arguments-requires t c κs = (omega (arith, c .before .before .before .before .before .before .before .before .before .before .before .before .before .before .before .before .before .before .pre .0), args-room _ _ _ _ _ _ (inner-room _ _ _ _ _ _ (room-as _ _ _ _ _ (call-eq _ _ (c .before .before .before .before .before .before .before .before .before .before .before .before .before .before .before .before .before .before .args .d) _ _ (omega (arith, c .before .before .before .before .before .before .before .before .before .before .before .before .before .before .if1 .left)) _ (c .before .before .before .before .before .before .before .before .before .before .before .before .before .step-of .ensures) _ _ _ _ _ _ (c .before .before .before .before .before .before .before .before .before .before .before .l2 .given .1)) (c .before .before .before .before .before .before .before .before .before .before .before .before .before .before .before .before .before .before .pre .1)) _ _ _ (c .before .before .before .before .before .before .before .before .before .len3 .ensures) (c .before .before .before .before .before .before .before .piece4 .ensures) _ _ (c .before .before .before .piece5 .ensures)))
 
 -- src/lib.rt:98:17
 declarator-piece-requires-6 : (t : ℕ) → declarator-lts.Need-piece-requires-6 (
@@ -813,7 +826,7 @@ declarator-piece-requires-6 : (t : ℕ) → declarator-lts.Need-piece-requires-6
   arguments-below t,
   arguments.Post,
 ) (declarator-at t) declarator.Post
-declarator-piece-requires-6 t c κs = ?
+declarator-piece-requires-6 t c κs = close-fits _ _ _ _ _ _ (inner-room _ _ _ _ _ _ (room-as _ _ _ _ _ (call-eq _ _ (c .before .before .before .before .before .before .before .before .before .before .before .before .before .before .before .before .before .before .before .before .before .before .args .d) _ _ (omega (arith, c .before .before .before .before .before .before .before .before .before .before .before .before .before .before .before .before .before .before .if1 .left)) _ (c .before .before .before .before .before .before .before .before .before .before .before .before .before .before .before .before .before .step-of .ensures) _ _ _ _ _ _ (c .before .before .before .before .before .before .before .before .before .before .before .before .before .before .before .l2 .given .1)) (c .before .before .before .before .before .before .before .before .before .before .before .before .before .before .before .before .before .before .before .before .before .before .pre .1)) _ _ _ (c .before .before .before .before .before .before .before .before .before .before .before .before .before .len3 .ensures) (c .before .before .before .before .before .before .before .before .before .before .before .piece4 .ensures) _ _ (c .before .before .before .before .before .before .before .piece5 .ensures)) _ _ (c .before .before .before .arguments .ensures)
 
 -- src/lib.rt:99:43
 declarator-sub-declarator-2 : (t : ℕ) → declarator-lts.Need-sub-declarator-2 (
@@ -828,7 +841,7 @@ declarator-sub-declarator-2 : (t : ℕ) → declarator-lts.Need-sub-declarator-2
   arguments-below t,
   arguments.Post,
 ) (declarator-at t) declarator.Post
-declarator-sub-declarator-2 t c = ?
+declarator-sub-declarator-2 t c = omega arith
 
 -- src/lib.rt:99:13
 declarator-declarator-requires-2 : (t : ℕ) → declarator-lts.Need-declarator-requires-2 (
@@ -843,7 +856,7 @@ declarator-declarator-requires-2 : (t : ℕ) → declarator-lts.Need-declarator-
   arguments-below t,
   arguments.Post,
 ) (declarator-at t) declarator.Post
-declarator-declarator-requires-2 t c κs = ?
+declarator-declarator-requires-2 t c κs = (omega (arith, c .before .before .before .before .before .before .before .before .before .before .before .before .before .before .before .before .before .before .before .before .before .before .before .before .before .before .pre .0), after-room _ _ _ _ _ _ (inner-room _ _ _ _ _ _ (room-as _ _ _ _ _ (call-eq _ _ (c .before .before .before .before .before .before .before .before .before .before .before .before .before .before .before .before .before .before .before .before .before .before .before .before .before .before .args .d) _ _ (omega (arith, c .before .before .before .before .before .before .before .before .before .before .before .before .before .before .before .before .before .before .before .before .before .before .if1 .left)) _ (c .before .before .before .before .before .before .before .before .before .before .before .before .before .before .before .before .before .before .before .before .before .step-of .ensures) _ _ _ _ _ _ (c .before .before .before .before .before .before .before .before .before .before .before .before .before .before .before .before .before .before .before .l2 .given .1)) (c .before .before .before .before .before .before .before .before .before .before .before .before .before .before .before .before .before .before .before .before .before .before .before .before .before .before .pre .1)) _ _ _ (c .before .before .before .before .before .before .before .before .before .before .before .before .before .before .before .before .before .len3 .ensures) (c .before .before .before .before .before .before .before .before .before .before .before .before .before .before .before .piece4 .ensures) _ _ (c .before .before .before .before .before .before .before .before .before .before .before .piece5 .ensures)) _ _ (c .before .before .before .before .before .before .before .arguments .ensures) _ _ (c .before .before .before .piece6 .ensures))
 
 -- src/lib.rt:99:13
 declarator-same-length-3 : (t : ℕ) → declarator-lts.Need-same-length-3 (
@@ -858,7 +871,7 @@ declarator-same-length-3 : (t : ℕ) → declarator-lts.Need-same-length-3 (
   arguments-below t,
   arguments.Post,
 ) (declarator-at t) declarator.Post
-declarator-same-length-3 t c = ?
+declarator-same-length-3 t c = search needs
 
 -- src/lib.rt:99:13
 declarator-returns-4 : (t : ℕ) → declarator-lts.Need-returns-4 (
@@ -873,7 +886,7 @@ declarator-returns-4 : (t : ℕ) → declarator-lts.Need-returns-4 (
   arguments-below t,
   arguments.Post,
 ) (declarator-at t) declarator.Post
-declarator-returns-4 t c = ?
+declarator-returns-4 t c = both-as _ _ _ _ _ _ _ (call-eq _ _ (c .before .before .before .before .before .before .before .before .before .before .before .before .before .before .before .before .before .before .before .before .before .before .before .before .before .before .before .before .before .args .d) _ _ (omega (arith, c .before .before .before .before .before .before .before .before .before .before .before .before .before .before .before .before .before .before .before .before .before .before .before .before .before .if1 .left)) _ (c .before .before .before .before .before .before .before .before .before .before .before .before .before .before .before .before .before .before .before .before .before .before .before .before .step-of .ensures) _ _ _ _ _ _ (c .before .before .before .before .before .before .before .before .before .before .before .before .before .before .before .before .before .before .before .before .before .before .l2 .given .1)) (inner-both _ _ _ _ _ _ (room-as _ _ _ _ _ (call-eq _ _ (c .before .before .before .before .before .before .before .before .before .before .before .before .before .before .before .before .before .before .before .before .before .before .before .before .before .before .before .before .before .args .d) _ _ (omega (arith, c .before .before .before .before .before .before .before .before .before .before .before .before .before .before .before .before .before .before .before .before .before .before .before .before .before .if1 .left)) _ (c .before .before .before .before .before .before .before .before .before .before .before .before .before .before .before .before .before .before .before .before .before .before .before .before .step-of .ensures) _ _ _ _ _ _ (c .before .before .before .before .before .before .before .before .before .before .before .before .before .before .before .before .before .before .before .before .before .before .l2 .given .1)) (c .before .before .before .before .before .before .before .before .before .before .before .before .before .before .before .before .before .before .before .before .before .before .before .before .before .before .before .before .before .pre .1)) _ _ _ (c .before .before .before .before .before .before .before .before .before .before .before .before .before .before .before .before .before .before .before .before .len3 .ensures) (c .before .before .before .before .before .before .before .before .before .before .before .before .before .before .before .before .before .before .piece4 .ensures) _ _ (c .before .before .before .before .before .before .before .before .before .before .before .before .before .before .piece5 .ensures) _ _ (after-both _ _ _ _ _ _ (inner-room _ _ _ _ _ _ (room-as _ _ _ _ _ (call-eq _ _ (c .before .before .before .before .before .before .before .before .before .before .before .before .before .before .before .before .before .before .before .before .before .before .before .before .before .before .before .before .before .args .d) _ _ (omega (arith, c .before .before .before .before .before .before .before .before .before .before .before .before .before .before .before .before .before .before .before .before .before .before .before .before .before .if1 .left)) _ (c .before .before .before .before .before .before .before .before .before .before .before .before .before .before .before .before .before .before .before .before .before .before .before .before .step-of .ensures) _ _ _ _ _ _ (c .before .before .before .before .before .before .before .before .before .before .before .before .before .before .before .before .before .before .before .before .before .before .l2 .given .1)) (c .before .before .before .before .before .before .before .before .before .before .before .before .before .before .before .before .before .before .before .before .before .before .before .before .before .before .before .before .before .pre .1)) _ _ _ (c .before .before .before .before .before .before .before .before .before .before .before .before .before .before .before .before .before .before .before .before .len3 .ensures) (c .before .before .before .before .before .before .before .before .before .before .before .before .before .before .before .before .before .before .piece4 .ensures) _ _ (c .before .before .before .before .before .before .before .before .before .before .before .before .before .before .piece5 .ensures)) _ _ (c .before .before .before .before .before .before .before .before .before .before .arguments .ensures) _ _ (c .before .before .before .before .before .before .piece6 .ensures) _ _ (c .before .before .declarator2 .ensures)))
 
 -- src/lib.rt:102:13
 declarator-enum-told : (t : ℕ) → declarator-lts.Need-enum-told (
@@ -888,7 +901,7 @@ declarator-enum-told : (t : ℕ) → declarator-lts.Need-enum-told (
   arguments-below t,
   arguments.Post,
 ) (declarator-at t) declarator.Post
-declarator-enum-told t c = ?
+declarator-enum-told t c = search needs
 
 -- src/lib.rt:102:13
 declarator-returns-5 : (t : ℕ) → declarator-lts.Need-returns-5 (
@@ -903,7 +916,7 @@ declarator-returns-5 : (t : ℕ) → declarator-lts.Need-returns-5 (
   arguments-below t,
   arguments.Post,
 ) (declarator-at t) declarator.Post
-declarator-returns-5 t c = ?
+declarator-returns-5 t c = no-room _ _ _ _ _ _ (refused-eq _ _ (c .before .before .before .before .before .before .before .args .d) _ _ (omega (arith, c .before .before .before .if1 .left)) _ (c .before .before .step-of .ensures) _ (c .enum-told .given .1)) (c .before .before .before .before .before .before .before .pre .1)
 
 pub +argument+arguments+declarator-spec : {M : Type 1} → statement M
 +argument+arguments+declarator-spec =

@@ -1,3 +1,4 @@
+use Rattle.field_put.proofs.PutLaws.{laid}
 use borrow.Author.Needs.{needs}
 use Rattle.declare_type.proofs.piece.Statement.{statement}
 use Rattle.declare_type.proofs.piece.Tie as tie
@@ -15,7 +16,7 @@ same-length c = search needs
 
 -- src/lib.rt:52:1
 returns : tie.Need-returns
-returns c = ?
+returns c = laid _ _ _ _ _ (c .before .before .before .before .before .before .pre) (c .before .before .put .ensures)
 
 pub piece-spec : {M : Type 1} → statement M
 piece-spec = tie.close (tie.spec put-requires same-length returns)
