@@ -10,6 +10,7 @@ use Rattle.pane.proofs.SameProof.{same}
 use Rattle.claim_promises.proofs.Demand1.{demand1}
 use Rattle.claim_promises.proofs.ExactlyWhen.{exactly-when}
 use Rattle.claim_promises.proofs.PlacesWhen.{places-when}
+use Rattle.claim_promises.proofs.DeclareRefuses.{declare-when}
 use Rattle.claim_promises.proofs.Examples.{examples-hold}
 use Rattle.claim_promises.proofs.OneOutcome.{one-outcome}
 use Rattle.claim_promises.specs.Demands.{Demands}
@@ -32,6 +33,7 @@ demands = record {
   saved-and-loaded = round-trip;
   one-file = one-encoding;
   given-places = places-when;
+  given-declarations = declare-when;
   paged = tally-holds;
   five = same;
   shown = examples-hold;

@@ -2,6 +2,7 @@ pub mod ByTable
 pub mod ReadingRefuses
 pub mod StreamRefuses
 pub mod PlacesRefuse
+pub mod DeclareRefuses
 pub mod LeftAlone
 pub mod Demand1
 pub mod Given

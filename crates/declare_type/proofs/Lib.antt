@@ -3,3 +3,4 @@ pub mod SideLaws
 pub mod RowLaws
 pub mod WriteLaws
 pub mod DeclareLaws
+pub mod OneOutcome

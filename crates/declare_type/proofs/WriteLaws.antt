@@ -13,15 +13,15 @@ use Rattle.field.specs.declared.index.TypeIndex.{TypeIndex}
 use Rattle.declare_node.specs.Nodes.{indexAt, listOf}
 use Rattle.answer.specs.declared.Refusal.{Refusal}
 use Rattle.answer.specs.declared.Refusal.the-variants as refusal
-use Rattle.declare_walk.specs.declared.Around.{Around}
+use Rattle.declare_step.specs.declared.Around.{Around}
 use Rattle.declare_piece.specs.declared.Piece.{Piece}
 use Rattle.declare_piece.specs.declared.Piece.the-variants as piece
-use Rattle.declare_walk.specs.declared.Step.{Step}
-use Rattle.declare_walk.specs.declared.Step.the-variants as step
+use Rattle.declare_step.specs.declared.Step.{Step}
+use Rattle.declare_step.specs.declared.Step.the-variants as step
 use Rattle.declare_walk.specs.declared.Measured.{Measured}
 use Rattle.declare_walk.specs.declared.Measured.the-variants as measured
 use Rattle.declare_piece.specs.Pieces.{textOf}
-use Rattle.declare_walk.specs.Steps.{startOf, stepOf}
+use Rattle.declare_step.specs.Steps.{startOf, stepOf}
 use Rattle.declare_walk.specs.Walk.{Walked, printed, stopped, onto, joined, listed, stepped, walk, capped, whole}
 use Rattle.field_put.specs.Bytes.{put, Puts, Room}
 use Rattle.declare_type.specs.Sides.{isPrinted, leftOf, rightOf, SideRoom, Both, RowRoom}

@@ -5,16 +5,16 @@ ghost use Rattle.field_put.specs.Bytes.{Room, Puts};
 ghost use lib.ListN.{length};
 ghost use Rattle.declare_node.specs.Nodes.{listOf};
 ghost use Rattle.declare_piece.specs.Pieces.{textOf};
-ghost use Rattle.declare_walk.specs.Steps.{startOf};
+ghost use Rattle.declare_step.specs.Steps.{startOf};
 ghost use Rattle.declare_walk.specs.Walk.{walk, listed, whole};
 ghost use Rattle.declare_type.specs.Sides.{SideRoom, Both, RowRoom};
 ghost use Rattle.declare_type.specs.Declares.{declareOf, Declares};
 use answer::Refusal;
 use declare_node::Arguments;
 use declare_piece::Piece;
-use declare_walk::Around;
+use declare_step::Around;
+use declare_step::Step;
 use declare_walk::Measured;
-use declare_walk::Step;
 use field::index::TypeIndex;
 use stream_finder::ItemFinder;
 use stream_header::LONGEST;
@@ -35,7 +35,7 @@ pub fn declare(s: &[u8], f: ItemFinder, t: &[u32], i: TypeIndex, out: &mut [u8])
     if s.len() > LONGEST {
         return DeclareAnswer::Refused(Refusal::TooLong);
     }
-    let around = declare_walk::start();
+    let around = declare_step::start();
     match declare_walk::declarator(s, f, t, i, DEEPEST, around, out.len()) {
         Measured::Fits(l, r) => {
             let n = l + r;
@@ -75,7 +75,7 @@ fn declarator(
     if d == 0 {
         return right;
     }
-    match declare_walk::step_of(s, f, t, i, a) {
+    match declare_step::step_of(s, f, t, i, a) {
         Step::Last(p) => {
             let n = declare_piece::len(s, p);
             let at = left - n;
@@ -146,7 +146,7 @@ fn argument(
     requires { ⌜ RowRoom (walk (now s) (state f (now t)) d (i .0) startOf) at (now out) ⌝ }
     ensures { λ r. ⌜ Puts (now (out .entry)) at (whole (walk (now (s .entry)) (state f (now (t .entry))) d (i .0) startOf)) r (now (out .exit)) ⌝ }
 {
-    let around = declare_walk::start();
+    let around = declare_step::start();
     let room = out.len() - at;
     match declare_walk::declarator(s, f, t, i, d, around, room) {
         Measured::Fits(l, _) => {

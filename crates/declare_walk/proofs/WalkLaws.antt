@@ -15,15 +15,15 @@ use Rattle.answer.specs.declared.Refusal.{Refusal}
 use Rattle.answer.specs.declared.Refusal.the-variants as refusal
 use Rattle.declare_node.specs.declared.Arguments.{Arguments}
 use Rattle.declare_node.specs.declared.Arguments.the-variants as arguments
-use Rattle.declare_walk.specs.declared.Around.{Around}
+use Rattle.declare_step.specs.declared.Around.{Around}
 use Rattle.declare_piece.specs.declared.Piece.{Piece}
 use Rattle.declare_piece.specs.declared.Piece.the-variants as piece
-use Rattle.declare_walk.specs.declared.Step.{Step}
-use Rattle.declare_walk.specs.declared.Step.the-variants as step
+use Rattle.declare_step.specs.declared.Step.{Step}
+use Rattle.declare_step.specs.declared.Step.the-variants as step
 use Rattle.declare_walk.specs.declared.Measured.{Measured}
 use Rattle.declare_walk.specs.declared.Measured.the-variants as measured
 use Rattle.declare_piece.specs.Pieces.{textOf}
-use Rattle.declare_walk.specs.Steps.{startOf, stepOf}
+use Rattle.declare_step.specs.Steps.{startOf, stepOf}
 use Rattle.declare_walk.specs.Walk.{Walked, printed, stopped, onto, joined, restOf, argumentsOf, listed, stepped, walk, capped}
 use Rattle.declare_walk.proofs.RoomLaws.{grown, over, within, within-right, joined-fits, joined-refused}
 

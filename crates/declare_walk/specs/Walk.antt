@@ -12,12 +12,12 @@ use Rattle.declare_node.specs.declared.Arguments.{Arguments}
 use Rattle.declare_node.specs.declared.Arguments.the-variants as arguments
 use Rattle.declare_piece.specs.Pieces.{textOf}
 use Rattle.declare_piece.specs.declared.Piece.the-variants as piece
-use Rattle.declare_walk.specs.declared.Around.{Around}
-use Rattle.declare_walk.specs.declared.Step.{Step}
-use Rattle.declare_walk.specs.declared.Step.the-variants as step
+use Rattle.declare_step.specs.declared.Around.{Around}
+use Rattle.declare_step.specs.declared.Step.{Step}
+use Rattle.declare_step.specs.declared.Step.the-variants as step
 use Rattle.declare_walk.specs.declared.Measured.{Measured}
 use Rattle.declare_walk.specs.declared.Measured.the-variants as measured
-use Rattle.declare_walk.specs.Steps.{startOf, stepOf}
+use Rattle.declare_step.specs.Steps.{startOf, stepOf}
 
 -- What a walk inward comes to: the bytes that go left of all that stood there before, and those that go right of it;
 -- or the first refusal that it met, behind the number of bytes that it had fixed by then.

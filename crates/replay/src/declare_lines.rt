@@ -15,9 +15,6 @@ fn declared(a: DeclareAnswer, out: &[u8]) {
     match a {
         DeclareAnswer::Written(n) => {
             lines::put(b"0 ");
-            if n == 0 {
-                lines::put(b"-");
-            }
             if n <= out.len() {
                 stream_lines::hex(&out[0..n]);
             }

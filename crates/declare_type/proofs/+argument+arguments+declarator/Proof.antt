@@ -4,7 +4,7 @@ use Prim.Native.Nat.{_≤_, _+_, _*_, _-_}
 use mathlib.Core.Path.{_≡_, sym, _∙_}
 use lib.ListN.{length}
 use Rattle.stream_finder.specs.Finder.{state}
-use Rattle.declare_walk.specs.Steps.{startOf}
+use Rattle.declare_step.specs.Steps.{startOf}
 use Rattle.declare_walk.specs.Walk.{walk, restOf}
 use Rattle.declare_type.specs.Sides.{Rest}
 use Rattle.declare_type.proofs.WriteLaws.{room-as, both-as, no-room, deep-eq, refused-eq, last-eq, inward-eq, call-eq, last-small, last-fits, last-both, left-small, left-fits, right-fits, inner-room, inner-both, args-room, close-fits, after-room, after-both, argument-fits, argument-sides, argument-puts, argument-never}
@@ -26,8 +26,8 @@ use Rattle.declare_node.proofs.list_of.Reads as list-of-reads
 use Rattle.declare_piece.proofs.len.Reads as len-reads
 use Rattle.declare_type.proofs.piece.Reads as piece-reads
 use Rattle.declare_walk.proofs.declarator.Reads as declarator-reads
-use Rattle.declare_walk.proofs.start.Reads as start-reads
-use Rattle.declare_walk.proofs.step_of.Reads as step-of-reads
+use Rattle.declare_step.proofs.start.Reads as start-reads
+use Rattle.declare_step.proofs.step_of.Reads as step-of-reads
 use Rattle.declare_type.proofs.+argument+arguments+declarator.{statement}
 use Rattle.declare_type.proofs.+argument+arguments+declarator.Tie.{close}
 

@@ -9,7 +9,7 @@ use Rattle.declare_type.proofs.declare.Reads as reads
 use Rattle.declare_type.proofs.declare.Lts as lts
 use Rattle.declare_type.proofs.declarator.Reads as declarator-reads
 use Rattle.declare_walk.proofs.declarator.Reads as declarator-reads′
-use Rattle.declare_walk.proofs.start.Reads as start-reads
+use Rattle.declare_step.proofs.start.Reads as start-reads
 
 -- src/lib.rt:36:9
 returns : tie.Need-returns

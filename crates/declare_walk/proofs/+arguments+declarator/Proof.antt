@@ -5,7 +5,7 @@ use mathlib.Core.Path.{_≡_, sym, _∙_}
 use lib.ListN.{length}
 use Rattle.stream_finder.specs.Finder.{state}
 use Rattle.declare_node.specs.Nodes.{listOf}
-use Rattle.declare_walk.specs.Steps.{startOf}
+use Rattle.declare_step.specs.Steps.{startOf}
 use Rattle.declare_walk.specs.Walk.{walk, listed, restOf, capped}
 use Rattle.declare_walk.specs.declared.Measured.the-variants as measured
 use Rattle.declare_walk.proofs.RoomLaws.{grown, fits-within}
@@ -22,8 +22,8 @@ use Rattle.declare_walk.proofs.+arguments+declarator.Lts-declarator as 
 use Rattle.declare_node.proofs.index_at.Reads as index-at-reads
 use Rattle.declare_node.proofs.list_of.Reads as list-of-reads
 use Rattle.declare_piece.proofs.len.Reads as len-reads
-use Rattle.declare_walk.proofs.start.Reads as start-reads
-use Rattle.declare_walk.proofs.step_of.Reads as step-of-reads
+use Rattle.declare_step.proofs.start.Reads as start-reads
+use Rattle.declare_step.proofs.step_of.Reads as step-of-reads
 use Rattle.declare_walk.proofs.+arguments+declarator.{statement}
 use Rattle.declare_walk.proofs.+arguments+declarator.Tie.{close}
 

@@ -12,9 +12,9 @@ use Rattle.declare_node.specs.declared.Node.{Node}
 use Rattle.declare_node.specs.declared.Node.the-variants as node
 use Rattle.declare_piece.specs.declared.Piece.{Piece}
 use Rattle.declare_piece.specs.declared.Piece.the-variants as piece
-use Rattle.declare_walk.specs.declared.Around.{Around}
-use Rattle.declare_walk.specs.declared.Step.{Step}
-use Rattle.declare_walk.specs.declared.Step.the-variants as step
+use Rattle.declare_step.specs.declared.Around.{Around}
+use Rattle.declare_step.specs.declared.Step.{Step}
+use Rattle.declare_step.specs.declared.Step.the-variants as step
 
 abbrev pub or : Bool → Bool → Bool
 or true b = true

@@ -1,9 +1,9 @@
 use borrow.Author.Needs.{needs}
-use Rattle.declare_walk.proofs.start.Statement.{statement}
-use Rattle.declare_walk.proofs.start.Tie as tie
-use Rattle.declare_walk.proofs.start.Reads as reads
-use Rattle.declare_walk.proofs.start.Lts as lts
-use Rattle.declare_walk.proofs.no_quals.Reads as no-quals-reads
+use Rattle.declare_step.proofs.start.Statement.{statement}
+use Rattle.declare_step.proofs.start.Tie as tie
+use Rattle.declare_step.proofs.start.Reads as reads
+use Rattle.declare_step.proofs.start.Lts as lts
+use Rattle.declare_step.proofs.no_quals.Reads as no-quals-reads
 
 -- src/lib.rt:80:16
 no-quals-requires : tie.Need-no-quals-requires

@@ -1,9 +1,9 @@
 use borrow.Author.Needs.{needs}
-use Rattle.declare_walk.proofs.with.Statement.{statement}
-use Rattle.declare_walk.proofs.with.Tie as tie
-use Rattle.declare_walk.proofs.with.Reads as reads
-use Rattle.declare_walk.proofs.with.Lts as lts
-use Rattle.declare_walk.proofs.either.Reads as either-reads
+use Rattle.declare_step.proofs.with.Statement.{statement}
+use Rattle.declare_step.proofs.with.Tie as tie
+use Rattle.declare_step.proofs.with.Reads as reads
+use Rattle.declare_step.proofs.with.Lts as lts
+use Rattle.declare_step.proofs.either.Reads as either-reads
 
 -- src/steps.rt:45:19
 either-requires : tie.Need-either-requires

@@ -1,16 +1,16 @@
 use mathlib.Core.Path.{refl, ap}
-use Rattle.declare_walk.specs.declared.Step.the-variants as step
-use Rattle.declare_walk.proofs.StepLaws.{step-is}
+use Rattle.declare_step.specs.declared.Step.the-variants as step
+use Rattle.declare_step.proofs.StepLaws.{step-is}
 use borrow.Author.Needs.{needs}
-use Rattle.declare_walk.proofs.step_of.Statement.{statement}
-use Rattle.declare_walk.proofs.step_of.Tie as tie
-use Rattle.declare_walk.proofs.step_of.Reads as reads
-use Rattle.declare_walk.proofs.step_of.Lts as lts
+use Rattle.declare_step.proofs.step_of.Statement.{statement}
+use Rattle.declare_step.proofs.step_of.Tie as tie
+use Rattle.declare_step.proofs.step_of.Reads as reads
+use Rattle.declare_step.proofs.step_of.Lts as lts
 use Rattle.declare_node.proofs.node_of.Reads as node-of-reads
-use Rattle.declare_walk.proofs.no_quals.Reads as no-quals-reads
-use Rattle.declare_walk.proofs.open.Reads as open-reads
-use Rattle.declare_walk.proofs.primitive_piece.Reads as primitive-piece-reads
-use Rattle.declare_walk.proofs.with.Reads as with-reads
+use Rattle.declare_step.proofs.no_quals.Reads as no-quals-reads
+use Rattle.declare_step.proofs.open.Reads as open-reads
+use Rattle.declare_step.proofs.primitive_piece.Reads as primitive-piece-reads
+use Rattle.declare_step.proofs.with.Reads as with-reads
 
 -- src/lib.rt:138:11
 node-of-requires : tie.Need-node-of-requires

@@ -6,9 +6,9 @@ use mathlib.Core.Bool.{Bool, true, false}
 use mathlib.Core.List.{List}
 use Rattle.declare_node.specs.Nodes.{nodeOf}
 use Rattle.declare_node.specs.declared.Node.{Node}
-use Rattle.declare_walk.specs.declared.Around.{Around}
-use Rattle.declare_walk.specs.declared.Step.{Step}
-use Rattle.declare_walk.specs.Steps.{stepBy, stepOf}
+use Rattle.declare_step.specs.declared.Around.{Around}
+use Rattle.declare_step.specs.declared.Step.{Step}
+use Rattle.declare_step.specs.Steps.{stepBy, stepOf}
 
 -- r is what the lookup gave, and the arm that was taken says n
 pub step-is : (s : List ℕ) (t : State) (i : ℕ) (a : Around) (n r : Node) (o : Step) → r ≡ nodeOf s t i → r ≡ n → o ≡ stepBy n a → o ≡ stepOf s t i a

@@ -1,8 +1,8 @@
 use borrow.Author.Needs.{needs}
-use Rattle.declare_walk.proofs.primitive_piece.Statement.{statement}
-use Rattle.declare_walk.proofs.primitive_piece.Tie as tie
-use Rattle.declare_walk.proofs.primitive_piece.Reads as reads
-use Rattle.declare_walk.proofs.primitive_piece.Lts as lts
+use Rattle.declare_step.proofs.primitive_piece.Statement.{statement}
+use Rattle.declare_step.proofs.primitive_piece.Tie as tie
+use Rattle.declare_step.proofs.primitive_piece.Reads as reads
+use Rattle.declare_step.proofs.primitive_piece.Lts as lts
 
 -- src/steps.rt:80:13
 enum-told : tie.Need-enum-told
