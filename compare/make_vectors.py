@@ -15,7 +15,7 @@ Where an expected line comes from:
 - A command that the crate cannot be asked (next, create, update, findin, maxindex, view, marker, element, idelement, and all that end in `by`): 01's
   rule, with 02's R-7 for a shift, written again below beside its sentence, in Python, apart from the Rattle sources; `save` and `load`: 02's R-3,
   written again in places.py; `writeheader`, `write`, `rewrite` and `rewriteid`: 02's R-1, written again in writing.py; the `sec` commands: 02's R-6,
-  written again in sections.py.
+  written again in sections.py; `declare`: 02's R-5, written again in declaring.py.
 - A command whose BYTES are none: `? bytes`, by PROTOCOL.md's sentence, written again below.
 - 01's examples and 02's words: their lines, written out below. They must be what the rules above give too.
 
@@ -33,6 +33,7 @@ import sys
 
 sys.path.insert(0, os.path.dirname(os.path.abspath(__file__)))
 import compare
+import declaring
 import layouts
 import make_inputs
 import places
@@ -331,6 +332,8 @@ def by_rule(words, primitive):
         return id_element_line(blob(n[1]), int(n[0]))
     if kind == "membername":
         return spelt(blob(n[1]), name_in(element_line(blob(n[1]), int(n[0])), NAMED_MEMBERS))
+    if kind == "declare":
+        return declaring.line(words)
     if kind == "count":
         return count_line(blob(n[0]))
     if kind == "cross":
@@ -348,14 +351,14 @@ def by_rule(words, primitive):
 
 PORT_ONLY = ("next", "create", "update", "findin", "maxindex", "view", "marker", "element", "idelement", "count", "cross", "item",
              "membername", "idat", "createby", "updateby", "findinby", "maxindexby", "findby", "wunsigned", "wsigned", "wtype", "welement", "save", "load",
-             "writeheader", "write", "rewrite", "rewriteid", *sections.COMMANDS)
+             "writeheader", "write", "rewrite", "rewriteid", *sections.COMMANDS, "declare")
 
 
 # ---- words that should be BYTES ----
 
 # Where a command has its BYTES, the command itself being word 0; most have them as word 1.
 BYTES_AT = {**dict.fromkeys(("itemtype", "itemid", "string", "element", "idelement", "idat", "membername", "createby", "findinby", "findby", "welement",
-                            "seccreate", "sectpi"), (2,)),
+                            "seccreate", "sectpi", "declare"), (2,)),
             "view": (1, 2), "load": (1, 2), "save": (3,),
             **dict.fromkeys(("prim", "word", "opttype", "optid", "update", "maxindex", "updateby", "maxindexby", "marker", "cross", "item", "writeheader",
                             "write"), ())}
@@ -1058,7 +1061,7 @@ def lacking(vectors):
         if not any(c.startswith(f"word {word} ") for c in asked):
             yield f"word {word}"
     numbers = {n for c, lines in vectors if c not in NO_COMMANDS + NO_BYTES for n in numbers_in(c.split(), lines)}
-    for n in (set(range(23)) | {25, 26}) - numbers:
+    for n in set(range(27)) - numbers:
         yield f"number {n}"
     yield from unwritten(dict(vectors))
     for kind in ("createby", "updateby", "findinby", "maxindexby", "findby"):
@@ -1116,6 +1119,7 @@ def main():
     commands += [c for c, _ in CVINFO] + [c for c, _ in FORMS] + list(form_commands()) + list(place_commands())
     commands += [c for c, _ in writing.EXAMPLES] + list(write_commands())
     commands += sections.commands()
+    commands += list(declaring.commands())
     commands = list(dict.fromkeys(commands))
     problems = compare.listed()
     crate = [c for c in commands if c.split()[0] not in PORT_ONLY and (c in NO_COMMANDS or not no_bytes(c.split()))]

@@ -9,6 +9,8 @@ use Rattle.record_list.specs.Lists.{stepOf}
 use Rattle.claim_promises.proofs.ReadingRefuses.{fixed-refuses, signed-refuses, optional-refuses, string-refuses, counted-refuses, string-of-refuses, bytes-refuses, padding-refuses, numeral-refuses, sized-refuses}
 use Rattle.claim_promises.proofs.StreamRefuses.{primitive-refuses, kind-refuses, mode-refuses, to-member-refuses, reference-refuses, pointer-size-refuses, header-refuses, iter-refuses, len-refuses, is-empty-refuses, next-refuses, view-refuses, raw-kind-refuses, create-refuses, create-by-refuses, update-refuses, find-refuses, turn-refuses, type-refuses, id-refuses, member-refuses, method-refuses, start-refuses, step-refuses, element-by-refuses, element-refuses, element-ids-refuses, parse-refuses}
 use Rattle.claim_promises.proofs.LeftAlone.{leaves-alone, changes-nothing, leads-nowhere, steps-nowhere, saves-nothing}
+use Rattle.declare_type.specs.Declares.{declareOf}
+use Rattle.claim_promises.proofs.DeclareRefuses.{declare-says, declares-nothing}
 use Rattle.claim_promises.proofs.PlacesRefuse.{trailer-refuses, load-refuses, save-refuses}
 use Rattle.write_pieces.specs.Pieces.{saidWrite}
 use Rattle.claim_promises.proofs.WritersRefuse.{header-laid-refuses, record-laid-refuses, field-list-laid-refuses, method-list-laid-refuses, pieces-refuse, plain-laid-refuses, filled-laid-refuses, pieces-laid-refuses, writes-nothing}
@@ -48,6 +50,7 @@ demand1 = record {
   trailers = trailer-refuses;
   loads = load-refuses;
   saves = save-refuses;
+  declares = declare-says;
   types = type-refuses;
   ids = id-refuses;
   members = member-refuses;
@@ -71,6 +74,7 @@ demand1 = record {
   load-keeps = λ s f t. leaves-alone t (loadOf s f t);
   save-keeps = λ s σ o. saves-nothing o (saveOf s σ (length o));
   write-keeps = λ o w r. writes-nothing o w (saidWrite r);
+  declare-keeps = λ s σ i o. declares-nothing o (declareOf s σ i (length o));
   turn-keeps = λ s f t c. leads-nowhere t (turnOf s (state f t) c);
   index-all-keeps = λ shift tag s t e t′ h. h .1;
   index-on-keeps = λ s f t c r t′ e w h. sym (w .ended) ∙ ap saidEnd h;

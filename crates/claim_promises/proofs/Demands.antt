@@ -22,6 +22,7 @@ use Rattle.claim_promises.proofs.ExactlyWhen.{exactly-when}
 use Rattle.claim_promises.proofs.PlacesWhen.{places-when}
 use Rattle.claim_promises.proofs.WritesWhen.{writes-when}
 use Rattle.claim_promises.proofs.SectionsProof.{sections-refuse, sections-when}
+use Rattle.claim_promises.proofs.DeclareRefuses.{declare-when}
 use Rattle.claim_promises.proofs.Examples.{examples-hold}
 use Rattle.claim_promises.proofs.OneOutcome.{one-outcome}
 use Rattle.claim_promises.specs.Demands.{Demands}
@@ -52,6 +53,7 @@ demands = record {
   headers-read-back = header-reads-back;
   streams-walk = stream-walks;
   given-writing = writes-when;
+  given-declarations = declare-when;
   paged = tally-holds;
   five = same;
   of-runs = of-runs;

@@ -3,6 +3,7 @@ pub mod ReadingRefuses
 pub mod StreamRefuses
 pub mod PlacesRefuse
 pub mod WritersRefuse
+pub mod DeclareRefuses
 pub mod LeftAlone
 pub mod Demand1
 pub mod Given

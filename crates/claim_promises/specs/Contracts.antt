@@ -12,6 +12,19 @@ use Rattle.answer.specs.Details.{detailsValue}
 use Rattle.answer.specs.Refusals.{detailsOf, numberOf}
 use Rattle.answer.specs.declared.Details.{Details}
 use Rattle.answer.specs.declared.Refusal.{Refusal}
+use Rattle.declare_node.specs.Inside.{ListInside}
+use Rattle.declare_node.specs.Nodes.{indexAt, listOf, nodeOf}
+use Rattle.declare_node.specs.declared.Arguments.{Arguments}
+use Rattle.declare_node.specs.declared.Node.{Node}
+use Rattle.declare_piece.specs.Pieces.{textOf}
+use Rattle.declare_piece.specs.declared.Piece.{Piece as Piece-of-declare-piece}
+use Rattle.declare_step.specs.Steps.{startOf as startOf-of-declare-step, stepOf as stepOf-of-declare-step}
+use Rattle.declare_step.specs.declared.Around.{Around}
+use Rattle.declare_step.specs.declared.Step.{Step}
+use Rattle.declare_type.specs.Declares.{Declares, declareOf}
+use Rattle.declare_type.specs.declared.DeclareAnswer.{DeclareAnswer}
+use Rattle.declare_walk.specs.Walk.{capped, walk}
+use Rattle.declare_walk.specs.declared.Measured.{Measured}
 use Rattle.field.specs.Bytes.{bytes as bytes-of-field}
 use Rattle.field.specs.Fields.{fixedAt, said16, said32, said64, said8}
 use Rattle.field.specs.Indices.{idOption, noId, noType, optionalAt, optionalOf, saidId, saidOptId, saidOptType, saidStringRef, saidType, typeOption}
@@ -47,7 +60,7 @@ use Rattle.record_id.specs.declared.IdAnswer.{IdAnswer}
 use Rattle.record_id.specs.declared.IdData.{IdData}
 use Rattle.record_layout.specs.Fields.{readFields, run, types}
 use Rattle.record_layout.specs.Layouts.{S, idLeaves, memberLeaves, method, readRecord, recordOf, typeLeaves}
-use Rattle.record_list.specs.Lists.{elementBy, elementOf, startOf as startOf-of-record-list, stepOf}
+use Rattle.record_list.specs.Lists.{elementBy, elementOf, startOf as startOf-of-record-list, stepOf as stepOf-of-record-list}
 use Rattle.record_list.specs.Said.{saidElement, saidStart, saidStep}
 use Rattle.record_list.specs.declared.ElementAnswer.{ElementAnswer}
 use Rattle.record_list.specs.declared.ListCursor.{ListCursor}
@@ -127,7 +140,7 @@ use Rattle.write_layout.specs.Lists.{fieldListBytes, filledEach, methodListByte
 use Rattle.write_layout.specs.Records.{limited, recordBytes, writeRecord}
 use Rattle.write_pieces.specs.Pieces.{pieceOf, piecesOf, saidMeasure, saidWrite}
 use Rattle.write_pieces.specs.declared.Measure.{Measure}
-use Rattle.write_pieces.specs.declared.Piece.{Piece}
+use Rattle.write_pieces.specs.declared.Piece.{Piece as Piece-of-write-pieces}
 use Rattle.write_pieces.specs.declared.WriteAnswer.{WriteAnswer}
 use Rattle.write_row.specs.Rows.{memberRow, memberRows, methodRow, methodRows}
 
@@ -138,6 +151,42 @@ answer-refusal-number self r = r ≡ numberOf self
 -- answer::Refusal::details
 abbrev pub answer-refusal-details : (self : Refusal) → Details → Type 0
 answer-refusal-details self r = detailsValue r ≡ detailsOf self
+
+-- declare_node::node_of
+abbrev pub declare-node-node-of : (s : List ℕ) (f : ItemFinder) (t : List ℕ) (i : TypeIndex) → Node → Type 0
+declare-node-node-of s f t i r = r ≡ nodeOf s (state f t) (i .0)
+
+-- declare_node::list_of
+abbrev pub declare-node-list-of : (s : List ℕ) (f : ItemFinder) (t : List ℕ) (i : TypeIndex) → Arguments → Type 0
+declare-node-list-of s f t i r = (r ≡ listOf s (state f t) (i .0)) × ListInside s r
+
+-- declare_node::index_at
+abbrev pub declare-node-index-at : (s : List ℕ) (p : ℕ) → TypeIndex → Type 0
+declare-node-index-at s p r = r ≡ indexAt s p
+
+-- declare_piece::len
+abbrev pub declare-piece-len : (s : List ℕ) (p : Piece-of-declare-piece) → ℕ → Type 0
+declare-piece-len s p r = r ≡ length (textOf s p)
+
+-- declare_piece::put
+abbrev pub declare-piece-put : (s : List ℕ) (p : Piece-of-declare-piece) (out : List ℕ) (at : ℕ) → ℕ → List ℕ → Type 0
+declare-piece-put s p out at r out′ = Lays out at (textOf s p) r out′
+
+-- declare_step::start
+abbrev pub declare-step-start : Around → Type 0
+declare-step-start r = r ≡ startOf-of-declare-step
+
+-- declare_step::step_of
+abbrev pub declare-step-step-of : (s : List ℕ) (f : ItemFinder) (t : List ℕ) (i : TypeIndex) (a : Around) → Step → Type 0
+declare-step-step-of s f t i a r = r ≡ stepOf-of-declare-step s (state f t) (i .0) a
+
+-- declare_type::declare
+abbrev pub declare-type-declare : (s : List ℕ) (f : ItemFinder) (t : List ℕ) (i : TypeIndex) (out : List ℕ) → DeclareAnswer → List ℕ → Type 0
+declare-type-declare s f t i out r out′ = Declares (declareOf s (state f t) (i .0) (length out)) out r out′
+
+-- declare_walk::declarator
+abbrev pub declare-walk-declarator : (s : List ℕ) (f : ItemFinder) (t : List ℕ) (i : TypeIndex) (d : ℕ) (a : Around) (room : ℕ) → Measured → Type 0
+declare-walk-declarator s f t i d a room r = r ≡ capped room (walk s (state f t) d (i .0) a)
 
 -- field::fixed::u8_at
 abbrev pub field-fixed-u8-at : (s : List ℕ) (p : ℕ) → Read8 → Type 0
@@ -277,11 +326,11 @@ record-list-start stream s r = saidStart r ≡ startOf-of-record-list stream s
 
 -- record_list::step
 abbrev pub record-list-step : (s : List ℕ) (c : ListCursor) → StepAnswer → Type 0
-record-list-step s c r = saidStep r ≡ stepOf s c
+record-list-step s c r = saidStep r ≡ stepOf-of-record-list s c
 
 -- record_list::element_from
 abbrev pub record-list-element-from : (s : List ℕ) (c : ListCursor) (k : ℕ) → ElementAnswer → Type 0
-record-list-element-from s c k r = saidElement r ≡ elementBy (stepOf s) k c
+record-list-element-from s c k r = saidElement r ≡ elementBy (stepOf-of-record-list s) k c
 
 -- record_member::Member::name
 abbrev pub record-member-member-name : (self : Member) → OptString → Type 0
@@ -305,15 +354,15 @@ record-reader-list-reader-new bytes cursor r = (r .bytes ≡ bytes) × (r .curso
 
 -- record_reader::ListReader::element
 abbrev pub record-reader-list-reader-element : (self : ListReader) (k : ℕ) → ElementAnswer → Type 0
-record-reader-list-reader-element self k r = saidElement r ≡ elementBy (stepOf (now (self .bytes))) k (self .cursor)
+record-reader-list-reader-element self k r = saidElement r ≡ elementBy (stepOf-of-record-list (now (self .bytes))) k (self .cursor)
 
 -- record_reader::ListReader::step
 abbrev pub record-reader-list-reader-step : (self : ListReader) → ElementAnswer → ListReader → Type 0
-record-reader-list-reader-step self r self′ = Steps (self .cursor) (stepOf (now (self .bytes)) (self .cursor)) r (self′ .cursor) × (self′ .bytes ≡ self .bytes)
+record-reader-list-reader-step self r self′ = Steps (self .cursor) (stepOf-of-record-list (now (self .bytes)) (self .cursor)) r (self′ .cursor) × (self′ .bytes ≡ self .bytes)
 
 -- record_reader::step_of
 abbrev pub record-reader-step-of : (bytes : List ℕ) (cursor : ListCursor) → Stepped → Type 0
-record-reader-step-of bytes cursor u = Steps cursor (stepOf bytes cursor) (u .answer) (u .cursor)
+record-reader-step-of bytes cursor u = Steps cursor (stepOf-of-record-list bytes cursor) (u .answer) (u .cursor)
 
 -- record_reader::nth
 abbrev pub record-reader-nth : (stream : Stream) (s : List ℕ) (k : ℕ) → ElementAnswer → Type 0
@@ -648,27 +697,27 @@ abbrev pub word-primitive-primitive : (index : TypeIndex) → PrimitiveAnswer �
 word-primitive-primitive index r = saidPrimitive r ≡ primitiveOf (index .0)
 
 -- write_fit::half
-abbrev pub write-fit-half : (x : ℕ) → Piece → Type 0
+abbrev pub write-fit-half : (x : ℕ) → Piece-of-write-pieces → Type 0
 write-fit-half x r = (r ≡ halfPiece x) × ((t : List ℕ) → pieceOf t r ≡ fixedBytes 2 x)
 
 -- write_fit::word
-abbrev pub write-fit-word : (x : ℕ) → Piece → Type 0
+abbrev pub write-fit-word : (x : ℕ) → Piece-of-write-pieces → Type 0
 write-fit-word x r = (r ≡ wordPiece x) × ((t : List ℕ) → pieceOf t r ≡ fixedBytes 4 x)
 
 -- write_fit::natural
-abbrev pub write-fit-natural : (n : ℕ) → Piece → Type 0
+abbrev pub write-fit-natural : (n : ℕ) → Piece-of-write-pieces → Type 0
 write-fit-natural n r = (r ≡ naturalPiece n) × ((t : List ℕ) → pieceOf t r ≡ numericBytes (pos n))
 
 -- write_fit::text
-abbrev pub write-fit-text : (s : RawString) → Piece → Type 0
+abbrev pub write-fit-text : (s : RawString) → Piece-of-write-pieces → Type 0
 write-fit-text s r = (r ≡ textPiece (part s)) × ((t : List ℕ) (w : ℕ) → pieceOf t r ≡ writeField S w (ofPart t (part s)))
 
 -- write_fit::gap
-abbrev pub write-fit-gap : Piece → Type 0
+abbrev pub write-fit-gap : Piece-of-write-pieces → Type 0
 write-fit-gap r = (r ≡ halfPiece 0) × ((t : List ℕ) → pieceOf t r ≡ answered (bytes-of-field 2 0))
 
 -- write_fit::types
-abbrev pub write-fit-types : (place : ℕ) (n : ℕ) → Piece → Type 0
+abbrev pub write-fit-types : (place : ℕ) (n : ℕ) → Piece-of-write-pieces → Type 0
 write-fit-types place n r = (r ≡ runPiece place (4 * n)) × ((t : List ℕ) → pieceOf t r ≡ writeField (run types) n (ofRun t place (4 * n)))
 
 -- write_header::write_header
@@ -692,19 +741,19 @@ abbrev pub write-pieces-held-sum : (n : ℕ) (k : ℕ) → ℕ → Type 0
 write-pieces-held-sum n k r = r ≡ min (n + k) 65536
 
 -- write_pieces::measured
-abbrev pub write-pieces-measured : (text : List ℕ) (xs : List Piece) → Measure → Type 0
+abbrev pub write-pieces-measured : (text : List ℕ) (xs : List Piece-of-write-pieces) → Measure → Type 0
 write-pieces-measured text xs r = saidMeasure r ≡ then (piecesOf text xs) (λ bs. answered (min (length bs) 65536))
 
 -- write_pieces::write_plain
-abbrev pub write-pieces-write-plain : (text : List ℕ) (xs : List Piece) (out : List ℕ) (at : ℕ) → WriteAnswer → List ℕ → Type 0
+abbrev pub write-pieces-write-plain : (text : List ℕ) (xs : List Piece-of-write-pieces) (out : List ℕ) (at : ℕ) → WriteAnswer → List ℕ → Type 0
 write-pieces-write-plain text xs out at r out′ = Writes out (lay (limited (piecesOf text xs)) out at) (saidWrite r) out′
 
 -- write_pieces::write_filled
-abbrev pub write-pieces-write-filled : (text : List ℕ) (xs : List Piece) (out : List ℕ) (at : ℕ) → WriteAnswer → List ℕ → Type 0
+abbrev pub write-pieces-write-filled : (text : List ℕ) (xs : List Piece-of-write-pieces) (out : List ℕ) (at : ℕ) → WriteAnswer → List ℕ → Type 0
 write-pieces-write-filled text xs out at r out′ = Writes out (lay (limited (filledEach (piecesOf text xs))) out at) (saidWrite r) out′
 
 -- write_pieces::write_record
-abbrev pub write-pieces-write-record : (text : List ℕ) (xs : List Piece) (out : List ℕ) (at : ℕ) → WriteAnswer → List ℕ → Type 0
+abbrev pub write-pieces-write-record : (text : List ℕ) (xs : List Piece-of-write-pieces) (out : List ℕ) (at : ℕ) → WriteAnswer → List ℕ → Type 0
 write-pieces-write-record text xs out at r out′ = Writes out (lay (recordBytes (piecesOf text xs)) out at) (saidWrite r) out′
 
 -- write_row::of_member

@@ -41,6 +41,9 @@ use Rattle.stream_index.specs.declared.IndexAnswer.the-variants as walk
 use Rattle.stream_places.specs.File.{trailerOf}
 use Rattle.stream_places.specs.Places.{loadOf, saveOf, saidSave, Saves}
 use Rattle.stream_places.specs.declared.SaveAnswer.{SaveAnswer}
+use Rattle.answer.specs.Tables.{among}
+use Rattle.declare_type.specs.Declares.{declareOf, saidDeclare, Declares}
+use Rattle.declare_type.specs.declared.DeclareAnswer.{DeclareAnswer}
 use Rattle.record_layout.specs.Fields.{readFields}
 use Rattle.record_layout.specs.Layouts.{Table, typeLeaves, memberLeaves, method, idLeaves, readRecord, recordOf}
 use Rattle.record_list.specs.Lists.{startOf, stepOf, elementBy, elementOf}
@@ -100,6 +103,9 @@ pub record Demand1 : Type 0 where
   pub trailers : (f : List ℕ) → Refuses (20 ∷ []) (trailerOf f)
   pub loads : (s f t : List ℕ) → Refuses (16 ∷ 1 ∷ 2 ∷ 3 ∷ 4 ∷ 5 ∷ 20 ∷ 21 ∷ 13 ∷ 22 ∷ []) (loadOf s f t)
   pub saves : (s : List ℕ) (σ : State) (room : ℕ) → Refuses (16 ∷ 1 ∷ 2 ∷ 3 ∷ 4 ∷ 5 ∷ 21 ∷ 26 ∷ 13 ∷ 19 ∷ []) (saveOf s σ room)
+  -- document 02, R-5: a declaration. 1 has the lookup's links passed, or none where a reader gives it
+  pub declares : (s : List ℕ) (σ : State) (i room n : ℕ) (d : List ℕ) → declareOf s σ i room ≡ refused n d
+      → (among n (19 ∷ 16 ∷ 26 ∷ 13 ∷ 8 ∷ 9 ∷ 1 ∷ 10 ∷ 11 ∷ 12 ∷ 23 ∷ 24 ∷ []) ≡ true) × (listed n d ≡ true)
   -- records, members, methods, and entries of a stream
   pub types : (s : List ℕ) → Refuses (1 ∷ 10 ∷ 11 ∷ 12 ∷ []) (recordOf typeLeaves s)
   pub ids : (s : List ℕ) → Refuses (1 ∷ 10 ∷ []) (recordOf idLeaves s)
@@ -134,6 +140,9 @@ pub record Demand1 : Type 0 where
       → Saves o (saveOf s σ (length o)) r o′ → saidSave r ≡ refused n d → o′ ≡ o
   -- the buffer, lent to any writer: w is what its definition answers
   pub write-keeps : (o : List ℕ) (w : Answer Written) (r : WriteAnswer) (o′ : List ℕ) (n : ℕ) (d : List ℕ) → Writes o w (saidWrite r) o′ → saidWrite r ≡ refused n d → o′ ≡ o
+  -- the buffer, lent to `declare`
+  pub declare-keeps : (s : List ℕ) (σ : State) (i : ℕ) (o : List ℕ) (r : DeclareAnswer) (o′ : List ℕ) (n : ℕ) (d : List ℕ)
+      → Declares (declareOf s σ i (length o)) o r o′ → saidDeclare r ≡ refused n d → o′ ≡ o
   pub turn-keeps : (s : List ℕ) (f : ItemFinder) (t : List ℕ) (c : ItemIter) (r : TurnAnswer) (t′ : List ℕ) (n : ℕ) (d : List ℕ)
       → Leads t (turnOf s (state f t) c) r t′ → saidTurn r t′ ≡ refused n d → t′ ≡ t
   pub index-all-keeps : (shift : ℕ) (tag : Stream) (s t : List ℕ) (e : Refusal) (t′ : List ℕ) → IndexesBy shift tag s t (walk.Refused e) t′ → t′ ≡ t

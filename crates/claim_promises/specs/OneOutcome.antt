@@ -5,6 +5,8 @@ use denote.Ref.{RefT, now}
 use mathlib.Core.List.{List}
 use mathlib.Core.Path.{_≡_}
 use Rattle.answer.specs.declared.Refusal.{Refusal}
+use Rattle.declare_piece.specs.declared.Piece.{Piece as Piece-of-declare-piece}
+use Rattle.declare_step.specs.declared.Around.{Around}
 use Rattle.field.specs.declared.index.IdIndex.{IdIndex}
 use Rattle.field.specs.declared.index.TypeIndex.{TypeIndex}
 use Rattle.field_text.specs.declared.RawString.{RawString}
@@ -27,7 +29,7 @@ use Rattle.word_attributes.specs.declared.FunctionAttributes.{FunctionAttribute
 use Rattle.word_attributes.specs.declared.ModifierFlags.{ModifierFlags}
 use Rattle.word_attributes.specs.declared.PointerAttributes.{PointerAttributes}
 use Rattle.word_attributes.specs.declared.TypeProperties.{TypeProperties}
-use Rattle.write_pieces.specs.declared.Piece.{Piece}
+use Rattle.write_pieces.specs.declared.Piece.{Piece as Piece-of-write-pieces}
 use Rattle.claim_promises.specs.Contracts as contract
 
 -- the contract C admits one answer
@@ -46,6 +48,20 @@ pub record OneOutcome : Type 1 where
   -- answer
   pub answer-refusal-number : (self : Refusal) → Once (contract.answer-refusal-number self)
   pub answer-refusal-details : (self : Refusal) → Once (contract.answer-refusal-details self)
+  -- declare_node
+  pub declare-node-node-of : (s : List ℕ) (f : ItemFinder) (t : List ℕ) (i : TypeIndex) → Once (contract.declare-node-node-of s f t i)
+  pub declare-node-list-of : (s : List ℕ) (f : ItemFinder) (t : List ℕ) (i : TypeIndex) → Once (contract.declare-node-list-of s f t i)
+  pub declare-node-index-at : (s : List ℕ) (p : ℕ) → Once (contract.declare-node-index-at s p)
+  -- declare_piece
+  pub declare-piece-len : (s : List ℕ) (p : Piece-of-declare-piece) → Once (contract.declare-piece-len s p)
+  pub declare-piece-put : (s : List ℕ) (p : Piece-of-declare-piece) (out : List ℕ) (at : ℕ) → OnceLent (contract.declare-piece-put s p out at)
+  -- declare_step
+  pub declare-step-start : Once (contract.declare-step-start)
+  pub declare-step-step-of : (s : List ℕ) (f : ItemFinder) (t : List ℕ) (i : TypeIndex) (a : Around) → Once (contract.declare-step-step-of s f t i a)
+  -- declare_type
+  pub declare-type-declare : (s : List ℕ) (f : ItemFinder) (t : List ℕ) (i : TypeIndex) (out : List ℕ) → OnceLent (contract.declare-type-declare s f t i out)
+  -- declare_walk
+  pub declare-walk-declarator : (s : List ℕ) (f : ItemFinder) (t : List ℕ) (i : TypeIndex) (d : ℕ) (a : Around) (room : ℕ) → Once (contract.declare-walk-declarator s f t i d a room)
   -- field
   pub field-fixed-u8-at : (s : List ℕ) (p : ℕ) → Once (contract.field-fixed-u8-at s p)
   pub field-fixed-u16-at : (s : List ℕ) (p : ℕ) → Once (contract.field-fixed-u16-at s p)
@@ -212,10 +228,10 @@ pub record OneOutcome : Type 1 where
   pub write-list-write-method-list : (text : List ℕ) (rows : List (List ℕ)) (out : List ℕ) (at : ℕ) → OnceLent (contract.write-list-write-method-list text rows out at)
   -- write_pieces
   pub write-pieces-held-sum : (n : ℕ) (k : ℕ) → Once (contract.write-pieces-held-sum n k)
-  pub write-pieces-measured : (text : List ℕ) (xs : List Piece) → Once (contract.write-pieces-measured text xs)
-  pub write-pieces-write-plain : (text : List ℕ) (xs : List Piece) (out : List ℕ) (at : ℕ) → OnceLent (contract.write-pieces-write-plain text xs out at)
-  pub write-pieces-write-filled : (text : List ℕ) (xs : List Piece) (out : List ℕ) (at : ℕ) → OnceLent (contract.write-pieces-write-filled text xs out at)
-  pub write-pieces-write-record : (text : List ℕ) (xs : List Piece) (out : List ℕ) (at : ℕ) → OnceLent (contract.write-pieces-write-record text xs out at)
+  pub write-pieces-measured : (text : List ℕ) (xs : List Piece-of-write-pieces) → Once (contract.write-pieces-measured text xs)
+  pub write-pieces-write-plain : (text : List ℕ) (xs : List Piece-of-write-pieces) (out : List ℕ) (at : ℕ) → OnceLent (contract.write-pieces-write-plain text xs out at)
+  pub write-pieces-write-filled : (text : List ℕ) (xs : List Piece-of-write-pieces) (out : List ℕ) (at : ℕ) → OnceLent (contract.write-pieces-write-filled text xs out at)
+  pub write-pieces-write-record : (text : List ℕ) (xs : List Piece-of-write-pieces) (out : List ℕ) (at : ℕ) → OnceLent (contract.write-pieces-write-record text xs out at)
   -- write_row
   pub write-row-of-member : (m : Member) → Once (contract.write-row-of-member m)
   pub write-row-of-method : (m : MethodListEntry) → Once (contract.write-row-of-method m)

@@ -1,5 +1,6 @@
 // Answers the commands of compare/PROTOCOL.md: reads them from standard input, one to a line, and prints the port's answers, so that any list
 // of vectors can be run against it. Each line comes from one public function of the libraries.
+mod declare_lines;
 mod input;
 mod items;
 mod lines;
@@ -288,7 +289,7 @@ fn name_of(letters: &[u8; 16], n: usize) -> Name {
           wunsigned:a wsigned:a wtype:a welement:na \
           save:nnannnt load:abt \
           writeheader:n write:n rewrite:a rewriteid:a \
-          secwalk:a secparse:a secfind:an seccreate:nat sectpi:na ",
+          secwalk:a secparse:a secfind:an seccreate:nat sectpi:na declare:nan ",
     )
 }
 
@@ -349,6 +350,10 @@ fn carry_out<'a>(
     }
     if command == 51 {
         return find_in_section(buffer, a.input, tpi, places, n[0]);
+    }
+    if command == 54 {
+        declare_lines::declare(tpi, places, input::low32(n[1]), n[0]);
+        return a.input;
     }
     on_sections(command, tpi, places, a.places, n);
     a.input

@@ -1,0 +1,28 @@
+use borrow.Author.Needs.{needs}
+use Rattle.declare_node.proofs.modifier_quals.Statement.{statement}
+use Rattle.declare_node.proofs.modifier_quals.Tie as tie
+use Rattle.declare_node.proofs.modifier_quals.Reads as reads
+use Rattle.declare_node.proofs.modifier_quals.Lts as lts
+use Rattle.word_attributes.proofs.ModifierFlags.constant.Reads as constant-reads
+use Rattle.word_attributes.proofs.ModifierFlags.unaligned.Reads as unaligned-reads
+use Rattle.word_attributes.proofs.ModifierFlags.volatile.Reads as volatile-reads
+
+-- src/lib.rt:426:19
+constant-requires : tie.Need-constant-requires
+constant-requires c κs = search needs
+
+-- src/lib.rt:427:19
+volatile-requires : tie.Need-volatile-requires
+volatile-requires c κs = search needs
+
+-- src/lib.rt:428:20
+unaligned-requires : tie.Need-unaligned-requires
+unaligned-requires c κs = search needs
+
+-- src/lib.rt:422:1
+returns : tie.Need-returns
+returns c = rw (c .before .before .constant .ensures, c .before .volatile .ensures, c .unaligned .ensures)
+
+pub modifier-quals-spec : {M : Type 1} → statement M
+modifier-quals-spec =
+    tie.close (tie.spec constant-requires volatile-requires unaligned-requires returns)

@@ -1,0 +1,54 @@
+use mathlib.Core.Path.{ap}
+use Rattle.declare_node.specs.declared.Sized.the-variants as sized
+use borrow.Author.Needs.{needs}
+use Rattle.declare_node.proofs.size_in.Statement.{statement}
+use Rattle.declare_node.proofs.size_in.Tie as tie
+use Rattle.declare_node.proofs.size_in.Reads as reads
+use Rattle.declare_node.proofs.size_in.Lts as lts
+use Rattle.declare_node.proofs.primitive_size.Reads as primitive-size-reads
+use Rattle.declare_node.proofs.sized_record.Reads as sized-record-reads
+
+-- src/lib.rt:327:26
+enum-known-l : tie.Need-enum-known-l
+enum-known-l c = search needs
+
+-- src/lib.rt:330:33
+primitive-size-requires : tie.Need-primitive-size-requires
+primitive-size-requires c κs = search needs
+
+-- src/lib.rt:330:13
+returns : tie.Need-returns
+returns c = rw (c .before .before .l .given .1) (ap sized.Known (c .primitive-size .ensures))
+
+-- src/lib.rt:332:28
+enum-known-l-2 : tie.Need-enum-known-l-2
+enum-known-l-2 c = search needs
+
+-- src/lib.rt:333:13
+sized-record-requires : tie.Need-sized-record-requires
+sized-record-requires c κs = search needs
+
+-- src/lib.rt:333:13
+returns-2 : tie.Need-returns-2
+returns-2 c = rw (c .before .before .l2 .given .1) (c .sized-record .ensures)
+
+-- src/lib.rt:336:13
+enum-told : tie.Need-enum-told
+enum-told c = search needs
+
+-- src/lib.rt:336:13
+returns-3 : tie.Need-returns-3
+returns-3 c = search needs
+
+pub size-in-spec : {M : Type 1} → statement M
+size-in-spec =
+    tie.close
+    (tie.spec
+    enum-known-l
+    primitive-size-requires
+    returns
+    enum-known-l-2
+    sized-record-requires
+    returns-2
+    enum-told
+    returns-3)

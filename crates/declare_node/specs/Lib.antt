@@ -1,0 +1,4 @@
+pub mod Sizes
+pub mod Looked
+pub mod Nodes
+pub mod Inside

@@ -1,0 +1,18 @@
+use Rattle.declare_piece.proofs.PutLaws.{word-length}
+use borrow.Author.Needs.{needs}
+use Rattle.declare_piece.proofs.count.by_len.Statement.{statement}
+use Rattle.declare_piece.proofs.count.by_len.Tie as tie
+use Rattle.declare_piece.proofs.count.by_len.Reads as reads
+use Rattle.declare_piece.proofs.count.by_len.Lts as lts
+use Rattle.declare_piece.proofs.words.by.Reads as by-reads
+
+-- src/pieces.rt:24:9
+by-requires : tie.Need-by-requires
+by-requires c κs = search needs
+
+-- src/pieces.rt:21:1
+returns : tie.Need-returns
+returns c = word-length _ _ (c .by .ensures)
+
+pub by-len-spec : {M : Type 1} → statement M
+by-len-spec = tie.close (tie.spec by-requires returns)

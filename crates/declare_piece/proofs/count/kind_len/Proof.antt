@@ -1,0 +1,18 @@
+use Rattle.declare_piece.proofs.PutLaws.{word-length}
+use borrow.Author.Needs.{needs}
+use Rattle.declare_piece.proofs.count.kind_len.Statement.{statement}
+use Rattle.declare_piece.proofs.count.kind_len.Tie as tie
+use Rattle.declare_piece.proofs.count.kind_len.Reads as reads
+use Rattle.declare_piece.proofs.count.kind_len.Lts as lts
+use Rattle.declare_piece.proofs.words.kind.Reads as kind-reads
+
+-- src/pieces.rt:16:9
+kind-requires : tie.Need-kind-requires
+kind-requires c κs = search needs
+
+-- src/pieces.rt:13:1
+returns : tie.Need-returns
+returns c = word-length _ _ (c .kind .ensures)
+
+pub kind-len-spec : {M : Type 1} → statement M
+kind-len-spec = tie.close (tie.spec kind-requires returns)

@@ -1,0 +1,18 @@
+use Rattle.declare_piece.proofs.PutLaws.{word-length}
+use borrow.Author.Needs.{needs}
+use Rattle.declare_piece.proofs.count.mode_len.Statement.{statement}
+use Rattle.declare_piece.proofs.count.mode_len.Tie as tie
+use Rattle.declare_piece.proofs.count.mode_len.Reads as reads
+use Rattle.declare_piece.proofs.count.mode_len.Lts as lts
+use Rattle.declare_piece.proofs.words.mode.Reads as mode-reads
+
+-- src/pieces.rt:23:9
+mode-requires : tie.Need-mode-requires
+mode-requires c κs = search needs
+
+-- src/pieces.rt:20:1
+returns : tie.Need-returns
+returns c = word-length _ _ (c .mode .ensures)
+
+pub mode-len-spec : {M : Type 1} → statement M
+mode-len-spec = tie.close (tie.spec mode-requires returns)

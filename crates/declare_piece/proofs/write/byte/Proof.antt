@@ -1,0 +1,26 @@
+use native.Mathlib.Omega.{arith}
+use Rattle.declare_piece.proofs.PutLaws.{byte-puts}
+use borrow.Author.Needs.{needs}
+use Rattle.declare_piece.proofs.write.byte.Statement.{statement}
+use Rattle.declare_piece.proofs.write.byte.Tie as tie
+use Rattle.declare_piece.proofs.write.byte.Reads as reads
+use Rattle.declare_piece.proofs.write.byte.Lts as lts
+
+-- src/put.rt:63:5
+slice-write-out : tie.Need-slice-write-out
+slice-write-out c = omega (arith, c .pre .room)
+
+-- src/put.rt:64:5
+add-result : tie.Need-add-result
+add-result c = search needs
+
+-- src/put.rt:59:1
+same-length : tie.Need-same-length
+same-length c = search needs
+
+-- src/put.rt:59:1
+returns : tie.Need-returns
+returns c = byte-puts _ _ _
+
+pub byte-spec : {M : Type 1} → statement M
+byte-spec = tie.close (tie.spec slice-write-out add-result same-length returns)

@@ -1,0 +1,3 @@
+pub mod Spellings
+pub mod Pieces
+pub mod Words

@@ -1,0 +1,22 @@
+use Rattle.field_put.proofs.PutLaws.{laid}
+use borrow.Author.Needs.{needs}
+use Rattle.declare_type.proofs.piece.Statement.{statement}
+use Rattle.declare_type.proofs.piece.Tie as tie
+use Rattle.declare_type.proofs.piece.Reads as reads
+use Rattle.declare_type.proofs.piece.Lts as lts
+use Rattle.declare_piece.proofs.put.Reads as put-reads
+
+-- src/lib.rt:56:5
+put-requires : tie.Need-put-requires
+put-requires c κs = search needs
+
+-- src/lib.rt:52:1
+same-length : tie.Need-same-length
+same-length c = search needs
+
+-- src/lib.rt:52:1
+returns : tie.Need-returns
+returns c = laid _ _ _ _ _ (c .before .before .before .before .before .before .pre) (c .before .before .put .ensures)
+
+pub piece-spec : {M : Type 1} → statement M
+piece-spec = tie.close (tie.spec put-requires same-length returns)

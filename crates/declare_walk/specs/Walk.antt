@@ -1,0 +1,78 @@
+-- R-5 of document 02: the declaration of a type, "with no limit on room", and what is answered in a room of r bytes.
+use Prim.Native.Nat.{ℕ, zero, suc, _+_}
+use mathlib.Core.List.{List, [], _++_}
+use lib.ListN.{length}
+use lib.Dec.{ltb}
+use Rattle.answer.specs.Answer.{pick}
+use Rattle.answer.specs.declared.Refusal.{Refusal}
+use Rattle.answer.specs.declared.Refusal.the-variants as refusal
+use Rattle.stream_finder.specs.Finder.{State}
+use Rattle.declare_node.specs.Nodes.{indexAt, listOf}
+use Rattle.declare_node.specs.declared.Arguments.{Arguments}
+use Rattle.declare_node.specs.declared.Arguments.the-variants as arguments
+use Rattle.declare_piece.specs.Pieces.{textOf}
+use Rattle.declare_piece.specs.declared.Piece.the-variants as piece
+use Rattle.declare_step.specs.declared.Around.{Around}
+use Rattle.declare_step.specs.declared.Step.{Step}
+use Rattle.declare_step.specs.declared.Step.the-variants as step
+use Rattle.declare_walk.specs.declared.Measured.{Measured}
+use Rattle.declare_walk.specs.declared.Measured.the-variants as measured
+use Rattle.declare_step.specs.Steps.{startOf, stepOf}
+
+-- What a walk inward comes to: the bytes that go left of all that stood there before, and those that go right of it;
+-- or the first refusal that it met, behind the number of bytes that it had fixed by then.
+pub data Walked : Type 0 where
+  printed : List ℕ → List ℕ → Walked
+  stopped : ℕ → Refusal → Walked
+
+-- l is fixed on the left and r on the right, and the walk goes on inward
+unfoldable pub onto : List ℕ → List ℕ → Walked → Walked
+onto l r (printed a b) = printed (a ++ l) (r ++ b)
+onto l r (stopped k e) = stopped (length l + length r + k) e
+
+-- a whole text is fixed on the right, and the walk goes on
+unfoldable pub joined : Walked → Walked → Walked
+joined (printed l r) w = onto [] (l ++ r) w
+joined (stopped k e) w = stopped k e
+
+-- the other n arguments, whose indices start at place p; f prints one
+unfoldable pub restOf : (ℕ → Walked) → List ℕ → ℕ → ℕ → Walked
+restOf f s p zero = printed [] []
+restOf f s p (suc n) = onto [] (textOf s piece.Comma) (joined (f (indexAt s p .0)) (restOf f s (p + 4) n))
+
+-- n arguments from left to right: none is void
+unfoldable pub argumentsOf : (ℕ → Walked) → List ℕ → ℕ → ℕ → Walked
+argumentsOf f s p zero = printed [] (textOf s piece.Void)
+argumentsOf f s p (suc n) = joined (f (indexAt s p .0)) (restOf f s (p + 4) n)
+
+unfoldable pub listed : (ℕ → Walked) → List ℕ → Arguments → Walked
+listed f s (arguments.At p n) = argumentsOf f s p n
+listed f s (arguments.Refused e) = stopped 0 e
+
+-- a step, where `go` walks on from a type
+unfoldable pub stepped : (ℕ → Around → Walked) → List ℕ → State → Step → Walked
+stepped go s σ (step.Last p) = printed (textOf s p) []
+stepped go s σ (step.Inward l r i a) = onto (textOf s l) (textOf s r) (go (i .0) a)
+stepped go s σ (step.Call l r e g i a) =
+    onto (textOf s l) (textOf s r) (joined (listed (λ j. go j startOf) s (listOf s σ (g .0))) (onto [] (textOf s e) (go (i .0) a)))
+stepped go s σ (step.Refused e) = stopped 0 e
+
+-- type i with d types left to nest: "23 deeper than 32 (before its lookup)"
+unfoldable pub walk : List ℕ → State → ℕ → ℕ → Around → Walked
+walk s σ zero i a = stopped 0 refusal.TooDeep
+walk s σ (suc d) i a = stepped (λ j b. walk s σ d j b) s σ (stepOf s σ i a)
+
+-- In a room of r bytes: 19 exactly if the bytes that the walk has fixed pass the room before it is refused otherwise;
+-- else the refusal, or how many bytes stand left and right.
+unfoldable pub capped : ℕ → Walked → Measured
+capped r (printed a b) = pick (ltb r (length a + length b)) (measured.Refused refusal.NoRoom) (measured.Fits (length a) (length b))
+capped r (stopped k e) = pick (ltb r k) (measured.Refused refusal.NoRoom) (measured.Refused e)
+
+-- the whole text
+abbrev pub whole : Walked → List ℕ
+whole (printed l r) = l ++ r
+whole (stopped k e) = []
+
+-- the declaration of type i
+abbrev pub declarationOf : List ℕ → State → ℕ → Walked
+declarationOf s σ i = walk s σ 32 i startOf
