@@ -2,9 +2,9 @@
 // its size, and under it its data members, with their offsets and types. A type stands by its name, or by its index where it has none.
 // It reads at most 65,536 bytes from standard input, as `list` does. What is refused is said where it stands, by its number and name.
 use answer::Refusal;
+use declare_type::DeclareAnswer;
 use field::index::OptTypeIndex;
 use field::index::TypeIndex;
-use field_text::OptString;
 use libc::STDIN_FILENO;
 use libc::STDOUT_FILENO;
 use record_data::ClassType;
@@ -83,26 +83,28 @@ fn bytes_of<'a>(tpi: &'a [u8], entry: Entry) -> &'a [u8] {
     stream_view::bytes_of(tpi, &tpi[0..0], entry)
 }
 
-// The name of a type whose record is at hand.
-fn put_name(record: &[u8], d: TypeData, t: TypeIndex) {
-    match d.name() {
-        OptString::Some(name) => put(name.bytes(record)),
-        OptString::None => put_index(t),
+// A type by its declaration; by its index where it has none: a bit field, a class without a name, a text that is too long.
+fn put_text(a: DeclareAnswer, text: &[u8], t: TypeIndex) {
+    match a {
+        DeclareAnswer::Written(n) => {
+            if n == 0 {
+                return put_index(t);
+            }
+            if n <= text.len() {
+                put(&text[0..n]);
+            }
+        }
+        DeclareAnswer::Refused(_) => put_index(t),
     }
 }
 
-fn put_entry(tpi: &[u8], entry: Entry, t: TypeIndex) {
-    match record_parse::parse(tpi, &tpi[0..0], entry) {
-        ParseAnswer::Type(d) => put_name(bytes_of(tpi, entry), d, t),
-        _ => put_index(t),
-    }
+fn put_declared(tpi: &[u8], places: &[u32], f: ItemFinder, t: TypeIndex, room: &mut [u8]) {
+    put_text(declare_type::declare(tpi, f, places, t, room), room, t);
 }
 
 fn put_type(tpi: &[u8], places: &[u32], f: ItemFinder, t: TypeIndex) {
-    match stream_finder::find_type(tpi, f, places, t) {
-        FindAnswer::Found(entry, _) => put_entry(tpi, entry, t),
-        FindAnswer::Refused(_) => put_index(t),
-    }
+    let mut room = [0u8; 4096];
+    put_declared(tpi, places, f, t, &mut room[0..4096]);
 }
 
 // A data member's line.
