@@ -1,10 +1,10 @@
 // An outline of a type stream, as a generator of bindings would read one: each class, structure and interface that the stream defines, with
-// its size, and under it its data members, with their offsets and types. A type stands by its name, or by its index where it has none.
+// its size, and under it its data members, with their offsets and types. A type stands by its C declaration, or by its index where it has none.
 // It reads at most 65,536 bytes from standard input, as `list` does. What is refused is said where it stands, by its number and name.
 use answer::Refusal;
+use declare_type::DeclareAnswer;
 use field::index::OptTypeIndex;
 use field::index::TypeIndex;
-use field_text::OptString;
 use libc::STDIN_FILENO;
 use libc::STDOUT_FILENO;
 use record_data::ClassType;
@@ -83,26 +83,25 @@ fn bytes_of<'a>(tpi: &'a [u8], entry: Entry) -> &'a [u8] {
     stream_view::bytes_of(tpi, &tpi[0..0], entry)
 }
 
-// The name of a type whose record is at hand.
-fn put_name(record: &[u8], d: TypeData, t: TypeIndex) {
-    match d.name() {
-        OptString::Some(name) => put(name.bytes(record)),
-        OptString::None => put_index(t),
+// A declaration's text; a type that has none stands by its index.
+fn put_text(a: DeclareAnswer, out: &[u8], t: TypeIndex) {
+    match a {
+        DeclareAnswer::Written(n) => {
+            if n <= out.len() {
+                put(&out[0..n]);
+            }
+        }
+        DeclareAnswer::Refused(_) => put_index(t),
     }
 }
 
-fn put_entry(tpi: &[u8], entry: Entry, t: TypeIndex) {
-    match record_parse::parse(tpi, &tpi[0..0], entry) {
-        ParseAnswer::Type(d) => put_name(bytes_of(tpi, entry), d, t),
-        _ => put_index(t),
-    }
+fn put_declaration(tpi: &[u8], places: &[u32], f: ItemFinder, t: TypeIndex, out: &mut [u8]) {
+    put_text(declare_type::declare(tpi, f, places, t, out), out, t);
 }
 
 fn put_type(tpi: &[u8], places: &[u32], f: ItemFinder, t: TypeIndex) {
-    match stream_finder::find_type(tpi, f, places, t) {
-        FindAnswer::Found(entry, _) => put_entry(tpi, entry, t),
-        FindAnswer::Refused(_) => put_index(t),
-    }
+    let mut out = [0u8; 4096];
+    put_declaration(tpi, places, f, t, &mut out[0..4096]);
 }
 
 // A data member's line.
