@@ -54,6 +54,8 @@ use Rattle.section_finder.proofs.OneOutcome.{one-indexes as one-section}
 use Rattle.section_stream.specs.Streams.{streamOf}
 use Rattle.write_row.specs.Rows.{memberRows, methodRows}
 use Rattle.declare_piece.specs.Pieces.{textOf}
+use Rattle.declare_word.specs.Spellings.{kindText, byText, modeText, qualsText}
+use Rattle.declare_word.proofs.OneOutcome.{one-spells}
 use Rattle.declare_type.specs.Declares.{declareOf}
 use Rattle.declare_type.proofs.OneOutcome.{one-declares}
 use Rattle.claim_promises.specs.Contracts as contract
@@ -81,6 +83,7 @@ one-reader-step x r q m k a b =
 
 pub one-outcome : OneOutcome
 one-outcome = record {
+  declare-kind-kind = λ k. one-spells (kindText k);
   declare-node-node-of = λ s f t i r q a b. a ∙ sym b;
   declare-node-list-of = λ s f t i r q a b. a .0 ∙ sym (b .0);
   declare-node-index-at = λ s p r q a b. a ∙ sym b;
@@ -90,6 +93,9 @@ one-outcome = record {
   declare-step-step-of = λ s f t i x r q a b. a ∙ sym b;
   declare-type-declare = λ s f t i out. one-declares (declareOf s (state f t) (i .0) (length out)) out;
   declare-walk-declarator = λ s f t i d x room r q a b. a ∙ sym b;
+  declare-word-by = λ y. one-spells (byText y);
+  declare-word-mode = λ m. one-spells (modeText m);
+  declare-word-quals = λ q. one-spells (qualsText q);
   answer-refusal-number = λ self r q a b. a ∙ sym b;
   answer-refusal-details = λ self r q a b. one-details r q (a ∙ sym b);
   field-fixed-u8-at = λ s p r q a b. one-u8 r q (a ∙ sym b);

@@ -16,6 +16,7 @@ use Rattle.declare_node.specs.Inside.{ListInside}
 use Rattle.declare_node.specs.Nodes.{indexAt, listOf, nodeOf}
 use Rattle.declare_node.specs.declared.Arguments.{Arguments}
 use Rattle.declare_node.specs.declared.Node.{Node}
+use Rattle.declare_node.specs.declared.Quals.{Quals}
 use Rattle.declare_piece.specs.Pieces.{textOf}
 use Rattle.declare_piece.specs.declared.Piece.{Piece as Piece-of-declare-piece}
 use Rattle.declare_step.specs.Steps.{startOf as startOf-of-declare-step, stepOf as stepOf-of-declare-step}
@@ -25,6 +26,9 @@ use Rattle.declare_type.specs.Declares.{Declares, declareOf}
 use Rattle.declare_type.specs.declared.DeclareAnswer.{DeclareAnswer}
 use Rattle.declare_walk.specs.Walk.{capped, walk}
 use Rattle.declare_walk.specs.declared.Measured.{Measured}
+use Rattle.declare_word.specs.Spellings.{byText, kindText, modeText, qualsText}
+use Rattle.declare_word.specs.Words.{Spells}
+use Rattle.declare_word.specs.declared.Word.{Word}
 use Rattle.field.specs.Bytes.{bytes as bytes-of-field}
 use Rattle.field.specs.Fields.{fixedAt, said16, said32, said64, said8}
 use Rattle.field.specs.Indices.{idOption, noId, noType, optionalAt, optionalOf, saidId, saidOptId, saidOptType, saidStringRef, saidType, typeOption}
@@ -131,7 +135,9 @@ use Rattle.word_attributes.specs.declared.PointerAttributes.{PointerAttributes}
 use Rattle.word_attributes.specs.declared.SizeAnswer.{SizeAnswer}
 use Rattle.word_attributes.specs.declared.TypeProperties.{TypeProperties}
 use Rattle.word_primitive.specs.Primitive.{primitiveOf, saidPrimitive}
+use Rattle.word_primitive.specs.declared.Indirection.{Indirection}
 use Rattle.word_primitive.specs.declared.PrimitiveAnswer.{PrimitiveAnswer}
+use Rattle.word_primitive.specs.declared.PrimitiveKind.{PrimitiveKind}
 use Rattle.write_fit.specs.Fit.{halfPiece, naturalPiece, ofPart, ofRun, runPiece, textPiece, wordPiece}
 use Rattle.write_header.specs.Headers.{headerBytes}
 use Rattle.write_layout.specs.Buffer.{Writes, lay}
@@ -151,6 +157,10 @@ answer-refusal-number self r = r ≡ numberOf self
 -- answer::Refusal::details
 abbrev pub answer-refusal-details : (self : Refusal) → Details → Type 0
 answer-refusal-details self r = detailsValue r ≡ detailsOf self
+
+-- declare_kind::kind
+abbrev pub declare-kind-kind : (k : PrimitiveKind) → Word → Type 0
+declare-kind-kind k r = Spells r (kindText k)
 
 -- declare_node::node_of
 abbrev pub declare-node-node-of : (s : List ℕ) (f : ItemFinder) (t : List ℕ) (i : TypeIndex) → Node → Type 0
@@ -187,6 +197,18 @@ declare-type-declare s f t i out r out′ = Declares (declareOf s (state f t) (i
 -- declare_walk::declarator
 abbrev pub declare-walk-declarator : (s : List ℕ) (f : ItemFinder) (t : List ℕ) (i : TypeIndex) (d : ℕ) (a : Around) (room : ℕ) → Measured → Type 0
 declare-walk-declarator s f t i d a room r = r ≡ capped room (walk s (state f t) d (i .0) a)
+
+-- declare_word::by
+abbrev pub declare-word-by : (y : Indirection) → Word → Type 0
+declare-word-by y r = Spells r (byText y)
+
+-- declare_word::mode
+abbrev pub declare-word-mode : (m : ℕ) → Word → Type 0
+declare-word-mode m r = Spells r (modeText m)
+
+-- declare_word::quals
+abbrev pub declare-word-quals : (q : Quals) → Word → Type 0
+declare-word-quals q r = Spells r (qualsText q)
 
 -- field::fixed::u8_at
 abbrev pub field-fixed-u8-at : (s : List ℕ) (p : ℕ) → Read8 → Type 0

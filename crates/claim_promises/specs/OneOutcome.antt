@@ -5,6 +5,7 @@ use denote.Ref.{RefT, now}
 use mathlib.Core.List.{List}
 use mathlib.Core.Path.{_≡_}
 use Rattle.answer.specs.declared.Refusal.{Refusal}
+use Rattle.declare_node.specs.declared.Quals.{Quals}
 use Rattle.declare_piece.specs.declared.Piece.{Piece as Piece-of-declare-piece}
 use Rattle.declare_step.specs.declared.Around.{Around}
 use Rattle.field.specs.declared.index.IdIndex.{IdIndex}
@@ -29,6 +30,8 @@ use Rattle.word_attributes.specs.declared.FunctionAttributes.{FunctionAttribute
 use Rattle.word_attributes.specs.declared.ModifierFlags.{ModifierFlags}
 use Rattle.word_attributes.specs.declared.PointerAttributes.{PointerAttributes}
 use Rattle.word_attributes.specs.declared.TypeProperties.{TypeProperties}
+use Rattle.word_primitive.specs.declared.Indirection.{Indirection}
+use Rattle.word_primitive.specs.declared.PrimitiveKind.{PrimitiveKind}
 use Rattle.write_pieces.specs.declared.Piece.{Piece as Piece-of-write-pieces}
 use Rattle.claim_promises.specs.Contracts as contract
 
@@ -48,6 +51,8 @@ pub record OneOutcome : Type 1 where
   -- answer
   pub answer-refusal-number : (self : Refusal) → Once (contract.answer-refusal-number self)
   pub answer-refusal-details : (self : Refusal) → Once (contract.answer-refusal-details self)
+  -- declare_kind
+  pub declare-kind-kind : (k : PrimitiveKind) → Once (contract.declare-kind-kind k)
   -- declare_node
   pub declare-node-node-of : (s : List ℕ) (f : ItemFinder) (t : List ℕ) (i : TypeIndex) → Once (contract.declare-node-node-of s f t i)
   pub declare-node-list-of : (s : List ℕ) (f : ItemFinder) (t : List ℕ) (i : TypeIndex) → Once (contract.declare-node-list-of s f t i)
@@ -62,6 +67,10 @@ pub record OneOutcome : Type 1 where
   pub declare-type-declare : (s : List ℕ) (f : ItemFinder) (t : List ℕ) (i : TypeIndex) (out : List ℕ) → OnceLent (contract.declare-type-declare s f t i out)
   -- declare_walk
   pub declare-walk-declarator : (s : List ℕ) (f : ItemFinder) (t : List ℕ) (i : TypeIndex) (d : ℕ) (a : Around) (room : ℕ) → Once (contract.declare-walk-declarator s f t i d a room)
+  -- declare_word
+  pub declare-word-by : (y : Indirection) → Once (contract.declare-word-by y)
+  pub declare-word-mode : (m : ℕ) → Once (contract.declare-word-mode m)
+  pub declare-word-quals : (q : Quals) → Once (contract.declare-word-quals q)
   -- field
   pub field-fixed-u8-at : (s : List ℕ) (p : ℕ) → Once (contract.field-fixed-u8-at s p)
   pub field-fixed-u16-at : (s : List ℕ) (p : ℕ) → Once (contract.field-fixed-u16-at s p)

@@ -13,9 +13,9 @@ use Rattle.word_primitive.specs.declared.Indirection.{Indirection}
 use Rattle.declare_node.specs.declared.Quals.{Quals}
 use Rattle.declare_piece.specs.declared.Piece.{Piece}
 use Rattle.declare_piece.specs.declared.Piece.the-variants as piece
-use Rattle.declare_piece.specs.Spellings.{quoted, kindText, byText, modeText, qualsText}
+use Rattle.declare_word.specs.Spellings.{quoted, kindText, byText, modeText, qualsText}
 use Rattle.declare_piece.specs.Pieces.{spaced, behind, qualsIn, gap, decimal, extentText, closing, textOf}
-use Rattle.declare_piece.specs.Words.{spacedLength, qualsLength}
+use Rattle.declare_piece.specs.Lengths.{spacedLength, qualsLength}
 
 pub length-spaced : (l : List ℕ) → length (spaced l) ≡ spacedLength (length l)
 length-spaced [] = refl
@@ -38,10 +38,6 @@ cut-name s p n h = simp (length-take, length-drop) (omega arith)
 
 pub whole-name : (s : List ℕ) (p n : ℕ) → n ≤ length s - p → n ≡ length (take n (drop p s))
 whole-name s p n h = simp (length-take, length-drop) (omega arith)
-
-pub mode-other : (m : ℕ) → (m ≡ 0 → ⊥) → (m ≡ 1 → ⊥) → (m ≡ 2 → ⊥) → (m ≡ 3 → ⊥) → modeText m ≡ quoted "&&"
-unfolding modeText
-mode-other m a b c d = rw (ne-eqb m 0 a, ne-eqb m 1 b, ne-eqb m 2 c, ne-eqb m 3 d)
 
 -- one digit; one more digit
 more : (k n : ℕ) → 10 ≤ n → decimal (suc k) n ≡ decimal k (n / 10) ++ (48 + n % 10) ∷ []

@@ -1,3 +1,2 @@
-pub mod Spellings
 pub mod Pieces
-pub mod Words
+pub mod Lengths

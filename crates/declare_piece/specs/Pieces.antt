@@ -9,7 +9,7 @@ use Rattle.declare_node.specs.declared.Extent.{Extent}
 use Rattle.declare_node.specs.declared.Extent.the-variants as extent
 use Rattle.declare_piece.specs.declared.Piece.{Piece}
 use Rattle.declare_piece.specs.declared.Piece.the-variants as piece
-use Rattle.declare_piece.specs.Spellings.{quoted, kindText, byText, modeText, qualsText}
+use Rattle.declare_word.specs.Spellings.{quoted, kindText, byText, modeText, qualsText}
 
 -- a text with a space behind it, if there is a text
 abbrev pub spaced : List ℕ → List ℕ

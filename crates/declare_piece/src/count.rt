@@ -2,11 +2,10 @@
 ghost use mathlib.Core.Path.{_≡_};
 ghost use Prim.Native.Nat.{_+_, _≤_, _<_};
 ghost use lib.ListN.{length, take, drop};
-ghost use Rattle.declare_piece.specs.Spellings.{kindText, byText, modeText, qualsText};
+ghost use Rattle.declare_word.specs.Spellings.{kindText, byText, modeText, qualsText};
 ghost use Rattle.declare_piece.specs.Pieces.{gap, decimal, extentText, closing, textOf};
-ghost use Rattle.declare_piece.specs.Words.{spacedLength, qualsLength};
+ghost use Rattle.declare_piece.specs.Lengths.{spacedLength, qualsLength};
 use crate::Piece;
-use crate::words;
 use declare_node::Extent;
 use declare_node::Quals;
 use word_primitive::Indirection;
@@ -15,28 +14,28 @@ use word_primitive::PrimitiveKind;
 fn kind_len(k: PrimitiveKind) -> usize
     ensures { λ r. ⌜ (r ≡ length (kindText k)) × (r ≤ 40) ⌝ }
 {
-    let w = words::kind(k);
+    let w = declare_kind::kind(k);
     w.n
 }
 
 fn by_len(y: Indirection) -> usize
     ensures { λ r. ⌜ (r ≡ length (byText y)) × (r ≤ 40) ⌝ }
 {
-    let w = words::by(y);
+    let w = declare_word::by(y);
     w.n
 }
 
 fn mode_len(m: u8) -> usize
     ensures { λ r. ⌜ (r ≡ length (modeText m)) × (r ≤ 40) ⌝ }
 {
-    let w = words::mode(m);
+    let w = declare_word::mode(m);
     w.n
 }
 
 pub fn quals_len(q: Quals) -> usize
     ensures { λ r. ⌜ (r ≡ length (qualsText q)) × (r ≤ 40) ⌝ }
 {
-    let w = words::quals(q);
+    let w = declare_word::quals(q);
     w.n
 }
 

@@ -1,7 +1,6 @@
 // The pieces of a C declaration (R-5 of document 02): how many bytes each has, and each written into a lent buffer.
-// specs/Spellings.antt has the house spellings, specs/Pieces.antt the text of each piece.
+// specs/Pieces.antt has the text of each piece, declare_word the spellings.
 mod count;
-mod words;
 mod write;
 
 ghost use mathlib.Core.Path.{_≡_};
@@ -12,12 +11,6 @@ use declare_node::Extent;
 use declare_node::Quals;
 use word_primitive::Indirection;
 use word_primitive::PrimitiveKind;
-
-// A short text: the first n bytes.
-pub struct Word {
-    pub bytes: [u8; 40],
-    pub n: usize,
-}
 
 // A piece of a declaration. `last` says that nothing stands left of what the piece declares yet, `bare` that nothing is fixed at all.
 pub enum Piece {

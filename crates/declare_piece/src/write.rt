@@ -5,15 +5,14 @@ ghost use mathlib.Core.List.{_∷_, [], _++_};
 ghost use lib.Dec.{eqb};
 ghost use lib.ListN.{length, take, drop};
 ghost use Rattle.field_put.specs.Bytes.{Room, Puts};
-ghost use Rattle.declare_piece.specs.Spellings.{quoted, kindText, byText, modeText, qualsText};
+ghost use Rattle.declare_word.specs.Spellings.{quoted, kindText, byText, modeText, qualsText};
 ghost use Rattle.declare_piece.specs.Pieces.{decimal, extentText, closing, spaced, behind, qualsIn, gap, textOf};
-ghost use Rattle.declare_piece.specs.Words.{ending};
+ghost use Rattle.declare_piece.specs.Lengths.{ending};
 use crate::Piece;
-use crate::Word;
 use crate::count;
-use crate::words;
 use declare_node::Extent;
 use declare_node::Quals;
+use declare_word::Word;
 use word_primitive::Indirection;
 use word_primitive::PrimitiveKind;
 
@@ -37,28 +36,28 @@ fn kind(out: &mut [u8], at: usize, k: PrimitiveKind) -> usize
     requires { ⌜ Room (now out) at (kindText k) ⌝ }
     ensures { λ r. ⌜ Puts (now (out .entry)) at (kindText k) r (now (out .exit)) ⌝ }
 {
-    word(out, at, words::kind(k))
+    word(out, at, declare_kind::kind(k))
 }
 
 fn by(out: &mut [u8], at: usize, y: Indirection) -> usize
     requires { ⌜ Room (now out) at (byText y) ⌝ }
     ensures { λ r. ⌜ Puts (now (out .entry)) at (byText y) r (now (out .exit)) ⌝ }
 {
-    word(out, at, words::by(y))
+    word(out, at, declare_word::by(y))
 }
 
 fn mode(out: &mut [u8], at: usize, m: u8) -> usize
     requires { ⌜ Room (now out) at (modeText m) ⌝ }
     ensures { λ r. ⌜ Puts (now (out .entry)) at (modeText m) r (now (out .exit)) ⌝ }
 {
-    word(out, at, words::mode(m))
+    word(out, at, declare_word::mode(m))
 }
 
 fn quals(out: &mut [u8], at: usize, q: Quals) -> usize
     requires { ⌜ Room (now out) at (qualsText q) ⌝ }
     ensures { λ r. ⌜ Puts (now (out .entry)) at (qualsText q) r (now (out .exit)) ⌝ }
 {
-    word(out, at, words::quals(q))
+    word(out, at, declare_word::quals(q))
 }
 
 fn byte(out: &mut [u8], at: usize, b: u8) -> usize

@@ -4,7 +4,7 @@ use Rattle.declare_piece.proofs.count.by_len.Statement.{statement}
 use Rattle.declare_piece.proofs.count.by_len.Tie as tie
 use Rattle.declare_piece.proofs.count.by_len.Reads as reads
 use Rattle.declare_piece.proofs.count.by_len.Lts as lts
-use Rattle.declare_piece.proofs.words.by.Reads as by-reads
+use Rattle.declare_word.proofs.by.Reads as by-reads
 
 -- src/pieces.rt:24:9
 by-requires : tie.Need-by-requires

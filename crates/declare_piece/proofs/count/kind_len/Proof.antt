@@ -4,7 +4,7 @@ use Rattle.declare_piece.proofs.count.kind_len.Statement.{statement}
 use Rattle.declare_piece.proofs.count.kind_len.Tie as tie
 use Rattle.declare_piece.proofs.count.kind_len.Reads as reads
 use Rattle.declare_piece.proofs.count.kind_len.Lts as lts
-use Rattle.declare_piece.proofs.words.kind.Reads as kind-reads
+use Rattle.declare_kind.proofs.kind.Reads as kind-reads
 
 -- src/pieces.rt:16:9
 kind-requires : tie.Need-kind-requires

@@ -4,7 +4,7 @@ use Rattle.declare_piece.proofs.count.mode_len.Statement.{statement}
 use Rattle.declare_piece.proofs.count.mode_len.Tie as tie
 use Rattle.declare_piece.proofs.count.mode_len.Reads as reads
 use Rattle.declare_piece.proofs.count.mode_len.Lts as lts
-use Rattle.declare_piece.proofs.words.mode.Reads as mode-reads
+use Rattle.declare_word.proofs.mode.Reads as mode-reads
 
 -- src/pieces.rt:23:9
 mode-requires : tie.Need-mode-requires

@@ -4,7 +4,7 @@ use Rattle.declare_piece.proofs.count.quals_len.Statement.{statement}
 use Rattle.declare_piece.proofs.count.quals_len.Tie as tie
 use Rattle.declare_piece.proofs.count.quals_len.Reads as reads
 use Rattle.declare_piece.proofs.count.quals_len.Lts as lts
-use Rattle.declare_piece.proofs.words.quals.Reads as quals-reads
+use Rattle.declare_word.proofs.quals.Reads as quals-reads
 
 -- src/pieces.rt:30:9
 quals-requires : tie.Need-quals-requires

@@ -1,5 +1,5 @@
 use mathlib.Core.Path.{sym, _∙_}
-use Rattle.declare_piece.specs.Spellings.{qualsText}
+use Rattle.declare_word.specs.Spellings.{qualsText}
 use Rattle.declare_piece.proofs.PutLaws.{puts-none, puts-as, puts-two, fits-as, fits-first, fits-second, behind-none, behind-some}
 use borrow.Author.Needs.{needs}
 use Rattle.declare_piece.proofs.write.behind.Statement.{statement}

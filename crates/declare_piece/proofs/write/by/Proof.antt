@@ -5,7 +5,7 @@ use Rattle.declare_piece.proofs.write.by.Tie as tie
 use Rattle.declare_piece.proofs.write.by.Reads as reads
 use Rattle.declare_piece.proofs.write.by.Lts as lts
 use Rattle.declare_piece.proofs.write.word.Reads as word-reads
-use Rattle.declare_piece.proofs.words.by.Reads as by-reads
+use Rattle.declare_word.proofs.by.Reads as by-reads
 
 -- src/put.rt:50:19
 by-requires : tie.Need-by-requires

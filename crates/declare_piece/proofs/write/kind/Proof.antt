@@ -5,7 +5,7 @@ use Rattle.declare_piece.proofs.write.kind.Tie as tie
 use Rattle.declare_piece.proofs.write.kind.Reads as reads
 use Rattle.declare_piece.proofs.write.kind.Lts as lts
 use Rattle.declare_piece.proofs.write.word.Reads as word-reads
-use Rattle.declare_piece.proofs.words.kind.Reads as kind-reads
+use Rattle.declare_kind.proofs.kind.Reads as kind-reads
 
 -- src/put.rt:40:19
 kind-requires : tie.Need-kind-requires

@@ -5,7 +5,7 @@ use Rattle.declare_piece.proofs.write.mode.Tie as tie
 use Rattle.declare_piece.proofs.write.mode.Reads as reads
 use Rattle.declare_piece.proofs.write.mode.Lts as lts
 use Rattle.declare_piece.proofs.write.word.Reads as word-reads
-use Rattle.declare_piece.proofs.words.mode.Reads as mode-reads
+use Rattle.declare_word.proofs.mode.Reads as mode-reads
 
 -- src/put.rt:47:19
 mode-requires : tie.Need-mode-requires

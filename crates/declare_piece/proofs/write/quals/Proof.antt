@@ -5,7 +5,7 @@ use Rattle.declare_piece.proofs.write.quals.Tie as tie
 use Rattle.declare_piece.proofs.write.quals.Reads as reads
 use Rattle.declare_piece.proofs.write.quals.Lts as lts
 use Rattle.declare_piece.proofs.write.word.Reads as word-reads
-use Rattle.declare_piece.proofs.words.quals.Reads as quals-reads
+use Rattle.declare_word.proofs.quals.Reads as quals-reads
 
 -- src/put.rt:54:19
 quals-requires : tie.Need-quals-requires

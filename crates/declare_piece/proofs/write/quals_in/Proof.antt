@@ -1,4 +1,4 @@
-use Rattle.declare_piece.specs.Spellings.{qualsText}
+use Rattle.declare_word.specs.Spellings.{qualsText}
 use Rattle.declare_piece.proofs.PutLaws.{ending-first, ending-second, ending-puts}
 use borrow.Author.Needs.{needs}
 use Rattle.declare_piece.proofs.write.quals_in.Statement.{statement}

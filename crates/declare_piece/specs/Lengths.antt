@@ -1,18 +1,9 @@
--- What private functions tell each other: a word and its text, and lengths as the code counts them.
-use Prim.Native.Nat.{ℕ, _+_, _≤_}
-use mathlib.Core.Path.{_≡_}
+-- What private functions tell each other: lengths as the code counts them.
+use Prim.Native.Nat.{ℕ, _+_}
 use mathlib.Core.Bool.{Bool, true, false}
 use mathlib.Core.List.{List, [], _∷_}
-use lib.ListN.{length, take}
 use lib.Dec.{eqb}
 use Rattle.answer.specs.Answer.{pick}
-use Rattle.declare_piece.specs.declared.Word.{Word}
-
--- a word's text
-pub record Spells (w : Word) (text : List ℕ) : Type 0 where
-  pub says : take (w .n) (w .bytes) ≡ text
-  pub short : w .n ≤ 40
-  pub all : length (w .bytes) ≡ 40
 
 -- what stands behind a pointer's qualifiers: nothing if they are the last or there are none, else a space
 abbrev pub ending : Bool → Bool → List ℕ

@@ -1,0 +1,2 @@
+pub mod Spellings
+pub mod Words

@@ -1,0 +1,210 @@
+// The house spellings of R-5 of document 02, each a table: indirections, modes of pointers, qualifiers; those of the kinds are in declare_kind.
+// specs/Spellings.antt has all of them as definitions, specs/Words.antt how a text stands in a word.
+ghost use Rattle.declare_word.specs.Spellings.{byText, modeText, qualsText};
+ghost use Rattle.declare_word.specs.Words.{Spells};
+use declare_node::Quals;
+use word_primitive::Indirection;
+
+// A short text: the first n bytes, and spaces behind them.
+pub struct Word {
+    pub bytes: [u8; 40],
+    pub n: usize,
+}
+
+// An indirection, as the piece that stands before what the primitive declares.
+pub fn by(y: Indirection) -> Word
+    ensures { λ r. ⌜ Spells r (byText y) ⌝ }
+{
+    match y {
+        Indirection::Direct => {
+            return Word {
+                bytes: *b"                                        ",
+                n: 0,
+            };
+        }
+        Indirection::Near16 => {
+            return Word {
+                bytes: *b"__near *                                ",
+                n: 8,
+            };
+        }
+        Indirection::Far16 => {
+            return Word {
+                bytes: *b"__far *                                 ",
+                n: 7,
+            };
+        }
+        Indirection::Huge16 => {
+            return Word {
+                bytes: *b"__huge *                                ",
+                n: 8,
+            };
+        }
+        Indirection::Near32 => {
+            return Word {
+                bytes: *b"*                                       ",
+                n: 1,
+            };
+        }
+        Indirection::Far32 => {
+            return Word {
+                bytes: *b"__far32 *                               ",
+                n: 9,
+            };
+        }
+        Indirection::Near64 => {
+            return Word {
+                bytes: *b"*                                       ",
+                n: 1,
+            };
+        }
+        Indirection::Near128 => {
+            return Word {
+                bytes: *b"__ptr128 *                              ",
+                n: 10,
+            };
+        }
+    }
+}
+
+// A mode of a pointer word.
+pub fn mode(m: u8) -> Word
+    ensures { λ r. ⌜ Spells r (modeText m) ⌝ }
+{
+    match m {
+        0 => {
+            return Word {
+                bytes: *b"*                                       ",
+                n: 1,
+            };
+        }
+        1 => {
+            return Word {
+                bytes: *b"&                                       ",
+                n: 1,
+            };
+        }
+        2 => {
+            return Word {
+                bytes: *b"::*                                     ",
+                n: 3,
+            };
+        }
+        3 => {
+            return Word {
+                bytes: *b"::*                                     ",
+                n: 3,
+            };
+        }
+        _ => {
+            return Word {
+                bytes: *b"&&                                      ",
+                n: 2,
+            };
+        }
+    }
+}
+
+// Qualifiers, in their order.
+pub fn quals(q: Quals) -> Word
+    ensures { λ r. ⌜ Spells r (qualsText q) ⌝ }
+{
+    let constant = q.constant;
+    let volatile = q.volatile;
+    let unaligned = q.unaligned;
+    let restrict = q.restrict;
+    if constant {
+        if volatile {
+            if unaligned {
+                if restrict {
+                    return Word {
+                        bytes: *b"const volatile __unaligned __restrict   ",
+                        n: 37,
+                    };
+                }
+                return Word {
+                    bytes: *b"const volatile __unaligned              ",
+                    n: 26,
+                };
+            }
+            if restrict {
+                return Word {
+                    bytes: *b"const volatile __restrict               ",
+                    n: 25,
+                };
+            }
+            return Word {
+                bytes: *b"const volatile                          ",
+                n: 14,
+            };
+        }
+        if unaligned {
+            if restrict {
+                return Word {
+                    bytes: *b"const __unaligned __restrict            ",
+                    n: 28,
+                };
+            }
+            return Word {
+                bytes: *b"const __unaligned                       ",
+                n: 17,
+            };
+        }
+        if restrict {
+            return Word {
+                bytes: *b"const __restrict                        ",
+                n: 16,
+            };
+        }
+        return Word {
+            bytes: *b"const                                   ",
+            n: 5,
+        };
+    }
+    if volatile {
+        if unaligned {
+            if restrict {
+                return Word {
+                    bytes: *b"volatile __unaligned __restrict         ",
+                    n: 31,
+                };
+            }
+            return Word {
+                bytes: *b"volatile __unaligned                    ",
+                n: 20,
+            };
+        }
+        if restrict {
+            return Word {
+                bytes: *b"volatile __restrict                     ",
+                n: 19,
+            };
+        }
+        return Word {
+            bytes: *b"volatile                                ",
+            n: 8,
+        };
+    }
+    if unaligned {
+        if restrict {
+            return Word {
+                bytes: *b"__unaligned __restrict                  ",
+                n: 22,
+            };
+        }
+        return Word {
+            bytes: *b"__unaligned                             ",
+            n: 11,
+        };
+    }
+    if restrict {
+        return Word {
+            bytes: *b"__restrict                              ",
+            n: 10,
+        };
+    }
+    return Word {
+        bytes: *b"                                        ",
+        n: 0,
+    };
+}
