@@ -242,8 +242,29 @@ pub fn number_at(s: &[u8], p: usize) -> ReadVariant
     }
 }
 
-// A numeric leaf where a size or an offset is wanted; 11 if it is negative.
+// A numeric leaf where a size or an offset is wanted; 11 if it is negative. A plain number, which nearly all are, is answered here, and
+// what has a prefix by a function of its own: so this one is small enough to be inlined.
 pub fn size_at(s: &[u8], p: usize) -> ReadSize
+    ensures { λ r. ⌜ saidSize r ≡ sizedAt (now (s .entry)) p ⌝ }
+{
+    let Read16::Got(n, q) = fixed::u16_at(s, p) else {
+        return ReadSize::Refused(Refusal::Ended);
+    };
+    if n < 0x8000 {
+        return ReadSize::Got(
+            Size {
+                value: n as u64,
+                width: 2,
+                shorter: false,
+            },
+            q,
+        );
+    }
+    size_of_any(s, p)
+}
+
+// The same of a number in any form.
+fn size_of_any(s: &[u8], p: usize) -> ReadSize
     ensures { λ r. ⌜ saidSize r ≡ sizedAt (now (s .entry)) p ⌝ }
 {
     match number_at(s, p) {

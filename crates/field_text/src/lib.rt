@@ -39,8 +39,13 @@ fn marks(x: u64) -> u64
 fn zero_from(s: &[u8], p: usize) -> usize
     ensures { λ r. ⌜ ZeroAt (now (s .entry)) p r ⌝ }
 {
+    if s.len() < 8 {
+        return zero_by_byte(s, p);
+    }
+    // the last place that has eight bytes: one test says both that the search goes on and that a word is there
+    let last = s.len() - 8;
     let mut i = p;
-    while i < s.len() {
+    while i <= last {
         let Read64::Got(x, _) = fixed::u64_at(s, i) else {
             return zero_by_byte(s, i);
         };
@@ -50,7 +55,7 @@ fn zero_from(s: &[u8], p: usize) -> usize
         }
         i += 8;
     }
-    i
+    zero_by_byte(s, i)
 }
 
 // The same, byte by byte.

@@ -262,20 +262,18 @@ fn find_once(s: &[u8], t: &[u32; PLACES], f: ItemFinder) -> u64 {
     let last = f.maximum_index;
     let mut sum: u64 = 0;
     while n < last {
-        sum = add(sum, found(stream_finder::find_type(s, f, t, TypeIndex(n))));
+        match stream_finder::find_type(s, f, t, TypeIndex(n)) {
+            FindAnswer::Found(e, _) => match e {
+                Entry::Record(i) => {
+                    sum = add(sum, sums::item(i));
+                }
+                Entry::Marker(_) => {}
+            },
+            FindAnswer::Refused(_) => {}
+        }
         n += 1;
     }
     sum
-}
-
-fn found(a: FindAnswer) -> u64 {
-    match a {
-        FindAnswer::Found(e, _) => match e {
-            Entry::Record(i) => sums::item(i),
-            Entry::Marker(_) => 0,
-        },
-        FindAnswer::Refused(_) => 0,
-    }
 }
 
 // Asks for every primitive, in an order of its own each time.

@@ -10,7 +10,7 @@ use Rattle.field.specs.declared.index.OptTypeIndex.{OptTypeIndex}
 use Rattle.record_layout.specs.Fields.{number, numeral, absent, many, Shown}
 use Rattle.record_layout.specs.Values.{nth, numberIn, stringIn, optionIn}
 use Rattle.record_layout.proofs.OneOutcome.{sizeIn, type-back}
-use Rattle.record_data.specs.Said.{stringValue, classFrom, fieldsFrom, kindValues, typeValues, saidTypeData}
+use Rattle.record_data.specs.Said.{stringValue, kindValues, typeValues, saidTypeData}
 use Rattle.record_data.specs.declared.ClassKind.{ClassKind}
 use Rattle.record_data.specs.declared.ClassKind.the-variants as kind
 use Rattle.field_text.specs.declared.OptString.{OptString}
@@ -106,7 +106,20 @@ dataIn vs =
     (pick (eqb leaf 0x1206) type.MethodList
     type.FieldList))))))))))))))
 
-class-back : (k : ClassKind) (r : ClassType) → dataIn (kindValues k r) ≡ type.Class (classFrom k (fieldsFrom r))
+abbrev withKind : ClassKind → ClassType → ClassType
+withKind k r = record {
+  kind = k;
+  count = r .count;
+  properties = r .properties;
+  fields = r .fields;
+  «derived_from» = r .«derived_from»;
+  «vtable_shape» = r .«vtable_shape»;
+  size = r .size;
+  name = r .name;
+  «unique_name» = r .«unique_name»;
+}
+
+class-back : (k : ClassKind) (r : ClassType) → dataIn (kindValues k r) ≡ type.Class (withKind k r)
 class-back kind.Class r = rw (type-back (r .fields), type-back (r .«derived_from»), type-back (r .«vtable_shape»), opt-back (r .«unique_name»))
 class-back kind.Struct r = rw (type-back (r .fields), type-back (r .«derived_from»), type-back (r .«vtable_shape»), opt-back (r .«unique_name»))
 class-back kind.Interface r = rw (type-back (r .fields), type-back (r .«derived_from»), type-back (r .«vtable_shape»), opt-back (r .«unique_name»))

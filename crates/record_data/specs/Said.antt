@@ -1,9 +1,10 @@
 -- What a type record says: its leaf, and the values of its layout in the layout's order. To be read against the table typeLeaves of
 -- record_layout/specs/Layouts.antt.
 use Prim.Native.Nat.{ℕ, zero, suc, _+_, _*_, _/_}
+use mathlib.Core.Path.{_≡_}
 use mathlib.Core.List.{List, [], _∷_}
 use mathlib.Core.Option.{Option, none, some}
-use Rattle.answer.specs.Answer.{Answer, answered, Read, got, ended}
+use Rattle.answer.specs.Answer.{Answer, answered, Read, got, ended, and-then}
 use Rattle.answer.specs.Refusals.{no}
 use Rattle.answer.specs.Tables.{Line, _is_, find}
 use Rattle.field_text.specs.Texts.{part}
@@ -11,6 +12,7 @@ use Rattle.field.specs.Indices.{typeOption}
 use Rattle.field.specs.declared.index.ReadOptType.{ReadOptType}
 use Rattle.field.specs.declared.index.ReadOptType.the-variants as rtype
 use Rattle.record_layout.specs.Fields.{number, absent, many, numberOr, orAbsent, Shown}
+use Rattle.record_layout.specs.Layouts.{class, byLayout}
 use Rattle.record_layout.specs.Values.{sizeValue}
 use Rattle.record_data.specs.declared.ClassKind.{ClassKind}
 use Rattle.record_data.specs.declared.ClassKind.the-variants as kind
@@ -19,9 +21,8 @@ use Rattle.field_text.specs.declared.OptString.the-variants as opt
 use Rattle.record_data.specs.declared.ReadOptString.{ReadOptString}
 use Rattle.record_data.specs.declared.ReadOptString.the-variants as ropt
 use Rattle.record_data.specs.declared.ClassType.{ClassType}
-use Rattle.record_data.specs.declared.ClassFields.{ClassFields}
-use Rattle.record_data.specs.declared.ReadClassFields.{ReadClassFields}
-use Rattle.record_data.specs.declared.ReadClassFields.the-variants as rclass
+use Rattle.record_data.specs.declared.OptKind.{OptKind}
+use Rattle.record_data.specs.declared.OptKind.the-variants as optKind
 use Rattle.record_data.specs.declared.TypeData.{TypeData}
 use Rattle.record_data.specs.declared.TypeData.the-variants as type
 use Rattle.record_data.specs.declared.TypeAnswer.{TypeAnswer}
@@ -42,48 +43,40 @@ saidContaining (rtype.Got t p) = got (orAbsent (typeOption t)) p
 saidContaining rtype.Ended = ended
 
 -- count, properties, O, O, O, N, S, and a second S
-abbrev pub classValues : ClassFields → List Shown
+abbrev pub classValues : ClassType → List Shown
 classValues r =
-    number (r .count) ∷ number (r .properties) ∷ orAbsent (typeOption (r .fields)) ∷ orAbsent (typeOption (r .«derived_from»)) ∷ orAbsent (typeOption (r .«vtable_shape»))
+    number (r .count) ∷ number (r .properties .0) ∷ orAbsent (typeOption (r .fields)) ∷ orAbsent (typeOption (r .«derived_from»)) ∷ orAbsent (typeOption (r .«vtable_shape»))
     ∷ sizeValue (r .size) ∷ many (part (r .name)) ∷ stringValue (r .«unique_name») ∷ []
 
-abbrev pub saidClassFields : ReadClassFields → Read (List Shown)
-saidClassFields (rclass.Got f p) = got (classValues f) p
-saidClassFields (rclass.Refused e) = no e
+-- the leaf of each kind
+abbrev pub kindLeaf : ClassKind → ℕ
+kindLeaf kind.Class = 0x1504
+kindLeaf kind.Struct = 0x1505
+kindLeaf kind.Interface = 0x1519
+kindLeaf kind.Struct19 = 0x1609
 
-abbrev pub classFrom : ClassKind → ClassFields → ClassType
-classFrom k f = record {
-  kind = k;
-  count = f .count;
-  properties = record { 0 = f .properties };
-  fields = f .fields;
-  «derived_from» = f .«derived_from»;
-  «vtable_shape» = f .«vtable_shape»;
-  size = f .size;
-  name = f .name;
-  «unique_name» = f .«unique_name»;
-}
-
-abbrev pub fieldsFrom : ClassType → ClassFields
-fieldsFrom r = record {
-  count = r .count;
-  properties = r .properties .0;
-  fields = r .fields;
-  «derived_from» = r .«derived_from»;
-  «vtable_shape» = r .«vtable_shape»;
-  size = r .size;
-  name = r .name;
-  «unique_name» = r .«unique_name»;
-}
-
--- the leaf of each kind, and its values: 0x1609 has its properties first, in a u32, and its count after the indices
+-- and its values: 0x1609 has its properties first, in a u32, and its count after the indices
 abbrev pub kindValues : ClassKind → ClassType → List Shown
-kindValues kind.Class r = number 0x1504 ∷ classValues (fieldsFrom r)
-kindValues kind.Struct r = number 0x1505 ∷ classValues (fieldsFrom r)
-kindValues kind.Interface r = number 0x1519 ∷ classValues (fieldsFrom r)
+kindValues kind.Class r = number 0x1504 ∷ classValues r
+kindValues kind.Struct r = number 0x1505 ∷ classValues r
+kindValues kind.Interface r = number 0x1519 ∷ classValues r
 kindValues kind.Struct19 r =
     number 0x1609 ∷ number (r .properties .0) ∷ absent ∷ orAbsent (typeOption (r .fields)) ∷ orAbsent (typeOption (r .«derived_from»)) ∷ orAbsent (typeOption (r .«vtable_shape»))
     ∷ number (r .count) ∷ sizeValue (r .size) ∷ many (part (r .name)) ∷ stringValue (r .«unique_name») ∷ []
+
+-- the three kinds that have one layout, and what the record of such a leaf says
+unfoldable pub classKinds : List (Line ClassKind)
+classKinds = (0x1504 is kind.Class) ∷ (0x1505 is kind.Struct) ∷ (0x1519 is kind.Interface) ∷ []
+
+abbrev pub Plain : ClassKind → Type 0
+Plain k = (r : ClassType) → kindValues k r ≡ number (kindLeaf k) ∷ classValues r
+
+abbrev pub kindOption : OptKind → Option ClassKind
+kindOption optKind.None = none
+kindOption (optKind.Some k) = some k
+
+abbrev pub classOf : ℕ → List ℕ → ℕ → Answer (List Shown)
+classOf leaf s p = and-then (byLayout (some class) leaf s p) (λ vs e. answered vs)
 
 abbrev pub typeValues : TypeData → List Shown
 typeValues (type.Class r) = kindValues (r .kind) r

@@ -1,10 +1,10 @@
 // The records of the TPI stream: the type leaves of document 01, by the names of the crate's data.rs, each read by its line of the table in
 // record_layout/specs/Layouts.antt. The members inside a field list are in record_member, the elements of lists in record_list.
 ghost use mathlib.Core.Path.{_≡_};
-ghost use Rattle.field_text.specs.Texts.{Part};
-ghost use Rattle.record_layout.specs.Fields.{readField, readFields};
-ghost use Rattle.record_layout.specs.Layouts.{class, S2, memberO, leafOf, recordOf, typeLeaves};
-ghost use Rattle.record_data.specs.Said.{classFrom, typeName, typeValues, stringValue, saidOptString, saidContaining, saidClassFields, saidTypeData};
+ghost use Rattle.answer.specs.Tables.{find};
+ghost use Rattle.record_layout.specs.Fields.{readField};
+ghost use Rattle.record_layout.specs.Layouts.{S2, memberO, leafOf, recordOf, typeLeaves};
+ghost use Rattle.record_data.specs.Said.{kindLeaf, Plain, classKinds, kindOption, classOf, typeName, typeValues, stringValue, saidOptString, saidContaining, saidTypeData};
 use answer::Refusal;
 use field::fixed;
 use field::fixed::Read8;
@@ -369,7 +369,9 @@ fn array_at(s: &[u8], p: usize) -> TypeAnswer
         return TypeAnswer::Refused(Refusal::Ended);
     };
     match field_number::size_at(s, p2) {
-        ReadSize::Refused(e) => TypeAnswer::Refused(e),
+        ReadSize::Refused(e) => {
+            return TypeAnswer::Refused(e);
+        }
         ReadSize::Got(size, p3) => {
             let ReadString::Got(name, _) = field_text::string_at(s, p3) else {
                 return TypeAnswer::Refused(Refusal::Ended);
@@ -384,120 +386,69 @@ fn array_at(s: &[u8], p: usize) -> TypeAnswer
     }
 }
 
-// What class, structure and interface have in common.
-struct ClassFields {
-    count: u16,
-    properties: u16,
-    fields: OptTypeIndex,
-    derived_from: OptTypeIndex,
-    vtable_shape: OptTypeIndex,
-    size: Size,
-    name: RawString,
-    unique_name: OptString,
+// Class, structure and interface have one layout, and one reader: with one caller it is inlined, and a class is made where it is used.
+
+enum OptKind {
+    None,
+    Some(ClassKind),
 }
 
-enum ReadClassFields {
-    Got(ClassFields, usize),
-    Refused(Refusal),
+fn class_kind(leaf: u16) -> OptKind
+    ensures { λ r. ⌜ kindOption r ≡ find leaf classKinds ⌝ }
+{
+    if leaf == LF_CLASS {
+        return OptKind::Some(ClassKind::Class);
+    }
+    if leaf == LF_STRUCTURE {
+        return OptKind::Some(ClassKind::Struct);
+    }
+    if leaf == LF_INTERFACE {
+        return OptKind::Some(ClassKind::Interface);
+    }
+    OptKind::None
 }
 
-fn class_fields_at(s: &[u8], p: usize) -> ReadClassFields
-    ensures { λ r. ⌜ saidClassFields r ≡ readFields class 0 (now (s .entry)) p ⌝ }
+fn class_at(s: &[u8], p: usize, kind: ClassKind) -> TypeAnswer
+    requires { ⌜ Plain kind ⌝ }
+    ensures { λ r. ⌜ saidTypeData r ≡ classOf (kindLeaf kind) (now (s .entry)) p ⌝ }
 {
     let Read16::Got(count, p1) = fixed::u16_at(s, p) else {
-        return ReadClassFields::Refused(Refusal::Ended);
+        return TypeAnswer::Refused(Refusal::Ended);
     };
     let Read16::Got(properties, p2) = fixed::u16_at(s, p1) else {
-        return ReadClassFields::Refused(Refusal::Ended);
+        return TypeAnswer::Refused(Refusal::Ended);
     };
     let ReadOptType::Got(fields, p3) = index::optional_type_at(s, p2) else {
-        return ReadClassFields::Refused(Refusal::Ended);
+        return TypeAnswer::Refused(Refusal::Ended);
     };
     let ReadOptType::Got(derived_from, p4) = index::optional_type_at(s, p3) else {
-        return ReadClassFields::Refused(Refusal::Ended);
+        return TypeAnswer::Refused(Refusal::Ended);
     };
     let ReadOptType::Got(vtable_shape, p5) = index::optional_type_at(s, p4) else {
-        return ReadClassFields::Refused(Refusal::Ended);
+        return TypeAnswer::Refused(Refusal::Ended);
     };
     match field_number::size_at(s, p5) {
-        ReadSize::Refused(e) => ReadClassFields::Refused(e),
+        ReadSize::Refused(e) => {
+            return TypeAnswer::Refused(e);
+        }
         ReadSize::Got(size, p6) => {
             let ReadString::Got(name, p7) = field_text::string_at(s, p6) else {
-                return ReadClassFields::Refused(Refusal::Ended);
+                return TypeAnswer::Refused(Refusal::Ended);
             };
-            let ReadOptString::Got(unique_name, p8) = second_string(s, p7, properties) else {
-                return ReadClassFields::Refused(Refusal::Ended);
+            let ReadOptString::Got(unique_name, _) = second_string(s, p7, properties) else {
+                return TypeAnswer::Refused(Refusal::Ended);
             };
-            ReadClassFields::Got(
-                ClassFields {
-                    count: count,
-                    properties: properties,
-                    fields: fields,
-                    derived_from: derived_from,
-                    vtable_shape: vtable_shape,
-                    size: size,
-                    name: name,
-                    unique_name: unique_name,
-                },
-                p8,
-            )
-        }
-    }
-}
-
-fn class_of(kind: ClassKind, f: ClassFields) -> ClassType
-    ensures { λ r. ⌜ r ≡ classFrom kind f ⌝ }
-{
-    let fields = f.fields;
-    let derived_from = f.derived_from;
-    let vtable_shape = f.vtable_shape;
-    let size = f.size;
-    let name = f.name;
-    let unique_name = f.unique_name;
-    ClassType {
-        kind: kind,
-        count: f.count,
-        properties: TypeProperties(f.properties),
-        fields: fields,
-        derived_from: derived_from,
-        vtable_shape: vtable_shape,
-        size: size,
-        name: name,
-        unique_name: unique_name,
-    }
-}
-
-fn class_at(s: &[u8], p: usize) -> TypeAnswer
-    ensures { λ r. ⌜ saidTypeData r ≡ leafOf typeLeaves 0x1504 (now (s .entry)) p ⌝ }
-{
-    match class_fields_at(s, p) {
-        ReadClassFields::Refused(e) => TypeAnswer::Refused(e),
-        ReadClassFields::Got(f, _) => TypeAnswer::Answered(TypeData::Class(class_of(
-            ClassKind::Class,
-            f,
-        ))),
-    }
-}
-
-fn structure_at(s: &[u8], p: usize) -> TypeAnswer
-    ensures { λ r. ⌜ saidTypeData r ≡ leafOf typeLeaves 0x1505 (now (s .entry)) p ⌝ }
-{
-    match class_fields_at(s, p) {
-        ReadClassFields::Refused(e) => TypeAnswer::Refused(e),
-        ReadClassFields::Got(f, _) => TypeAnswer::Answered(TypeData::Class(class_of(
-            ClassKind::Struct,
-            f,
-        ))),
-    }
-}
-
-fn interface_at(s: &[u8], p: usize) -> TypeAnswer
-    ensures { λ r. ⌜ saidTypeData r ≡ leafOf typeLeaves 0x1519 (now (s .entry)) p ⌝ }
-{
-    match class_fields_at(s, p) {
-        ReadClassFields::Refused(e) => TypeAnswer::Refused(e),
-        ReadClassFields::Got(f, _) => {
-            TypeAnswer::Answered(TypeData::Class(class_of(ClassKind::Interface, f)))
+            TypeAnswer::Answered(TypeData::Class(ClassType {
+                kind: kind,
+                count: count,
+                properties: TypeProperties(properties),
+                fields: fields,
+                derived_from: derived_from,
+                vtable_shape: vtable_shape,
+                size: size,
+                name: name,
+                unique_name: unique_name,
+            }))
         }
     }
 }
@@ -525,7 +476,9 @@ fn structure19_at(s: &[u8], p: usize) -> TypeAnswer
         return TypeAnswer::Refused(Refusal::Ended);
     };
     match field_number::size_at(s, p6) {
-        ReadSize::Refused(e) => TypeAnswer::Refused(e),
+        ReadSize::Refused(e) => {
+            return TypeAnswer::Refused(e);
+        }
         ReadSize::Got(size, p7) => {
             let ReadString::Got(name, p8) = field_text::string_at(s, p7) else {
                 return TypeAnswer::Refused(Refusal::Ended);
@@ -561,7 +514,9 @@ fn union_at(s: &[u8], p: usize) -> TypeAnswer
         return TypeAnswer::Refused(Refusal::Ended);
     };
     match field_number::size_at(s, p3) {
-        ReadSize::Refused(e) => TypeAnswer::Refused(e),
+        ReadSize::Refused(e) => {
+            return TypeAnswer::Refused(e);
+        }
         ReadSize::Got(size, p4) => {
             let ReadString::Got(name, p5) = field_text::string_at(s, p4) else {
                 return TypeAnswer::Refused(Refusal::Ended);
@@ -649,6 +604,12 @@ pub fn type_data(s: &[u8]) -> TypeAnswer
     let Read16::Got(leaf, p) = fixed::u16_at(s, 0) else {
         return TypeAnswer::Refused(Refusal::Ended);
     };
+    match class_kind(leaf) {
+        OptKind::Some(kind) => {
+            return class_at(s, p, kind);
+        }
+        OptKind::None => {}
+    }
     if leaf == LF_MODIFIER {
         return modifier_at(s, p);
     }
@@ -666,15 +627,6 @@ pub fn type_data(s: &[u8]) -> TypeAnswer
     }
     if leaf == LF_ARRAY {
         return array_at(s, p);
-    }
-    if leaf == LF_CLASS {
-        return class_at(s, p);
-    }
-    if leaf == LF_STRUCTURE {
-        return structure_at(s, p);
-    }
-    if leaf == LF_INTERFACE {
-        return interface_at(s, p);
     }
     if leaf == LF_UNION {
         return union_at(s, p);

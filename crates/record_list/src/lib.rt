@@ -247,16 +247,20 @@ fn member_step(s: &[u8], p: usize) -> StepAnswer
         return StepAnswer::Refused(Refusal::NoSuchElement);
     }
     match record_member::member_at(s, p) {
-        ReadMember::Refused(x) => StepAnswer::Refused(x),
-        ReadMember::Got(m, e) => StepAnswer::Answered(
-            Element::Member(m),
-            ListCursor {
-                leaf: LF_FIELDLIST,
-                at: e,
-                left: left_after(m),
-                padded: true,
-            },
-        ),
+        ReadMember::Refused(x) => {
+            return StepAnswer::Refused(x);
+        }
+        ReadMember::Got(m, e) => {
+            return StepAnswer::Answered(
+                Element::Member(m),
+                ListCursor {
+                    leaf: LF_FIELDLIST,
+                    at: e,
+                    left: left_after(m),
+                    padded: true,
+                },
+            );
+        }
     }
 }
 

@@ -204,7 +204,9 @@ fn base_class_at(s: &[u8], p: usize) -> ReadMember
         return ReadMember::Refused(Refusal::Ended);
     };
     match field_number::size_at(s, p2) {
-        ReadSize::Refused(e) => ReadMember::Refused(e),
+        ReadSize::Refused(e) => {
+            return ReadMember::Refused(e);
+        }
         ReadSize::Got(offset, p3) => ReadMember::Got(
             Member::BaseClass(BaseClassType {
                 attributes: FieldAttributes(attributes),
@@ -230,9 +232,13 @@ fn virtual_base_class_at(s: &[u8], p: usize, direct: bool) -> ReadMember
         return ReadMember::Refused(Refusal::Ended);
     };
     match field_number::size_at(s, p3) {
-        ReadSize::Refused(e) => ReadMember::Refused(e),
+        ReadSize::Refused(e) => {
+            return ReadMember::Refused(e);
+        }
         ReadSize::Got(pointer_offset, p4) => match field_number::size_at(s, p4) {
-            ReadSize::Refused(e) => ReadMember::Refused(e),
+            ReadSize::Refused(e) => {
+                return ReadMember::Refused(e);
+            }
             ReadSize::Got(base_offset, p5) => ReadMember::Got(
                 Member::VirtualBaseClass(VirtualBaseClassType {
                     direct: direct,
@@ -282,7 +288,9 @@ fn enumerate_at(s: &[u8], p: usize) -> ReadMember
         return ReadMember::Refused(Refusal::Ended);
     };
     match field_number::number_at(s, p1) {
-        ReadVariant::Refused(e) => ReadMember::Refused(e),
+        ReadVariant::Refused(e) => {
+            return ReadMember::Refused(e);
+        }
         ReadVariant::Got(value, p2) => {
             let ReadString::Got(name, p3) = field_text::string_at(s, p2) else {
                 return ReadMember::Refused(Refusal::Ended);
@@ -309,7 +317,9 @@ fn data_member_at(s: &[u8], p: usize) -> ReadMember
         return ReadMember::Refused(Refusal::Ended);
     };
     match field_number::size_at(s, p2) {
-        ReadSize::Refused(e) => ReadMember::Refused(e),
+        ReadSize::Refused(e) => {
+            return ReadMember::Refused(e);
+        }
         ReadSize::Got(offset, p3) => {
             let ReadString::Got(name, p4) = field_text::string_at(s, p3) else {
                 return ReadMember::Refused(Refusal::Ended);

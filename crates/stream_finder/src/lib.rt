@@ -260,14 +260,18 @@ fn walked(s: &[u8], f: ItemFinder, t: &[u32], i: ItemIndex, n: u32) -> FindAnswe
     let k = rest_of(d, shift);
     let p = t[block] as usize;
     match stream_item::link::link_of(s, p, k) {
-        Hit::Landed(place, length) => FindAnswer::Found(
-            Entry::Record(Item {
-                index: i,
-                place: place,
-                length: length,
-            }),
-            k,
-        ),
-        Hit::Missed(passed) => FindAnswer::Refused(Refusal::EndedAfter(passed)),
+        Hit::Landed(place, length) => {
+            return FindAnswer::Found(
+                Entry::Record(Item {
+                    index: i,
+                    place: place,
+                    length: length,
+                }),
+                k,
+            );
+        }
+        Hit::Missed(passed) => {
+            return FindAnswer::Refused(Refusal::EndedAfter(passed));
+        }
     }
 }

@@ -6,7 +6,7 @@ use mathlib.Core.Bool.{Bool, true, false}
 use native.Mathlib.Omega.{arith}
 use lib.ListN.{length}
 use lib.Dec.{leb, ltb}
-use borrow.Author.Tests.{le-leb, lt-leb, le-ltb, lt-ltb, leb-false, ltb-false}
+use borrow.Author.Tests.{le-leb, lt-leb, le-ltb, lt-ltb, leb-false, ltb-true, ltb-false}
 use Rattle.answer.specs.Answer.{Answer, answered, refused, pick, stop}
 use Rattle.field.specs.Fields.{littleAt}
 use Rattle.stream_header.specs.Header.{longest, headerOf}
@@ -38,6 +38,14 @@ module _ (s : List ℕ) (c : ItemIter) where
   next-length a b h =
       let b′ : c .at ≤ length s = omega arith in
       simp (le-ltb _ _ a, le-ltb _ _ b′, lt-leb _ _ b, lt-ltb _ _ h)
+
+  -- no length is there, and the end is another place
+  pub next-cut : length s ≤ longest → (c .at ≡ length s → ⊥) → length s < c .at + 2 → nextOf s c ≡ refused 1 []
+  next-cut a ne h = go (ltb (length s) (c .at)) refl
+    where
+      go : (t : Bool) → ltb (length s) (c .at) ≡ t → nextOf s c ≡ refused 1 []
+      go true t = next-past a (ltb-true _ _ t)
+      go false t = next-length a (omega (arith, ltb-false (length s) (c .at) t, ne)) h
 
   pub next-short : length s ≤ longest → c .at + 2 ≤ length s → littleAt 2 s (c .at) < 2 → nextOf s c ≡ refused 6 []
   unfolding nextOf

@@ -1,6 +1,7 @@
 // The iterator over a stream's records: document 01, "Links and the iterator". It comes and goes by value.
 ghost use mathlib.Core.Path.{_≡_};
 ghost use Prim.Native.Nat.{_+_, _≤_, _<_};
+ghost use lib.ListN.{length};
 ghost use Rattle.answer.specs.Answer.{answered};
 ghost use Rattle.stream_item.specs.Iterator.{iterOf, saidIter, overRecord, nextOf, saidNext};
 use crate::Item;
@@ -44,7 +45,8 @@ pub fn iter(stream: Stream, s: &[u8]) -> IterAnswer
     }
 }
 
-// The record at the cursor, and the cursor behind it.
+// The record at the cursor, and the cursor behind it. The tests stand in the order that a walk is fastest by; what each refusal comes after in
+// document 01's order is asked again where it is refused.
 pub fn next(s: &[u8], c: ItemIter) -> NextAnswer
     ensures { λ r. ⌜ saidNext r ≡ nextOf (now (s .entry)) c ⌝ }
 {
@@ -53,28 +55,44 @@ pub fn next(s: &[u8], c: ItemIter) -> NextAnswer
     if s.len() > LONGEST {
         return NextAnswer::Refused(Refusal::TooLong);
     }
-    if at > s.len() {
-        return NextAnswer::Refused(Refusal::Ended);
+    if s.len() < 2 {
+        return no_length(s, c);
     }
-    let left = s.len() - at;
-    if left < 2 {
-        if left == 0 {
-            return NextAnswer::Done;
+    if at > s.len() - 2 {
+        return no_length(s, c);
+    }
+    let n = length_at(s, at);
+    let after = at + 2 + n;
+    if index == 4294967295 {
+        if n < 2 {
+            return NextAnswer::Refused(Refusal::TooShort);
+        }
+        if after > s.len() {
+            return NextAnswer::Refused(Refusal::Ended);
+        }
+        return NextAnswer::Refused(Refusal::IndicesUsedUp);
+    }
+    if after > s.len() {
+        if n < 2 {
+            return NextAnswer::Refused(Refusal::TooShort);
         }
         return NextAnswer::Refused(Refusal::Ended);
     }
-    let n = length_at(s, at);
     if n < 2 {
         return NextAnswer::Refused(Refusal::TooShort);
     }
-    let after = at + 2 + n;
-    if after > s.len() {
-        return NextAnswer::Refused(Refusal::Ended);
-    }
-    if index == 4294967295 {
-        return NextAnswer::Refused(Refusal::IndicesUsedUp);
-    }
     stepped(c, n)
+}
+
+// Where not even a length is left: the end, or a byte before it, or past it.
+fn no_length(s: &[u8], c: ItemIter) -> NextAnswer
+    requires { ⌜ (length (now s) ≤ 4294967294) × (length (now s) < c .at + 2) ⌝ }
+    ensures { λ r. ⌜ saidNext r ≡ nextOf (now (s .entry)) c ⌝ }
+{
+    if c.at == s.len() {
+        return NextAnswer::Done;
+    }
+    NextAnswer::Refused(Refusal::Ended)
 }
 
 // The step over a record of n bytes that is all there.

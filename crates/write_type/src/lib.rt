@@ -9,7 +9,7 @@ ghost use Rattle.field.specs.Indices.{noType, typeOption};
 ghost use Rattle.field_number.specs.Forms.{Form};
 ghost use Rattle.record_layout.specs.Fields.{number, orAbsent, run, slots};
 ghost use Rattle.record_layout.specs.Layouts.{typeLeaves, class, S2, memberO, pointer};
-ghost use Rattle.record_data.specs.Said.{typeValues, classValues, fieldsFrom, kindValues, stringValue};
+ghost use Rattle.record_data.specs.Said.{typeValues, classValues, kindValues, stringValue};
 ghost use Rattle.write_layout.specs.Fields.{fixedBytes, optionalBytes, ofAbsent, and-also, writeField, writeFields, given, givenAll};
 ghost use Rattle.write_layout.specs.Records.{writeLeaf, writeRecord};
 ghost use Rattle.write_layout.specs.Buffer.{lay, Writes};
@@ -151,7 +151,7 @@ fn pointer(r: PointerType) -> [Piece; 16]
 
 // Class, structure and interface.
 fn class_like(leaf: u16, r: ClassType) -> [Piece; 16]
-    ensures { λ xs. ⌜ ((t : List ℕ) → piecesOf t xs ≡ and-also (fixedBytes 2 leaf) (writeFields class 0 (givenAll t (classValues (fieldsFrom r))))) ⌝ }
+    ensures { λ xs. ⌜ ((t : List ℕ) → piecesOf t xs ≡ and-also (fixedBytes 2 leaf) (writeFields class 0 (givenAll t (classValues r)))) ⌝ }
 {
     let fields = r.fields;
     let derived_from = r.derived_from;

@@ -1,29 +1,25 @@
--- `field_number::size_at` meets its contract: a numeric leaf that is not negative. Assumes nothing.
+-- `field_number::size_at` meets its contract: a leaf that is itself the number, or one that `size_of_any` reads. Assumes nothing.
 use borrow.Author.Needs.{needs}
-use mathlib.Core.Path.{ap}
+use mathlib.Core.Path.{refl, sym}
 use Rattle.answer.proofs.Told.{told}
-use Rattle.field_number.specs.Numbers.{numberValue}
-use Rattle.field_number.specs.Forms.{saidVariant}
-use Rattle.field_number.proofs.FormLaws.{size-refused, size-natural, size-negative}
+use Rattle.field.specs.Fields.{said16}
+use Rattle.field_number.specs.Numbers.{numericAt}
+use Rattle.field_number.specs.Forms.{numeralBy}
+use Rattle.field_number.proofs.FormLaws.{plain-form, size-refused, size-natural}
 use Rattle.field_number.proofs.size_at.Statement.{statement}
 use Rattle.field_number.proofs.size_at.Tie as tie
 
 returns : tie.Need-returns
-returns c = size-refused _ _ _ _ (told saidVariant (c .before .before .before .number-at .ensures) (c .before .e .given .1))
+unfolding numeralBy numericAt
+returns c = size-refused _ _ _ _ (rw (told said16 (c .before .before .u16-at .ensures) (c .enum-told .given .1)))
 
 returns-2 : tie.Need-returns-2
 returns-2 c =
     size-natural _ _ _ _ _
-    (told saidVariant (c .before .before .before .before .before .before .number-at .ensures) (c .before .before .before .before .v .given .1))
-    (ap numberValue (c .before .n .given .1))
-
-returns-3 : tie.Need-returns-3
-returns-3 c =
-    size-negative _ _ _ _ _
-    (told saidVariant (c .before .before .before .before .before .number-at .ensures) (c .before .before .before .v .given .1))
-    (ap numberValue (c .enum-told .given .1))
+    (sym (plain-form _ _ _ _ (told said16 (c .before .before .before .before .u16-at .ensures) (c .before .before .n .given .1)) (c .if1 .taken)))
+    refl
 
 pub size-at-spec : {M : Type 1} → statement M
 size-at-spec =
     tie.close (tie.spec
-    (λ c κs. search needs) (λ c. search needs) (λ c. search needs) (λ c. search needs) (λ c. search needs) returns returns-2 returns-3)
+    (λ c κs. search needs) (λ c. search needs) (λ c. search needs) returns (λ c. search needs) returns-2 (λ c κs. search needs) (λ c. search needs))

@@ -3,7 +3,7 @@
 use borrow.Author.Needs.{needs}
 use Rattle.answer.specs.Tables.{find}
 use Rattle.record_layout.specs.Layouts.{leafOf, readLeaf, typeLeaves}
-use Rattle.record_layout.specs.Fields.{readFieldBy, readFieldsBy}
+use Rattle.record_layout.specs.Fields.{readFieldsBy, readFieldBy}
 use Rattle.field.specs.Indices.{saidType}
 use Rattle.field_number.specs.Forms.{saidSize}
 use Rattle.field_text.specs.Texts.{saidString}
@@ -25,18 +25,18 @@ returns-2 c = rw (
 returns-3 : tie.Need-returns-3
 unfolding find leafOf readLeaf typeLeaves readFieldsBy readFieldBy
 returns-3 c = rw (
-  told saidType (c .before .before .before .before .before .before .before .before .before .before .before .before .before .before .type-at .ensures) (c .before .before .before .before .before .before .before .before .before .before .before .before .element-type .given .1),
-  told saidType (c .before .before .before .before .before .before .before .before .before .before .type-at2 .ensures) (c .before .before .before .before .before .before .before .before .indexing-type .given .1),
-  told saidSize (c .before .before .before .before .before .before .size-at .ensures) (c .before .before .before .before .size .given .1),
-  told saidString (c .before .before .string-at .ensures) (c .enum-told3 .given .1),
+  told saidType (c .before .before .before .before .before .before .before .before .before .before .before .type-at .ensures) (c .before .before .before .before .before .before .before .before .before .element-type .given .1),
+  told saidType (c .before .before .before .before .before .before .before .type-at2 .ensures) (c .before .before .before .before .before .indexing-type .given .1),
+  told saidSize (c .before .before .before .size-at .ensures) (c .before .e .given .1),
 )
 
 returns-4 : tie.Need-returns-4
 unfolding find leafOf readLeaf typeLeaves readFieldsBy readFieldBy
 returns-4 c = rw (
-  told saidType (c .before .before .before .before .before .before .before .before .before .before .before .type-at .ensures) (c .before .before .before .before .before .before .before .before .before .element-type .given .1),
-  told saidType (c .before .before .before .before .before .before .before .type-at2 .ensures) (c .before .before .before .before .before .indexing-type .given .1),
-  told saidSize (c .before .before .before .size-at .ensures) (c .before .e .given .1),
+  told saidType (c .before .before .before .before .before .before .before .before .before .before .before .before .before .before .type-at .ensures) (c .before .before .before .before .before .before .before .before .before .before .before .before .element-type .given .1),
+  told saidType (c .before .before .before .before .before .before .before .before .before .before .type-at2 .ensures) (c .before .before .before .before .before .before .before .before .indexing-type .given .1),
+  told saidSize (c .before .before .before .before .before .before .size-at .ensures) (c .before .before .before .before .size .given .1),
+  told saidString (c .before .before .string-at .ensures) (c .enum-told3 .given .1),
 )
 
 returns-5 : tie.Need-returns-5
@@ -51,6 +51,7 @@ returns-5 c = rw (
 pub array-at-spec : {M : Type 1} → statement M
 array-at-spec =
     tie.close (tie.spec
-    (λ c κs. search needs) (λ c. search needs) (λ c. search needs) returns (λ c κs. search needs) (λ c. search needs) (λ c. search needs)
-    returns-2 (λ c κs. search needs) (λ c. search needs) (λ c. search needs) (λ c κs. search needs) (λ c. search needs) (λ c. search needs)
-    returns-3 returns-4 returns-5)
+    (λ c κs. search needs) (λ c. search needs) (λ c. search needs) returns (λ c κs. search needs)
+    (λ c. search needs) (λ c. search needs) returns-2 (λ c κs. search needs) (λ c. search needs)
+    returns-3 (λ c. search needs) (λ c κs. search needs) (λ c. search needs) (λ c. search needs)
+    returns-4 returns-5)

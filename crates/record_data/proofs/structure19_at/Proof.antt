@@ -3,7 +3,7 @@
 use borrow.Author.Needs.{needs}
 use Rattle.answer.specs.Tables.{find}
 use Rattle.record_layout.specs.Layouts.{leafOf, readLeaf, typeLeaves}
-use Rattle.record_layout.specs.Fields.{readFieldBy, readFieldsBy}
+use Rattle.record_layout.specs.Fields.{readFieldsBy, readFieldBy}
 use Rattle.field.specs.Fields.{said16}
 use Rattle.field.specs.Indices.{saidOptType}
 use Rattle.field_number.specs.Forms.{saidSize}
@@ -65,6 +65,18 @@ returns-6 c = rw (
 returns-7 : tie.Need-returns-7
 unfolding find leafOf readLeaf typeLeaves readFieldsBy readFieldBy
 returns-7 c = rw (
+  told said16 (c .before .before .before .before .before .before .before .before .before .before .before .before .before .before .before .before .before .before .before .before .before .before .before .before .before .before .before .u16-at .ensures) (c .before .before .before .before .before .before .before .before .before .before .before .before .before .before .before .before .before .before .before .before .before .before .before .before .before .properties .given .1),
+  told said16 (c .before .before .before .before .before .before .before .before .before .before .before .before .before .before .before .before .before .before .before .before .before .before .before .u16-at2 .ensures) (c .before .before .before .before .before .before .before .before .before .before .before .before .before .before .before .before .before .before .before .before .before .p2 .given .1),
+  told saidOptType (c .before .before .before .before .before .before .before .before .before .before .before .before .before .before .before .before .before .before .before .optional-type-at .ensures) (c .before .before .before .before .before .before .before .before .before .before .before .before .before .before .before .before .before .fields .given .1),
+  told saidOptType (c .before .before .before .before .before .before .before .before .before .before .before .before .before .before .before .optional-type-at2 .ensures) (c .before .before .before .before .before .before .before .before .before .before .before .before .before .derived-from .given .1),
+  told saidOptType (c .before .before .before .before .before .before .before .before .before .before .before .optional-type-at3 .ensures) (c .before .before .before .before .before .before .before .before .before .vtable-shape .given .1),
+  told said16 (c .before .before .before .before .before .before .before .u16-at3 .ensures) (c .before .before .before .before .before .count .given .1),
+  told saidSize (c .before .before .before .size-at .ensures) (c .before .e .given .1),
+)
+
+returns-8 : tie.Need-returns-8
+unfolding find leafOf readLeaf typeLeaves readFieldsBy readFieldBy
+returns-8 c = rw (
   told said16 (c .before .before .before .before .before .before .before .before .before .before .before .before .before .before .before .before .before .before .before .before .before .before .before .before .before .before .before .before .before .before .u16-at .ensures) (c .before .before .before .before .before .before .before .before .before .before .before .before .before .before .before .before .before .before .before .before .before .before .before .before .before .before .before .before .properties .given .1),
   told said16 (c .before .before .before .before .before .before .before .before .before .before .before .before .before .before .before .before .before .before .before .before .before .before .before .before .before .before .u16-at2 .ensures) (c .before .before .before .before .before .before .before .before .before .before .before .before .before .before .before .before .before .before .before .before .before .before .before .before .p2 .given .1),
   told saidOptType (c .before .before .before .before .before .before .before .before .before .before .before .before .before .before .before .before .before .before .before .before .before .before .optional-type-at .ensures) (c .before .before .before .before .before .before .before .before .before .before .before .before .before .before .before .before .before .before .before .before .fields .given .1),
@@ -75,9 +87,9 @@ returns-7 c = rw (
   told saidString (c .before .before .string-at .ensures) (c .enum-told7 .given .1),
 )
 
-returns-8 : tie.Need-returns-8
+returns-9 : tie.Need-returns-9
 unfolding find leafOf readLeaf typeLeaves readFieldsBy readFieldBy
-returns-8 c = rw (
+returns-9 c = rw (
   told said16 (c .before .before .before .before .before .before .before .before .before .before .before .before .before .before .before .before .before .before .before .before .before .before .before .before .before .before .before .before .before .before .before .before .before .before .u16-at .ensures) (c .before .before .before .before .before .before .before .before .before .before .before .before .before .before .before .before .before .before .before .before .before .before .before .before .before .before .before .before .before .before .before .before .properties .given .1),
   told said16 (c .before .before .before .before .before .before .before .before .before .before .before .before .before .before .before .before .before .before .before .before .before .before .before .before .before .before .before .before .before .before .u16-at2 .ensures) (c .before .before .before .before .before .before .before .before .before .before .before .before .before .before .before .before .before .before .before .before .before .before .before .before .before .before .before .before .p2 .given .1),
   told saidOptType (c .before .before .before .before .before .before .before .before .before .before .before .before .before .before .before .before .before .before .before .before .before .before .before .before .before .before .optional-type-at .ensures) (c .before .before .before .before .before .before .before .before .before .before .before .before .before .before .before .before .before .before .before .before .before .before .before .before .fields .given .1),
@@ -87,18 +99,6 @@ returns-8 c = rw (
   told saidSize (c .before .before .before .before .before .before .before .before .before .before .size-at .ensures) (c .before .before .before .before .before .before .before .before .size .given .1),
   told saidString (c .before .before .before .before .before .before .string-at .ensures) (c .before .before .before .before .name .given .1),
   told saidOptString (c .before .before .second-string .ensures) (c .enum-told8 .given .1),
-)
-
-returns-9 : tie.Need-returns-9
-unfolding find leafOf readLeaf typeLeaves readFieldsBy readFieldBy
-returns-9 c = rw (
-  told said16 (c .before .before .before .before .before .before .before .before .before .before .before .before .before .before .before .before .before .before .before .before .before .before .before .before .before .before .before .u16-at .ensures) (c .before .before .before .before .before .before .before .before .before .before .before .before .before .before .before .before .before .before .before .before .before .before .before .before .before .properties .given .1),
-  told said16 (c .before .before .before .before .before .before .before .before .before .before .before .before .before .before .before .before .before .before .before .before .before .before .before .u16-at2 .ensures) (c .before .before .before .before .before .before .before .before .before .before .before .before .before .before .before .before .before .before .before .before .before .p2 .given .1),
-  told saidOptType (c .before .before .before .before .before .before .before .before .before .before .before .before .before .before .before .before .before .before .before .optional-type-at .ensures) (c .before .before .before .before .before .before .before .before .before .before .before .before .before .before .before .before .before .fields .given .1),
-  told saidOptType (c .before .before .before .before .before .before .before .before .before .before .before .before .before .before .before .optional-type-at2 .ensures) (c .before .before .before .before .before .before .before .before .before .before .before .before .before .derived-from .given .1),
-  told saidOptType (c .before .before .before .before .before .before .before .before .before .before .before .optional-type-at3 .ensures) (c .before .before .before .before .before .before .before .before .before .vtable-shape .given .1),
-  told said16 (c .before .before .before .before .before .before .before .u16-at3 .ensures) (c .before .before .before .before .before .count .given .1),
-  told saidSize (c .before .before .before .size-at .ensures) (c .before .e .given .1),
 )
 
 returns-10 : tie.Need-returns-10
@@ -118,9 +118,11 @@ returns-10 c = rw (
 pub structure19-at-spec : {M : Type 1} → statement M
 structure19-at-spec =
     tie.close (tie.spec
-    (λ c κs. search needs) (λ c. search needs) (λ c. search needs) returns (λ c κs. search needs) (λ c. search needs) (λ c. search needs)
-    returns-2 (λ c κs. search needs) (λ c. search needs) (λ c. search needs) returns-3 (λ c κs. search needs) (λ c. search needs)
-    (λ c. search needs) returns-4 (λ c κs. search needs) (λ c. search needs) (λ c. search needs) returns-5 (λ c κs. search needs)
-    (λ c. search needs) (λ c. search needs) returns-6 (λ c κs. search needs) (λ c. search needs) (λ c. search needs) (λ c κs. search needs)
-    (λ c. search needs) (λ c. search needs) returns-7 (λ c κs. search needs) (λ c. search needs) (λ c. search needs) returns-8 returns-9
-    returns-10)
+    (λ c κs. search needs) (λ c. search needs) (λ c. search needs) returns (λ c κs. search needs)
+    (λ c. search needs) (λ c. search needs) returns-2 (λ c κs. search needs) (λ c. search needs)
+    (λ c. search needs) returns-3 (λ c κs. search needs) (λ c. search needs) (λ c. search needs)
+    returns-4 (λ c κs. search needs) (λ c. search needs) (λ c. search needs) returns-5
+    (λ c κs. search needs) (λ c. search needs) (λ c. search needs) returns-6 (λ c κs. search needs)
+    (λ c. search needs) returns-7 (λ c. search needs) (λ c κs. search needs) (λ c. search needs)
+    (λ c. search needs) returns-8 (λ c κs. search needs) (λ c. search needs) (λ c. search needs)
+    returns-9 returns-10)

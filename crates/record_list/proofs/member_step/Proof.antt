@@ -30,4 +30,4 @@ returns-3 c = rw (
 pub member-step-spec : {M : Type 1} → statement M
 member-step-spec =
     tie.close (tie.spec
-    returns (λ c κs. search needs) (λ c. search needs) (λ c. search needs) (λ c κs. search needs) returns-2 returns-3)
+    returns (λ c κs. search needs) (λ c. search needs) returns-2 (λ c. search needs) (λ c κs. search needs) returns-3)

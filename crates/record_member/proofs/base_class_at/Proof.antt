@@ -3,7 +3,7 @@
 use borrow.Author.Needs.{needs}
 use Rattle.answer.specs.Tables.{find}
 use Rattle.record_layout.specs.Layouts.{readLeaf, memberLeaves}
-use Rattle.record_layout.specs.Fields.{readFieldBy, readFieldsBy}
+use Rattle.record_layout.specs.Fields.{readFieldsBy, readFieldBy}
 use Rattle.field.specs.Fields.{said16}
 use Rattle.field.specs.Indices.{saidType}
 use Rattle.field_number.specs.Forms.{saidSize}
@@ -41,5 +41,6 @@ returns-4 c = rw (
 pub base-class-at-spec : {M : Type 1} → statement M
 base-class-at-spec =
     tie.close (tie.spec
-    (λ c κs. search needs) (λ c. search needs) (λ c. search needs) returns (λ c κs. search needs) (λ c. search needs) (λ c. search needs)
-    returns-2 (λ c κs. search needs) (λ c. search needs) (λ c. search needs) returns-3 returns-4)
+    (λ c κs. search needs) (λ c. search needs) (λ c. search needs) returns (λ c κs. search needs)
+    (λ c. search needs) (λ c. search needs) returns-2 (λ c κs. search needs) (λ c. search needs)
+    returns-3 (λ c. search needs) returns-4)

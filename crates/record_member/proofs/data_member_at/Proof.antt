@@ -3,7 +3,7 @@
 use borrow.Author.Needs.{needs}
 use Rattle.answer.specs.Tables.{find}
 use Rattle.record_layout.specs.Layouts.{readLeaf, memberLeaves}
-use Rattle.record_layout.specs.Fields.{readFieldBy, readFieldsBy}
+use Rattle.record_layout.specs.Fields.{readFieldsBy, readFieldBy}
 use Rattle.field.specs.Fields.{said16}
 use Rattle.field.specs.Indices.{saidType}
 use Rattle.field_number.specs.Forms.{saidSize}
@@ -26,18 +26,18 @@ returns-2 c = rw (
 returns-3 : tie.Need-returns-3
 unfolding find readLeaf memberLeaves readFieldsBy readFieldBy
 returns-3 c = rw (
-  told said16 (c .before .before .before .before .before .before .before .before .before .before .before .before .before .before .u16-at .ensures) (c .before .before .before .before .before .before .before .before .before .before .before .before .attributes .given .1),
-  told saidType (c .before .before .before .before .before .before .before .before .before .before .type-at .ensures) (c .before .before .before .before .before .before .before .before .field-type .given .1),
-  told saidSize (c .before .before .before .before .before .before .size-at .ensures) (c .before .before .before .before .offset .given .1),
-  told saidString (c .before .before .string-at .ensures) (c .enum-told3 .given .1),
+  told said16 (c .before .before .before .before .before .before .before .before .before .before .before .u16-at .ensures) (c .before .before .before .before .before .before .before .before .before .attributes .given .1),
+  told saidType (c .before .before .before .before .before .before .before .type-at .ensures) (c .before .before .before .before .before .field-type .given .1),
+  told saidSize (c .before .before .before .size-at .ensures) (c .before .e .given .1),
 )
 
 returns-4 : tie.Need-returns-4
 unfolding find readLeaf memberLeaves readFieldsBy readFieldBy
 returns-4 c = rw (
-  told said16 (c .before .before .before .before .before .before .before .before .before .before .before .u16-at .ensures) (c .before .before .before .before .before .before .before .before .before .attributes .given .1),
-  told saidType (c .before .before .before .before .before .before .before .type-at .ensures) (c .before .before .before .before .before .field-type .given .1),
-  told saidSize (c .before .before .before .size-at .ensures) (c .before .e .given .1),
+  told said16 (c .before .before .before .before .before .before .before .before .before .before .before .before .before .before .u16-at .ensures) (c .before .before .before .before .before .before .before .before .before .before .before .before .attributes .given .1),
+  told saidType (c .before .before .before .before .before .before .before .before .before .before .type-at .ensures) (c .before .before .before .before .before .before .before .before .field-type .given .1),
+  told saidSize (c .before .before .before .before .before .before .size-at .ensures) (c .before .before .before .before .offset .given .1),
+  told saidString (c .before .before .string-at .ensures) (c .enum-told3 .given .1),
 )
 
 returns-5 : tie.Need-returns-5
@@ -52,6 +52,7 @@ returns-5 c = rw (
 pub data-member-at-spec : {M : Type 1} → statement M
 data-member-at-spec =
     tie.close (tie.spec
-    (λ c κs. search needs) (λ c. search needs) (λ c. search needs) returns (λ c κs. search needs) (λ c. search needs) (λ c. search needs)
-    returns-2 (λ c κs. search needs) (λ c. search needs) (λ c. search needs) (λ c κs. search needs) (λ c. search needs) (λ c. search needs)
-    returns-3 returns-4 returns-5)
+    (λ c κs. search needs) (λ c. search needs) (λ c. search needs) returns (λ c κs. search needs)
+    (λ c. search needs) (λ c. search needs) returns-2 (λ c κs. search needs) (λ c. search needs)
+    returns-3 (λ c. search needs) (λ c κs. search needs) (λ c. search needs) (λ c. search needs)
+    returns-4 returns-5)

@@ -3,10 +3,10 @@
 use borrow.Author.Needs.{needs}
 use Rattle.answer.specs.Tables.{find}
 use Rattle.record_layout.specs.Layouts.{readLeaf, memberLeaves}
-use Rattle.record_layout.specs.Fields.{readFieldBy, readFieldsBy}
+use Rattle.record_layout.specs.Fields.{readFieldsBy, readFieldBy}
 use Rattle.field.specs.Fields.{said16}
-use Rattle.field_text.specs.Texts.{saidString}
 use Rattle.field_number.specs.Forms.{saidVariant}
+use Rattle.field_text.specs.Texts.{saidString}
 use Rattle.answer.proofs.Told.{told}
 use Rattle.record_member.proofs.enumerate_at.Statement.{statement}
 use Rattle.record_member.proofs.enumerate_at.Tie as tie
@@ -18,16 +18,16 @@ returns c = rw (told said16 (c .before .before .u16-at .ensures) (c .enum-told .
 returns-2 : tie.Need-returns-2
 unfolding find readLeaf memberLeaves readFieldsBy readFieldBy
 returns-2 c = rw (
-  told said16 (c .before .before .before .before .before .before .before .before .before .before .u16-at .ensures) (c .before .before .before .before .before .before .before .before .attributes .given .1),
-  told saidVariant (c .before .before .before .before .before .before .number-at .ensures) (c .before .before .before .before .value .given .1),
-  told saidString (c .before .before .string-at .ensures) (c .enum-told2 .given .1),
+  told said16 (c .before .before .before .before .before .before .before .u16-at .ensures) (c .before .before .before .before .before .attributes .given .1),
+  told saidVariant (c .before .before .before .number-at .ensures) (c .before .e .given .1),
 )
 
 returns-3 : tie.Need-returns-3
 unfolding find readLeaf memberLeaves readFieldsBy readFieldBy
 returns-3 c = rw (
-  told said16 (c .before .before .before .before .before .before .before .u16-at .ensures) (c .before .before .before .before .before .attributes .given .1),
-  told saidVariant (c .before .before .before .number-at .ensures) (c .before .e .given .1),
+  told said16 (c .before .before .before .before .before .before .before .before .before .before .u16-at .ensures) (c .before .before .before .before .before .before .before .before .attributes .given .1),
+  told saidVariant (c .before .before .before .before .before .before .number-at .ensures) (c .before .before .before .before .value .given .1),
+  told saidString (c .before .before .string-at .ensures) (c .enum-told2 .given .1),
 )
 
 returns-4 : tie.Need-returns-4
@@ -41,5 +41,6 @@ returns-4 c = rw (
 pub enumerate-at-spec : {M : Type 1} → statement M
 enumerate-at-spec =
     tie.close (tie.spec
-    (λ c κs. search needs) (λ c. search needs) (λ c. search needs) returns (λ c κs. search needs) (λ c. search needs) (λ c. search needs)
-    (λ c κs. search needs) (λ c. search needs) (λ c. search needs) returns-2 returns-3 returns-4)
+    (λ c κs. search needs) (λ c. search needs) (λ c. search needs) returns (λ c κs. search needs)
+    (λ c. search needs) returns-2 (λ c. search needs) (λ c κs. search needs) (λ c. search needs)
+    (λ c. search needs) returns-3 returns-4)

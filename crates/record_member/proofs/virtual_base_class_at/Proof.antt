@@ -1,7 +1,7 @@
 -- Written by tools/record_proof.py with tools/records.ini and tools/record_member.ini.
 -- `record_member::virtual_base_class_at` meets its contract: at each return the readers so far have said what its layout says. Assumes nothing.
 use borrow.Author.Needs.{needs}
-use Rattle.record_layout.specs.Fields.{readFieldBy, readFieldsBy}
+use Rattle.record_layout.specs.Fields.{readFieldsBy, readFieldBy}
 use Rattle.field.specs.Fields.{said16}
 use Rattle.field.specs.Indices.{saidType}
 use Rattle.field_number.specs.Forms.{saidSize}
@@ -60,6 +60,8 @@ returns-6 c = rw (
 pub virtual-base-class-at-spec : {M : Type 1} → statement M
 virtual-base-class-at-spec =
     tie.close (tie.spec
-    (λ c κs. search needs) (λ c. search needs) (λ c. search needs) returns (λ c κs. search needs) (λ c. search needs) (λ c. search needs)
-    returns-2 (λ c κs. search needs) (λ c. search needs) (λ c. search needs) returns-3 (λ c κs. search needs) (λ c. search needs)
-    (λ c. search needs) (λ c κs. search needs) (λ c. search needs) (λ c. search needs) returns-4 returns-5 returns-6)
+    (λ c κs. search needs) (λ c. search needs) (λ c. search needs) returns (λ c κs. search needs)
+    (λ c. search needs) (λ c. search needs) returns-2 (λ c κs. search needs) (λ c. search needs)
+    (λ c. search needs) returns-3 (λ c κs. search needs) (λ c. search needs) returns-4
+    (λ c. search needs) (λ c κs. search needs) (λ c. search needs) returns-5 (λ c. search needs)
+    returns-6)

@@ -41,4 +41,4 @@ pub walked-spec : {M : Type 1} → statement M
 walked-spec =
     tie.close (tie.spec
     (λ c. search needs) (λ c. search needs) cast-block (λ c κs. search needs) returns (λ c κs. search needs) (λ c. search needs)
-    (λ c. search needs) cast-p (λ c κs. search needs) (λ c. search needs) (λ c. search needs) returns-2 returns-3)
+    (λ c. search needs) cast-p (λ c κs. search needs) (λ c. search needs) returns-2 (λ c. search needs) returns-3)

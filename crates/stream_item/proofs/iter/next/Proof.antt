@@ -6,33 +6,36 @@ use mathlib.Core.Path.{sym, ap, _∙_}
 use denote.Ref.{now}
 use Rattle.answer.specs.Answer.{answered}
 use Rattle.stream_item.specs.Iterator.{overRecord}
-use Rattle.stream_item.proofs.NextLaws.{next-long, next-past, next-done, next-length, next-short, next-payload, next-used, next-yields}
+use Rattle.stream_item.proofs.NextLaws.{next-long, next-short, next-payload, next-used, next-yields}
 use Rattle.stream_item.proofs.iter.next.Statement.{statement}
 use Rattle.stream_item.proofs.iter.next.Tie as tie
 
 returns : tie.Need-returns
 returns c = sym (next-long _ _ (omega arith))
 
-returns-2 : tie.Need-returns-2
-returns-2 c = sym (next-past _ _ (omega arith) (omega arith))
-
-returns-3 : tie.Need-returns-3
-returns-3 c = sym (next-done _ _ (omega arith) (omega arith) (omega arith))
-
+-- the index is the last
 returns-4 : tie.Need-returns-4
-returns-4 c = sym (next-length _ _ (omega arith) (omega arith) (omega arith))
+returns-4 c = sym (next-short _ _ (omega arith) (omega arith) (omega arith))
 
 returns-5 : tie.Need-returns-5
-returns-5 c = sym (next-short _ _ (omega arith) (omega arith) (omega arith))
+returns-5 c = sym (next-payload _ _ (omega arith) (omega arith) (omega arith) (omega arith))
 
 returns-6 : tie.Need-returns-6
-returns-6 c = sym (next-payload _ _ (omega arith) (omega arith) (omega arith) (omega arith))
+returns-6 c = sym (next-used _ _ (omega arith) (omega arith) (omega arith) (omega arith))
 
+-- the record is cut
 returns-7 : tie.Need-returns-7
-returns-7 c = sym (next-used _ _ (omega arith) (omega arith) (omega arith) (omega arith))
+returns-7 c = sym (next-short _ _ (omega arith) (omega arith) (omega arith))
 
 returns-8 : tie.Need-returns-8
-returns-8 c =
+returns-8 c = sym (next-payload _ _ (omega arith) (omega arith) (omega arith) (omega arith))
+
+-- it is all there
+returns-9 : tie.Need-returns-9
+returns-9 c = sym (next-short _ _ (omega arith) (omega arith) (omega arith))
+
+returns-10 : tie.Need-returns-10
+returns-10 c =
     let a = c .before .before .before .before .before .before .before .before .before .args in
     c .stepped .ensures
     ∙ ap (λ (n : ℕ). answered (overRecord (a .c) n)) (c .before .before .before .before .length-at .ensures .0)
@@ -41,5 +44,5 @@ returns-8 c =
 pub next-spec : {M : Type 1} → statement M
 next-spec =
     tie.close (tie.spec
-    returns returns-2 (λ c. search needs) returns-3 returns-4 (λ c κs. search needs) returns-5 (λ c. search needs) (λ c. search needs) returns-6
-    returns-7 (λ c κs. search needs) returns-8)
+    returns (λ c κs. search needs) (λ c. search needs) (λ c. search needs) (λ c κs. search needs) (λ c. search needs) (λ c κs. search needs)
+    (λ c. search needs) (λ c. search needs) returns-4 returns-5 returns-6 returns-7 returns-8 returns-9 (λ c κs. search needs) returns-10)
