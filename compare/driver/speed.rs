@@ -34,19 +34,31 @@ fn place(base: &[u8], data: &[u8]) -> u64 {
     (data.as_ptr() as usize - base.as_ptr() as usize) as u64
 }
 
-fn type_item(base: &[u8], i: &Type<'_>) -> u64 {
-    let data = acc::data(i);
-    u64::from(i.index().0) + place(base, data) + data.len() as u64
+fn number(i: &Type<'_>) -> u64 {
+    u64::from(i.index().0)
 }
 
+/// The place behind a record.
+fn end(base: &[u8], i: &Type<'_>) -> u64 {
+    let data = acc::data(i);
+    place(base, data) + data.len() as u64
+}
+
+fn type_item(base: &[u8], i: &Type<'_>) -> u64 {
+    number(i) + end(base, i)
+}
+
+/// Two sums, as in `measure`; the crate's count is the same with one.
 fn walk(info: &TypeInformation<'_>) -> u64 {
     let base = acc::bytes(info);
-    let mut sum = 0u64;
+    let mut indices = 0u64;
+    let mut ends = 0u64;
     let mut iter = info.iter();
     while let Ok(Some(i)) = iter.next() {
-        sum = sum.wrapping_add(type_item(base, &i));
+        indices = indices.wrapping_add(number(&i));
+        ends = ends.wrapping_add(end(base, &i));
     }
-    sum
+    indices.wrapping_add(ends)
 }
 
 fn indexed<'t>(info: &'t TypeInformation<'_>) -> TypeFinder<'t> {

@@ -71,21 +71,24 @@ fn header_once(s: &[u8]) -> u64 {
     }
 }
 
-// Goes through the stream's records.
+// Goes through the stream's records. Indices and ends are summed apart, in speed.rs too: of one sum of all three numbers LLVM made two, with a
+// copy and a subtraction a record.
 fn walk_from(s: &[u8], from: ItemIter) -> u64 {
     let mut c = from;
-    let mut sum: u64 = 0;
+    let mut indices: u64 = 0;
+    let mut ends: u64 = 0;
     loop {
         match stream_item::iter::next(s, c) {
             NextAnswer::Yielded(i, behind) => {
-                sum = add(sum, sums::item(i));
+                indices = add(indices, sums::index(i));
+                ends = add(ends, sums::end(i));
                 c = behind;
             }
             NextAnswer::Done => {
-                return sum;
+                return add(indices, ends);
             }
             NextAnswer::Refused(_) => {
-                return sum;
+                return add(indices, ends);
             }
         }
     }

@@ -122,9 +122,18 @@ pub fn header(h: Header) -> u64 {
     add(add(add(a, b), add(c, d)), add(e, f))
 }
 
+pub fn index(i: Item) -> u64 {
+    let named = i.index;
+    wide(named.number())
+}
+
+// The place behind an item.
+pub fn end(i: Item) -> u64 {
+    add(place(i.place), place(i.length))
+}
+
 pub fn item(i: Item) -> u64 {
-    let index = i.index;
-    add(add(wide(index.number()), place(i.place)), place(i.length))
+    add(index(i), end(i))
 }
 
 fn kind(k: ClassKind) -> u64 {
