@@ -84,6 +84,7 @@ one-reader-step x r q m k a b =
 pub one-outcome : OneOutcome
 one-outcome = record {
   declare-kind-kind = λ k. one-spells (kindText k);
+  declare-kind-size = λ k by r q a b. a ∙ sym b;
   declare-node-node-of = λ s f t i r q a b. a ∙ sym b;
   declare-node-list-of = λ s f t i r q a b. a .0 ∙ sym (b .0);
   declare-node-index-at = λ s p r q a b. a ∙ sym b;
@@ -95,7 +96,7 @@ one-outcome = record {
   declare-walk-declarator = λ s f t i d x room r q a b. a ∙ sym b;
   declare-word-by = λ y. one-spells (byText y);
   declare-word-mode = λ m. one-spells (modeText m);
-  declare-word-quals = λ q. one-spells (qualsText q);
+  declare-word-qualifiers = λ q. one-spells (qualsText q);
   answer-refusal-number = λ self r q a b. a ∙ sym b;
   answer-refusal-details = λ self r q a b. one-details r q (a ∙ sym b);
   field-fixed-u8-at = λ s p r q a b. one-u8 r q (a ∙ sym b);

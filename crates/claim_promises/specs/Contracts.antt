@@ -12,11 +12,11 @@ use Rattle.answer.specs.Details.{detailsValue}
 use Rattle.answer.specs.Refusals.{detailsOf, numberOf}
 use Rattle.answer.specs.declared.Details.{Details}
 use Rattle.answer.specs.declared.Refusal.{Refusal}
+use Rattle.declare_kind.specs.Sizes.{primitiveSize}
 use Rattle.declare_node.specs.Inside.{ListInside}
 use Rattle.declare_node.specs.Nodes.{indexAt, listOf, nodeOf}
 use Rattle.declare_node.specs.declared.Arguments.{Arguments}
 use Rattle.declare_node.specs.declared.Node.{Node}
-use Rattle.declare_node.specs.declared.Quals.{Quals}
 use Rattle.declare_piece.specs.Pieces.{textOf}
 use Rattle.declare_piece.specs.declared.Piece.{Piece as Piece-of-declare-piece}
 use Rattle.declare_step.specs.Steps.{startOf as startOf-of-declare-step, stepOf as stepOf-of-declare-step}
@@ -28,6 +28,7 @@ use Rattle.declare_walk.specs.Walk.{capped, walk}
 use Rattle.declare_walk.specs.declared.Measured.{Measured}
 use Rattle.declare_word.specs.Spellings.{byText, kindText, modeText, qualsText}
 use Rattle.declare_word.specs.Words.{Spells}
+use Rattle.declare_word.specs.declared.Quals.{Quals}
 use Rattle.declare_word.specs.declared.Word.{Word}
 use Rattle.field.specs.Bytes.{bytes as bytes-of-field}
 use Rattle.field.specs.Fields.{fixedAt, said16, said32, said64, said8}
@@ -162,6 +163,10 @@ answer-refusal-details self r = detailsValue r ≡ detailsOf self
 abbrev pub declare-kind-kind : (k : PrimitiveKind) → Word → Type 0
 declare-kind-kind k r = Spells r (kindText k)
 
+-- declare_kind::size
+abbrev pub declare-kind-size : (k : PrimitiveKind) (by : Indirection) → ℕ → Type 0
+declare-kind-size k by r = r ≡ primitiveSize k by
+
 -- declare_node::node_of
 abbrev pub declare-node-node-of : (s : List ℕ) (f : ItemFinder) (t : List ℕ) (i : TypeIndex) → Node → Type 0
 declare-node-node-of s f t i r = r ≡ nodeOf s (state f t) (i .0)
@@ -206,9 +211,9 @@ declare-word-by y r = Spells r (byText y)
 abbrev pub declare-word-mode : (m : ℕ) → Word → Type 0
 declare-word-mode m r = Spells r (modeText m)
 
--- declare_word::quals
-abbrev pub declare-word-quals : (q : Quals) → Word → Type 0
-declare-word-quals q r = Spells r (qualsText q)
+-- declare_word::qualifiers
+abbrev pub declare-word-qualifiers : (q : Quals) → Word → Type 0
+declare-word-qualifiers q r = Spells r (qualsText q)
 
 -- field::fixed::u8_at
 abbrev pub field-fixed-u8-at : (s : List ℕ) (p : ℕ) → Read8 → Type 0

@@ -5,9 +5,9 @@ use denote.Ref.{RefT, now}
 use mathlib.Core.List.{List}
 use mathlib.Core.Path.{_≡_}
 use Rattle.answer.specs.declared.Refusal.{Refusal}
-use Rattle.declare_node.specs.declared.Quals.{Quals}
 use Rattle.declare_piece.specs.declared.Piece.{Piece as Piece-of-declare-piece}
 use Rattle.declare_step.specs.declared.Around.{Around}
+use Rattle.declare_word.specs.declared.Quals.{Quals}
 use Rattle.field.specs.declared.index.IdIndex.{IdIndex}
 use Rattle.field.specs.declared.index.TypeIndex.{TypeIndex}
 use Rattle.field_text.specs.declared.RawString.{RawString}
@@ -53,6 +53,7 @@ pub record OneOutcome : Type 1 where
   pub answer-refusal-details : (self : Refusal) → Once (contract.answer-refusal-details self)
   -- declare_kind
   pub declare-kind-kind : (k : PrimitiveKind) → Once (contract.declare-kind-kind k)
+  pub declare-kind-size : (k : PrimitiveKind) (by : Indirection) → Once (contract.declare-kind-size k by)
   -- declare_node
   pub declare-node-node-of : (s : List ℕ) (f : ItemFinder) (t : List ℕ) (i : TypeIndex) → Once (contract.declare-node-node-of s f t i)
   pub declare-node-list-of : (s : List ℕ) (f : ItemFinder) (t : List ℕ) (i : TypeIndex) → Once (contract.declare-node-list-of s f t i)
@@ -70,7 +71,7 @@ pub record OneOutcome : Type 1 where
   -- declare_word
   pub declare-word-by : (y : Indirection) → Once (contract.declare-word-by y)
   pub declare-word-mode : (m : ℕ) → Once (contract.declare-word-mode m)
-  pub declare-word-quals : (q : Quals) → Once (contract.declare-word-quals q)
+  pub declare-word-qualifiers : (q : Quals) → Once (contract.declare-word-qualifiers q)
   -- field
   pub field-fixed-u8-at : (s : List ℕ) (p : ℕ) → Once (contract.field-fixed-u8-at s p)
   pub field-fixed-u16-at : (s : List ℕ) (p : ℕ) → Once (contract.field-fixed-u16-at s p)

@@ -1,4 +1,3 @@
-pub mod Sizes
 pub mod Looked
 pub mod Nodes
 pub mod Inside

@@ -14,7 +14,7 @@ use Rattle.word_attributes.specs.Pointers.{sizeOf}
 use Rattle.record_layout.specs.Fields.{Shown, number, numeral, absent, many}
 use Rattle.record_layout.specs.Values.{nth, numberIn}
 use Rattle.stream_finder.specs.Finder.{State}
-use Rattle.declare_node.specs.declared.Quals.{Quals}
+use Rattle.declare_word.specs.declared.Quals.{Quals}
 use Rattle.declare_node.specs.declared.Extent.{Extent}
 use Rattle.declare_node.specs.declared.Extent.the-variants as extent
 use Rattle.declare_node.specs.declared.Node.{Node}
@@ -23,7 +23,7 @@ use Rattle.declare_node.specs.declared.Arguments.{Arguments}
 use Rattle.declare_node.specs.declared.Arguments.the-variants as arguments
 use Rattle.declare_node.specs.declared.Sized.{Sized}
 use Rattle.declare_node.specs.declared.Sized.the-variants as sized
-use Rattle.declare_node.specs.Sizes.{primitiveSize}
+use Rattle.declare_kind.specs.Sizes.{primitiveSize}
 use Rattle.declare_node.specs.Looked.{Seen, numbered, held, nothing, typeSeen, listSeen}
 
 abbrev pub typeIndex : ℕ → TypeIndex

@@ -13,11 +13,11 @@ ghost use Rattle.stream_finder.specs.Finder.{state};
 ghost use Rattle.record_layout.specs.Fields.{many, orAbsent};
 ghost use Rattle.record_layout.specs.Values.{numberIn};
 ghost use Rattle.record_data.specs.Said.{typeValues};
-ghost use Rattle.declare_node.specs.Sizes.{kindSize, primitiveSize};
 ghost use Rattle.declare_node.specs.Looked.{declaredLeaves, listLeaves, asPrimitive, byLeaf, bytesSeen, held, saidLooked, recordSeen, typeSeen};
 ghost use Rattle.declare_node.specs.Nodes.{typeIndex, leafIn, sizedIn, sizedBy, sizeThrough, extentOf, nameIn, pointerQuals, modifierQuals, nodeIn, nodeOf, listBy, listOf, indexAt};
 ghost use Rattle.declare_node.specs.Inside.{HeldAt, HeldInside, ListInside};
 use answer::Refusal;
+use declare_word::Quals;
 use field::fixed;
 use field::fixed::Read16;
 use field::index;
@@ -54,14 +54,6 @@ const FIRST_RECORD: u32 = 0x1000;
 
 // How many modifiers and enumerations a size is looked for through.
 const THROUGH: u32 = 32;
-
-// Qualifiers.
-pub struct Quals {
-    pub constant: bool,
-    pub volatile: bool,
-    pub unaligned: bool,
-    pub restrict: bool,
-}
 
 // How many elements an array has.
 pub enum Extent {
@@ -100,70 +92,6 @@ enum Looked {
     Numbered(PrimitiveType),
     Held(usize, usize, TypeData),
     Nothing(Refusal),
-}
-
-fn kind_size(k: PrimitiveKind) -> u64
-    ensures { λ r. ⌜ r ≡ kindSize k ⌝ }
-{
-    match k {
-        PrimitiveKind::NoType => 0,
-        PrimitiveKind::Void => 0,
-        PrimitiveKind::Char => 1,
-        PrimitiveKind::UChar => 1,
-        PrimitiveKind::RChar => 1,
-        PrimitiveKind::WChar => 2,
-        PrimitiveKind::RChar16 => 2,
-        PrimitiveKind::RChar32 => 4,
-        PrimitiveKind::I8 => 1,
-        PrimitiveKind::U8 => 1,
-        PrimitiveKind::Short => 2,
-        PrimitiveKind::UShort => 2,
-        PrimitiveKind::I16 => 2,
-        PrimitiveKind::U16 => 2,
-        PrimitiveKind::Long => 4,
-        PrimitiveKind::ULong => 4,
-        PrimitiveKind::I32 => 4,
-        PrimitiveKind::U32 => 4,
-        PrimitiveKind::Quad => 8,
-        PrimitiveKind::UQuad => 8,
-        PrimitiveKind::I64 => 8,
-        PrimitiveKind::U64 => 8,
-        PrimitiveKind::Octa => 16,
-        PrimitiveKind::UOcta => 16,
-        PrimitiveKind::I128 => 16,
-        PrimitiveKind::U128 => 16,
-        PrimitiveKind::F16 => 2,
-        PrimitiveKind::F32 => 4,
-        PrimitiveKind::F32PP => 4,
-        PrimitiveKind::F48 => 6,
-        PrimitiveKind::F64 => 8,
-        PrimitiveKind::F80 => 10,
-        PrimitiveKind::F128 => 16,
-        PrimitiveKind::Complex32 => 8,
-        PrimitiveKind::Complex64 => 16,
-        PrimitiveKind::Complex80 => 20,
-        PrimitiveKind::Complex128 => 32,
-        PrimitiveKind::Bool8 => 1,
-        PrimitiveKind::Bool16 => 2,
-        PrimitiveKind::Bool32 => 4,
-        PrimitiveKind::Bool64 => 8,
-        PrimitiveKind::HRESULT => 4,
-    }
-}
-
-fn primitive_size(k: PrimitiveKind, by: Indirection) -> u64
-    ensures { λ r. ⌜ r ≡ primitiveSize k by ⌝ }
-{
-    match by {
-        Indirection::Direct => kind_size(k),
-        Indirection::Near16 => 2,
-        Indirection::Far16 => 4,
-        Indirection::Huge16 => 4,
-        Indirection::Near32 => 4,
-        Indirection::Far32 => 6,
-        Indirection::Near64 => 8,
-        Indirection::Near128 => 16,
-    }
 }
 
 fn numbered(i: TypeIndex) -> Looked
@@ -352,7 +280,7 @@ fn size_in(l: Looked) -> Sized
         Looked::Numbered(p) => {
             let k = p.kind;
             let by = p.indirection;
-            return Sized::Known(primitive_size(k, by));
+            return Sized::Known(declare_kind::size(k, by));
         }
         Looked::Held(_, _, d) => {
             return sized_record(d);

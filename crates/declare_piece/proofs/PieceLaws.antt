@@ -10,7 +10,7 @@ use borrow.Author.Tests.{lt-ltb, le-ltb, ne-eqb}
 use Rattle.word_primitive.specs.declared.PrimitiveKind.{PrimitiveKind}
 use Rattle.declare_node.specs.declared.Extent.{Extent}
 use Rattle.word_primitive.specs.declared.Indirection.{Indirection}
-use Rattle.declare_node.specs.declared.Quals.{Quals}
+use Rattle.declare_word.specs.declared.Quals.{Quals}
 use Rattle.declare_piece.specs.declared.Piece.{Piece}
 use Rattle.declare_piece.specs.declared.Piece.the-variants as piece
 use Rattle.declare_word.specs.Spellings.{quoted, kindText, byText, modeText, qualsText}

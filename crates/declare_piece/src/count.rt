@@ -7,7 +7,7 @@ ghost use Rattle.declare_piece.specs.Pieces.{gap, decimal, extentText, c
 ghost use Rattle.declare_piece.specs.Lengths.{spacedLength, qualsLength};
 use crate::Piece;
 use declare_node::Extent;
-use declare_node::Quals;
+use declare_word::Quals;
 use word_primitive::Indirection;
 use word_primitive::PrimitiveKind;
 
@@ -35,7 +35,7 @@ fn mode_len(m: u8) -> usize
 pub fn quals_len(q: Quals) -> usize
     ensures { λ r. ⌜ (r ≡ length (qualsText q)) × (r ≤ 40) ⌝ }
 {
-    let w = declare_word::quals(q);
+    let w = declare_word::qualifiers(q);
     w.n
 }
 

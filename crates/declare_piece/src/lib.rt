@@ -8,7 +8,7 @@ ghost use lib.ListN.{length};
 ghost use Rattle.field_put.specs.Bytes.{Lays};
 ghost use Rattle.declare_piece.specs.Pieces.{textOf};
 use declare_node::Extent;
-use declare_node::Quals;
+use declare_word::Quals;
 use word_primitive::Indirection;
 use word_primitive::PrimitiveKind;
 

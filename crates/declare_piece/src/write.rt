@@ -11,7 +11,7 @@ ghost use Rattle.declare_piece.specs.Lengths.{ending};
 use crate::Piece;
 use crate::count;
 use declare_node::Extent;
-use declare_node::Quals;
+use declare_word::Quals;
 use declare_word::Word;
 use word_primitive::Indirection;
 use word_primitive::PrimitiveKind;
@@ -57,7 +57,7 @@ fn quals(out: &mut [u8], at: usize, q: Quals) -> usize
     requires { ⌜ Room (now out) at (qualsText q) ⌝ }
     ensures { λ r. ⌜ Puts (now (out .entry)) at (qualsText q) r (now (out .exit)) ⌝ }
 {
-    word(out, at, declare_word::quals(q))
+    word(out, at, declare_word::qualifiers(q))
 }
 
 fn byte(out: &mut [u8], at: usize, b: u8) -> usize

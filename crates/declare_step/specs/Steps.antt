@@ -7,7 +7,7 @@ use Rattle.word_primitive.specs.declared.Indirection.{Indirection}
 use Rattle.word_primitive.specs.declared.Indirection.the-variants as by
 use Rattle.stream_finder.specs.Finder.{State}
 use Rattle.declare_node.specs.Nodes.{nodeOf}
-use Rattle.declare_node.specs.declared.Quals.{Quals}
+use Rattle.declare_word.specs.declared.Quals.{Quals}
 use Rattle.declare_node.specs.declared.Node.{Node}
 use Rattle.declare_node.specs.declared.Node.the-variants as node
 use Rattle.declare_piece.specs.declared.Piece.{Piece}

@@ -5,7 +5,7 @@ ghost use Rattle.stream_finder.specs.Finder.{state};
 ghost use Rattle.declare_step.specs.Steps.{or, none, union, startOf, opening, primitivePiece, stepOf};
 use answer::Refusal;
 use declare_node::Node;
-use declare_node::Quals;
+use declare_word::Quals;
 use declare_piece::Piece;
 use field::index::TypeIndex;
 use stream_finder::ItemFinder;

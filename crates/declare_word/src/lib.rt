@@ -2,8 +2,15 @@
 // specs/Spellings.antt has all of them as definitions, specs/Words.antt how a text stands in a word.
 ghost use Rattle.declare_word.specs.Spellings.{byText, modeText, qualsText};
 ghost use Rattle.declare_word.specs.Words.{Spells};
-use declare_node::Quals;
 use word_primitive::Indirection;
+
+// Qualifiers: of a pointer by its attribute word, of another type by its modifier.
+pub struct Quals {
+    pub constant: bool,
+    pub volatile: bool,
+    pub unaligned: bool,
+    pub restrict: bool,
+}
 
 // A short text: the first n bytes, and spaces behind them.
 pub struct Word {
@@ -106,7 +113,7 @@ pub fn mode(m: u8) -> Word
 }
 
 // Qualifiers, in their order.
-pub fn quals(q: Quals) -> Word
+pub fn qualifiers(q: Quals) -> Word
     ensures { λ r. ⌜ Spells r (qualsText q) ⌝ }
 {
     let constant = q.constant;

@@ -1,3 +1,4 @@
+-- `declare_node::size_of`, which calls itself, meets its contract: the types left to go through fall. Assumes nothing.
 use native.Mathlib.Omega.{arith}
 use borrow.Author.Needs.{needs}
 use mathlib.Core.Path.{_∙_}
@@ -22,7 +23,6 @@ size-of-at t = and 2 size-of-kinds.ps (is 2 size-of-kinds.ps μ-size-of t) size-
 abbrev size-of-below : ℕ → In 2 size-of-kinds.ps
 size-of-below t = and 2 size-of-kinds.ps (falls 2 size-of-kinds.ps _<_ μ-size-of t) size-of.Pre
 
--- src/lib.rt:345:19
 size-of-look-requires : (t : ℕ) → size-of-lts.Need-look-requires (
   look-reads.Asked,
   look-reads.Learnt,
@@ -33,7 +33,6 @@ size-of-look-requires : (t : ℕ) → size-of-lts.Need-look-requires (
 ) (size-of-at t) size-of.Post
 size-of-look-requires t c κs = tt
 
--- src/lib.rt:345:11
 size-of-size-in-requires : (t : ℕ) → size-of-lts.Need-size-in-requires (
   look-reads.Asked,
   look-reads.Learnt,
@@ -44,7 +43,6 @@ size-of-size-in-requires : (t : ℕ) → size-of-lts.Need-size-in-requires (
 ) (size-of-at t) size-of.Post
 size-of-size-in-requires t c κs = tt
 
--- src/lib.rt:346:22
 size-of-enum-known-n : (t : ℕ) → size-of-lts.Need-enum-known-n (
   look-reads.Asked,
   look-reads.Learnt,
@@ -55,7 +53,6 @@ size-of-enum-known-n : (t : ℕ) → size-of-lts.Need-enum-known-n (
 ) (size-of-at t) size-of.Post
 size-of-enum-known-n t c = search needs
 
--- src/lib.rt:347:13
 size-of-returns : (t : ℕ) → size-of-lts.Need-returns (
   look-reads.Asked,
   look-reads.Learnt,
@@ -66,7 +63,6 @@ size-of-returns : (t : ℕ) → size-of-lts.Need-returns (
 ) (size-of-at t) size-of.Post
 size-of-returns t c = size-known _ _ _ _ _ _ (c .before .before .before .size-in .ensures) (c .before .before .before .before .look .ensures .0) _ (c .before .n .given .1)
 
--- src/lib.rt:349:24
 size-of-enum-known-j : (t : ℕ) → size-of-lts.Need-enum-known-j (
   look-reads.Asked,
   look-reads.Learnt,
@@ -77,7 +73,6 @@ size-of-enum-known-j : (t : ℕ) → size-of-lts.Need-enum-known-j (
 ) (size-of-at t) size-of.Post
 size-of-enum-known-j t c = search needs
 
--- src/lib.rt:351:17
 size-of-returns-2 : (t : ℕ) → size-of-lts.Need-returns-2 (
   look-reads.Asked,
   look-reads.Learnt,
@@ -88,7 +83,6 @@ size-of-returns-2 : (t : ℕ) → size-of-lts.Need-returns-2 (
 ) (size-of-at t) size-of.Post
 size-of-returns-2 t c = size-stopped _ _ _ _ _ _ (c .before .before .before .before .size-in .ensures) (c .before .before .before .before .before .look .ensures .0) _ (c .before .before .j .given .1) (c .if1 .taken)
 
--- src/lib.rt:353:40
 size-of-sub-size-of : (t : ℕ) → size-of-lts.Need-sub-size-of (
   look-reads.Asked,
   look-reads.Learnt,
@@ -99,7 +93,6 @@ size-of-sub-size-of : (t : ℕ) → size-of-lts.Need-sub-size-of (
 ) (size-of-at t) size-of.Post
 size-of-sub-size-of t c = omega arith
 
--- src/lib.rt:353:13
 size-of-size-of-requires : (t : ℕ) → size-of-lts.Need-size-of-requires (
   look-reads.Asked,
   look-reads.Learnt,
@@ -110,7 +103,6 @@ size-of-size-of-requires : (t : ℕ) → size-of-lts.Need-size-of-requires (
 ) (size-of-at t) size-of.Post
 size-of-size-of-requires t c κs = (omega arith, tt)
 
--- src/lib.rt:353:13
 size-of-returns-3 : (t : ℕ) → size-of-lts.Need-returns-3 (
   look-reads.Asked,
   look-reads.Learnt,

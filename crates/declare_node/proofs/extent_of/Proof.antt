@@ -1,3 +1,4 @@
+-- `declare_node::extent_of` meets its contract. Assumes nothing.
 use Rattle.declare_node.proofs.NodeLaws.{extent-none, extent-known, extent-odd}
 use borrow.Author.Needs.{needs}
 use Rattle.declare_node.proofs.extent_of.Statement.{statement}
@@ -5,23 +6,18 @@ use Rattle.declare_node.proofs.extent_of.Tie as tie
 use Rattle.declare_node.proofs.extent_of.Reads as reads
 use Rattle.declare_node.proofs.extent_of.Lts as lts
 
--- src/lib.rt:362:9
 returns : tie.Need-returns
 returns c = extent-none _ _ (c .if1 .taken)
 
--- src/lib.rt:364:8
 rem-if2 : tie.Need-rem-if2
 rem-if2 c = search needs
 
--- src/lib.rt:365:30
 div-t5 : tie.Need-div-t5
 div-t5 c = search needs
 
--- src/lib.rt:365:9
 returns-2 : tie.Need-returns-2
 returns-2 c = extent-known _ _ (c .before .if1 .left) (c .if2 .taken)
 
--- src/lib.rt:358:1
 returns-3 : tie.Need-returns-3
 returns-3 c = extent-odd _ _ (c .before .if1 .left) (c .if2 .left)
 

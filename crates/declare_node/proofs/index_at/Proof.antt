@@ -1,3 +1,4 @@
+-- `declare_node::index_at` meets its contract. Assumes nothing.
 use Rattle.answer.proofs.Told.{told}
 use Rattle.field.specs.Indices.{saidType}
 use Rattle.declare_node.specs.Nodes.{indexAt}
@@ -8,24 +9,19 @@ use Rattle.declare_node.proofs.index_at.Reads as reads
 use Rattle.declare_node.proofs.index_at.Lts as lts
 use Rattle.field.proofs.index.type_at.Reads as type-at-reads
 
--- src/lib.rt:608:11
 type-at-requires : tie.Need-type-at-requires
 type-at-requires c κs = search needs
 
--- src/lib.rt:609:23
 enum-known-i : tie.Need-enum-known-i
 enum-known-i c = search needs
 
--- src/lib.rt:610:28
 enum-told : tie.Need-enum-told
 enum-told c = search needs
 
--- src/lib.rt:605:1
 returns : tie.Need-returns
 unfolding indexAt
 returns c = rw (told saidType (c .before .before .before .type-at .ensures) (c .before .i .given .1))
 
--- src/lib.rt:605:1
 returns-2 : tie.Need-returns-2
 unfolding indexAt
 returns-2 c = rw (told saidType (c .before .before .type-at .ensures) (c .enum-told .given .1))

@@ -1,3 +1,4 @@
+-- `declare_node::list_of` meets its contract. Assumes nothing.
 use native.Mathlib.Omega.{arith}
 use borrow.Author.Tests.{lt-ltb, le-ltb}
 use Rattle.answer.proofs.Told.{told}
@@ -13,42 +14,33 @@ use Rattle.declare_node.proofs.list_of.Lts as lts
 use Rattle.declare_node.proofs.list_in.Reads as list-in-reads
 use Rattle.declare_node.proofs.record_of.Reads as record-of-reads
 
--- src/lib.rt:589:9
 returns : tie.Need-returns
 unfolding listOf listSeen
 returns c = (rw (lt-ltb _ _ (c .if1 .taken)), tt)
 
--- src/lib.rt:591:11
 record-of-requires : tie.Need-record-of-requires
 record-of-requires c κs = search needs
 
--- src/lib.rt:593:39
 enum-told : tie.Need-enum-told
 enum-told c = search needs
 
--- src/lib.rt:593:13
 returns-2 : tie.Need-returns-2
 unfolding listOf listSeen
 returns-2 c = (rw (le-ltb _ _ (c .before .before .before .if1 .left), told saidLooked (c .before .before .record-of .ensures .0) (c .enum-told .given .1)), tt)
 
--- src/lib.rt:595:22
 enum-known-p : tie.Need-enum-known-p
 enum-known-p c = search needs
 
--- src/lib.rt:596:13
 list-in-requires : tie.Need-list-in-requires
 list-in-requires c κs = omega (arith, (rw (c .before .p .given .1) at (c .before .before .before .record-of .ensures .1)), c .before .before .before .before .before .before .before .good .0 .1)
 
--- src/lib.rt:596:13
 returns-3 : tie.Need-returns-3
 unfolding listOf listSeen
 returns-3 c = (rw (le-ltb _ _ (c .before .before .before .before .before .if1 .left), told saidLooked (c .before .before .before .before .record-of .ensures .0) (c .before .before .p .given .1)) (c .list-in .ensures), list-inside _ _ _ (typeValues (c .before .before .p .given .0 .1 .1 .0)) _ (c .list-in .ensures) (rw (c .before .before .p .given .1) at (c .before .before .before .before .record-of .ensures .1)))
 
--- src/lib.rt:598:25
 enum-known-w : tie.Need-enum-known-w
 enum-known-w c = search needs
 
--- src/lib.rt:599:13
 returns-4 : tie.Need-returns-4
 unfolding listOf listSeen
 returns-4 c = (rw (le-ltb _ _ (c .before .before .before .before .if1 .left), told saidLooked (c .before .before .before .record-of .ensures .0) (c .before .w .given .1)), tt)

@@ -1,3 +1,4 @@
+-- `declare_node::look` meets its contract. Assumes nothing.
 use borrow.Author.Tests.{lt-ltb, le-ltb}
 use Rattle.word_primitive.specs.Primitive.{primitiveOf}
 use Rattle.declare_node.specs.Looked.{typeSeen}
@@ -10,20 +11,16 @@ use Rattle.declare_node.proofs.look.Lts as lts
 use Rattle.declare_node.proofs.numbered.Reads as numbered-reads
 use Rattle.declare_node.proofs.record_of.Reads as record-of-reads
 
--- src/lib.rt:283:9
 numbered-requires : tie.Need-numbered-requires
 numbered-requires c κs = search needs
 
--- src/lib.rt:283:9
 returns : tie.Need-returns
 unfolding typeSeen
 returns c = (rw (lt-ltb _ _ (c .before .if1 .taken)) (c .numbered .ensures), primitive-inside _ (c .numbered .result) (primitiveOf (c .before .before .before .before .args .i .0)) (c .numbered .ensures))
 
--- src/lib.rt:285:5
 record-of-requires : tie.Need-record-of-requires
 record-of-requires c κs = search needs
 
--- src/lib.rt:278:1
 returns-2 : tie.Need-returns-2
 unfolding typeSeen
 returns-2 c = (rw (le-ltb _ _ (c .before .if1 .left)) (c .record-of .ensures .0), c .record-of .ensures .1)

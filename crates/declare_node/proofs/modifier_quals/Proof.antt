@@ -1,3 +1,4 @@
+-- `declare_node::modifier_quals` meets its contract. Assumes nothing.
 use borrow.Author.Needs.{needs}
 use Rattle.declare_node.proofs.modifier_quals.Statement.{statement}
 use Rattle.declare_node.proofs.modifier_quals.Tie as tie
@@ -7,19 +8,15 @@ use Rattle.word_attributes.proofs.ModifierFlags.constant.Reads as constant-read
 use Rattle.word_attributes.proofs.ModifierFlags.unaligned.Reads as unaligned-reads
 use Rattle.word_attributes.proofs.ModifierFlags.volatile.Reads as volatile-reads
 
--- src/lib.rt:426:19
 constant-requires : tie.Need-constant-requires
 constant-requires c κs = search needs
 
--- src/lib.rt:427:19
 volatile-requires : tie.Need-volatile-requires
 volatile-requires c κs = search needs
 
--- src/lib.rt:428:20
 unaligned-requires : tie.Need-unaligned-requires
 unaligned-requires c κs = search needs
 
--- src/lib.rt:422:1
 returns : tie.Need-returns
 returns c = rw (c .before .before .constant .ensures, c .before .volatile .ensures, c .unaligned .ensures)
 

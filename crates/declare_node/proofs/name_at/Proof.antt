@@ -1,3 +1,4 @@
+-- `declare_node::name_at` meets its contract. Assumes nothing.
 use Rattle.field_text.specs.Texts.{part}
 use native.Mathlib.Omega.{arith}
 use Rattle.declare_node.proofs.NodeLaws.{name-past, name-there}
@@ -7,19 +8,15 @@ use Rattle.declare_node.proofs.name_at.Tie as tie
 use Rattle.declare_node.proofs.name_at.Reads as reads
 use Rattle.declare_node.proofs.name_at.Lts as lts
 
--- src/lib.rt:378:9
 returns : tie.Need-returns
 returns c = name-past _ _ (part (c .before .args .x)) (omega arith)
 
--- src/lib.rt:381:9
 returns-2 : tie.Need-returns-2
 returns-2 c = name-past _ _ (part (c .before .before .args .x)) (omega arith)
 
--- src/lib.rt:383:17
 add-at : tie.Need-add-at
 add-at c = search needs
 
--- src/lib.rt:371:1
 returns-3 : tie.Need-returns-3
 returns-3 c = name-there _ _ (part (c .before .before .args .x)) (omega arith)
 

@@ -1,3 +1,4 @@
+-- `declare_node::node_in` meets its contract. Assumes nothing.
 use mathlib.Core.Path.{_∙_}
 use Rattle.answer.specs.Tables.{among}
 use Rattle.declare_node.specs.Nodes.{nodeIn, classes}
@@ -14,154 +15,119 @@ use Rattle.declare_node.proofs.or_none.Reads as or-none-reads
 use Rattle.declare_node.proofs.pointer_quals.Reads as pointer-quals-reads
 use Rattle.declare_node.proofs.size_of.Reads as size-of-reads
 
--- src/lib.rt:453:28
 enum-known-d : tie.Need-enum-known-d
 enum-known-d c = search needs
 
--- src/lib.rt:456:38
 modifier-quals-requires : tie.Need-modifier-quals-requires
 modifier-quals-requires c κs = search needs
 
--- src/lib.rt:456:13
 returns : tie.Need-returns
 unfolding nodeIn among classes
 returns c = rw (c .before .before .before .before .d .given .1, c .modifier-quals .ensures)
 
--- src/lib.rt:458:27
 enum-known-d-2 : tie.Need-enum-known-d-2
 enum-known-d-2 c = search needs
 
--- src/lib.rt:462:37
 cast-mode : tie.Need-cast-mode
 cast-mode c = search needs
 
--- src/lib.rt:462:57
 pointer-quals-requires : tie.Need-pointer-quals-requires
 pointer-quals-requires c κs = search needs
 
--- src/lib.rt:462:13
 returns-2 : tie.Need-returns-2
 unfolding nodeIn among classes
 returns-2 c = rw (c .before .before .before .before .d2 .given .1, c .pointer-quals .ensures)
 
--- src/lib.rt:464:29
 enum-known-d-3 : tie.Need-enum-known-d-3
 enum-known-d-3 c = search needs
 
--- src/lib.rt:467:36
 or-none-requires : tie.Need-or-none-requires
 or-none-requires c κs = search needs
 
--- src/lib.rt:467:13
 returns-3 : tie.Need-returns-3
 unfolding nodeIn among classes
 returns-3 c = rw (c .before .before .before .d3 .given .1, c .or-none .ensures)
 
--- src/lib.rt:469:25
 enum-known-d-4 : tie.Need-enum-known-d-4
 enum-known-d-4 c = search needs
 
--- src/lib.rt:472:17
 size-of-requires : tie.Need-size-of-requires
 size-of-requires c κs = search needs
 
--- src/lib.rt:473:35
 extent-of-requires : tie.Need-extent-of-requires
 extent-of-requires c κs = search needs
 
--- src/lib.rt:473:13
 returns-4 : tie.Need-returns-4
 unfolding nodeIn among classes
 returns-4 c = rw (c .before .before .before .before .before .d4 .given .1, c .extent-of .ensures, c .before .size-of .ensures)
 
--- src/lib.rt:475:25
 enum-known-d-5 : tie.Need-enum-known-d-5
 enum-known-d-5 c = search needs
 
--- src/lib.rt:477:13
 name-at-requires : tie.Need-name-at-requires
 name-at-requires c κs = search needs
 
--- src/lib.rt:477:13
 returns-5 : tie.Need-returns-5
 returns-5 c = rw (c .before .before .before .d5 .given .1) (c .name-at .ensures ∙ class-name _ _ _ _ (c .before .before .before .d5 .given .0 .0 .kind) (c .before .before .before .d5 .given .0 .0))
 
--- src/lib.rt:479:25
 enum-known-d-6 : tie.Need-enum-known-d-6
 enum-known-d-6 c = search needs
 
--- src/lib.rt:481:13
 name-at-requires-2 : tie.Need-name-at-requires-2
 name-at-requires-2 c κs = search needs
 
--- src/lib.rt:481:13
 returns-6 : tie.Need-returns-6
 unfolding nodeIn among classes
 returns-6 c = rw (c .before .before .before .d6 .given .1) (c .name-at2 .ensures)
 
--- src/lib.rt:483:31
 enum-known-d-7 : tie.Need-enum-known-d-7
 enum-known-d-7 c = search needs
 
--- src/lib.rt:485:13
 name-at-requires-3 : tie.Need-name-at-requires-3
 name-at-requires-3 c κs = search needs
 
--- src/lib.rt:485:13
 returns-7 : tie.Need-returns-7
 unfolding nodeIn among classes
 returns-7 c = rw (c .before .before .before .d7 .given .1) (c .name-at3 .ensures)
 
--- src/lib.rt:488:34
 enum-told : tie.Need-enum-told
 enum-told c = search needs
 
--- src/lib.rt:488:13
 returns-8 : tie.Need-returns-8
 unfolding nodeIn among classes
 returns-8 c = rw (c .enum-told .given .1)
 
--- src/lib.rt:491:34
 enum-told-2 : tie.Need-enum-told-2
 enum-told-2 c = search needs
 
--- src/lib.rt:491:13
 returns-9 : tie.Need-returns-9
 unfolding nodeIn among classes
 returns-9 c = rw (c .enum-told2 .given .1)
 
--- src/lib.rt:494:34
 enum-told-3 : tie.Need-enum-told-3
 enum-told-3 c = search needs
 
--- src/lib.rt:494:13
 returns-10 : tie.Need-returns-10
 unfolding nodeIn among classes
 returns-10 c = rw (c .enum-told3 .given .1)
 
--- src/lib.rt:497:34
 enum-told-4 : tie.Need-enum-told-4
 enum-told-4 c = search needs
 
--- src/lib.rt:497:13
 returns-11 : tie.Need-returns-11
 unfolding nodeIn among classes
 returns-11 c = rw (c .enum-told4 .given .1)
 
--- src/lib.rt:500:34
 enum-told-5 : tie.Need-enum-told-5
 enum-told-5 c = search needs
 
--- src/lib.rt:500:13
 returns-12 : tie.Need-returns-12
 unfolding nodeIn among classes
 returns-12 c = rw (c .enum-told5 .given .1)
 
--- src/lib.rt:503:34
 enum-told-6 : tie.Need-enum-told-6
 enum-told-6 c = search needs
 
--- src/lib.rt:503:13
 returns-13 : tie.Need-returns-13
 unfolding nodeIn among classes
 returns-13 c = rw (c .enum-told6 .given .1)

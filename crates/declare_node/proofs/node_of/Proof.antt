@@ -1,3 +1,4 @@
+-- `declare_node::node_of` meets its contract. Assumes nothing.
 use Rattle.answer.proofs.Told.{told}
 use Rattle.declare_node.specs.Looked.{saidLooked}
 use Rattle.declare_node.specs.Nodes.{nodeOf}
@@ -9,37 +10,29 @@ use Rattle.declare_node.proofs.node_of.Lts as lts
 use Rattle.declare_node.proofs.look.Reads as look-reads
 use Rattle.declare_node.proofs.node_in.Reads as node-in-reads
 
--- src/lib.rt:470:11
 look-requires : tie.Need-look-requires
 look-requires c κs = search needs
 
--- src/lib.rt:471:26
 enum-known-p : tie.Need-enum-known-p
 enum-known-p c = search needs
 
--- src/lib.rt:474:13
 returns : tie.Need-returns
 unfolding nodeOf
 returns c = rw (told saidLooked (c .before .before .before .look .ensures .0) (c .before .p .given .1))
 
--- src/lib.rt:476:22
 enum-known-p-2 : tie.Need-enum-known-p-2
 enum-known-p-2 c = search needs
 
--- src/lib.rt:477:13
 node-in-requires : tie.Need-node-in-requires
 node-in-requires c κs = (rw (c .before .p2 .given .1) at (c .before .before .before .look .ensures .1))
 
--- src/lib.rt:477:13
 returns-2 : tie.Need-returns-2
 unfolding nodeOf
 returns-2 c = rw (told saidLooked (c .before .before .before .before .look .ensures .0) (c .before .before .p2 .given .1)) (c .node-in .ensures)
 
--- src/lib.rt:479:25
 enum-known-w : tie.Need-enum-known-w
 enum-known-w c = search needs
 
--- src/lib.rt:480:13
 returns-3 : tie.Need-returns-3
 unfolding nodeOf
 returns-3 c = rw (told saidLooked (c .before .before .before .look .ensures .0) (c .before .w .given .1))

@@ -1,3 +1,4 @@
+-- `declare_node::numbered` meets its contract. Assumes nothing.
 use Rattle.answer.proofs.Told.{told}
 use Rattle.word_primitive.specs.Primitive.{saidPrimitive}
 use Rattle.declare_node.proofs.LookLaws.{passed-on}
@@ -8,23 +9,18 @@ use Rattle.declare_node.proofs.numbered.Reads as reads
 use Rattle.declare_node.proofs.numbered.Lts as lts
 use Rattle.word_primitive.proofs.primitive.Reads as primitive-reads
 
--- src/lib.rt:143:11
 primitive-requires : tie.Need-primitive-requires
 primitive-requires c κs = search needs
 
--- src/lib.rt:144:35
 enum-known-p : tie.Need-enum-known-p
 enum-known-p c = search needs
 
--- src/lib.rt:145:13
 returns : tie.Need-returns
 returns c = rw (told saidPrimitive (c .before .before .before .primitive .ensures) (c .before .p .given .1))
 
--- src/lib.rt:147:34
 enum-known-e : tie.Need-enum-known-e
 enum-known-e c = search needs
 
--- src/lib.rt:148:13
 returns-2 : tie.Need-returns-2
 returns-2 c = rw (told saidPrimitive (c .before .before .before .primitive .ensures) (c .before .e .given .1)) (passed-on _)
 

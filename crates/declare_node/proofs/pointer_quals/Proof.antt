@@ -1,3 +1,4 @@
+-- `declare_node::pointer_quals` meets its contract. Assumes nothing.
 use borrow.Author.Needs.{needs}
 use Rattle.declare_node.proofs.pointer_quals.Statement.{statement}
 use Rattle.declare_node.proofs.pointer_quals.Tie as tie
@@ -8,23 +9,18 @@ use Rattle.word_attributes.proofs.PointerAttributes.is_restrict.Reads as is-res
 use Rattle.word_attributes.proofs.PointerAttributes.is_unaligned.Reads as is-unaligned-reads
 use Rattle.word_attributes.proofs.PointerAttributes.is_volatile.Reads as is-volatile-reads
 
--- src/lib.rt:415:19
 is-const-requires : tie.Need-is-const-requires
 is-const-requires c κs = search needs
 
--- src/lib.rt:416:19
 is-volatile-requires : tie.Need-is-volatile-requires
 is-volatile-requires c κs = search needs
 
--- src/lib.rt:417:20
 is-unaligned-requires : tie.Need-is-unaligned-requires
 is-unaligned-requires c κs = search needs
 
--- src/lib.rt:418:19
 is-restrict-requires : tie.Need-is-restrict-requires
 is-restrict-requires c κs = search needs
 
--- src/lib.rt:411:1
 returns : tie.Need-returns
 returns c = rw (c .before .before .before .is-const .ensures, c .before .before .is-volatile .ensures, c .before .is-unaligned .ensures, c .is-restrict .ensures)
 

@@ -1,3 +1,4 @@
+-- `declare_node::record_in` meets its contract. Assumes nothing.
 use mathlib.Core.Path.{refl, sym, _∙_}
 use Rattle.answer.proofs.Told.{told}
 use Rattle.field.specs.Fields.{said16}
@@ -12,47 +13,36 @@ use Rattle.field.proofs.fixed.u16_at.Reads as u16-at-reads
 use Rattle.record_data.proofs.type_data.Reads as type-data-reads
 use Rattle.declare_node.proofs.is_taken.Reads as is-taken-reads
 
--- src/lib.rt:178:32
 u16-at-requires : tie.Need-u16-at-requires
 u16-at-requires c κs = search needs
 
--- src/lib.rt:178:21
 enum-known-leaf : tie.Need-enum-known-leaf
 enum-known-leaf c = search needs
 
--- src/lib.rt:179:42
 enum-told : tie.Need-enum-told
 enum-told c = search needs
 
--- src/lib.rt:179:9
 returns : tie.Need-returns
 returns c = (rw (told said16 (c .before .before .u16-at .ensures) (c .enum-told .given .1)), tt)
 
--- src/lib.rt:181:8
 is-taken-requires : tie.Need-is-taken-requires
 is-taken-requires c κs = search needs
 
--- src/lib.rt:182:15
 type-data-requires : tie.Need-type-data-requires
 type-data-requires c κs = search needs
 
--- src/lib.rt:183:34
 enum-known-d : tie.Need-enum-known-d
 enum-known-d c = search needs
 
--- src/lib.rt:184:17
 returns-2 : tie.Need-returns-2
 returns-2 c = (rw ((told said16 (c .before .before .before .before .before .before .before .before .before .u16-at .ensures) (c .before .before .before .before .before .before .before .leaf .given .1)), (sym (c .before .before .before .before .before .is-taken .ensures) ∙ c .before .before .before .before .if1 .taken), (told saidTypeData (c .before .before .before .type-data .ensures) (c .before .d .given .1))), (refl, refl))
 
--- src/lib.rt:186:33
 enum-known-e : tie.Need-enum-known-e
 enum-known-e c = search needs
 
--- src/lib.rt:187:17
 returns-3 : tie.Need-returns-3
 returns-3 c = (rw ((told said16 (c .before .before .before .before .before .before .before .before .before .u16-at .ensures) (c .before .before .before .before .before .before .before .leaf .given .1)), (sym (c .before .before .before .before .before .is-taken .ensures) ∙ c .before .before .before .before .if1 .taken), (told saidTypeData (c .before .before .before .type-data .ensures) (c .before .e .given .1))) (passed-on _), tt)
 
--- src/lib.rt:175:1
 returns-4 : tie.Need-returns-4
 returns-4 c = (rw ((told said16 (c .before .before .before .before .before .u16-at .ensures) (c .before .before .before .leaf .given .1)), (sym (c .before .is-taken .ensures) ∙ c .if1 .left)), tt)
 

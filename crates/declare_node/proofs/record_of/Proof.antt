@@ -1,3 +1,4 @@
+-- `declare_node::record_of` meets its contract. Assumes nothing.
 use Rattle.answer.proofs.Told.{told}
 use Rattle.stream_finder.specs.Finder.{saidFind}
 use Rattle.declare_node.specs.Looked.{recordSeen}
@@ -10,41 +11,32 @@ use Rattle.declare_node.proofs.record_of.Lts as lts
 use Rattle.declare_node.proofs.record_at.Reads as record-at-reads
 use Rattle.stream_finder.proofs.find_type.Reads as find-type-reads
 
--- src/lib.rt:260:11
 find-type-requires : tie.Need-find-type-requires
 find-type-requires c κs = search needs
 
--- src/lib.rt:261:29
 enum-known-e : tie.Need-enum-known-e
 enum-known-e c = search needs
 
--- src/lib.rt:262:13
 returns : tie.Need-returns
 unfolding recordSeen
 returns c = (rw (told saidFind (c .before .before .before .find-type .ensures) (c .before .e .given .1)) (passed-on _), tt)
 
--- src/lib.rt:264:27
 enum-known-entry : tie.Need-enum-known-entry
 enum-known-entry c = search needs
 
--- src/lib.rt:265:27
 enum-known-entry-2 : tie.Need-enum-known-entry-2
 enum-known-entry-2 c = search needs
 
--- src/lib.rt:268:17
 record-at-requires : tie.Need-record-at-requires
 record-at-requires c κs = search needs
 
--- src/lib.rt:268:17
 returns-2 : tie.Need-returns-2
 unfolding recordSeen
 returns-2 c = (rw (told saidFind (c .before .before .before .before .before .before .before .find-type .ensures) (c .before .before .before .before .before .entry .given .1), c .before .before .entry2 .given .1) (c .record-at .ensures .0), c .record-at .ensures .1)
 
--- src/lib.rt:271:40
 enum-told : tie.Need-enum-told
 enum-told c = search needs
 
--- src/lib.rt:271:17
 returns-3 : tie.Need-returns-3
 unfolding recordSeen
 returns-3 c = (rw (told saidFind (c .before .before .before .before .before .find-type .ensures) (c .before .before .before .entry .given .1), c .enum-told .given .1), tt)

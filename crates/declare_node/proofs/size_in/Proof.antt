@@ -1,3 +1,4 @@
+-- `declare_node::size_in` meets its contract. Assumes nothing.
 use mathlib.Core.Path.{ap}
 use Rattle.declare_node.specs.declared.Sized.the-variants as sized
 use borrow.Author.Needs.{needs}
@@ -5,38 +6,30 @@ use Rattle.declare_node.proofs.size_in.Statement.{statement}
 use Rattle.declare_node.proofs.size_in.Tie as tie
 use Rattle.declare_node.proofs.size_in.Reads as reads
 use Rattle.declare_node.proofs.size_in.Lts as lts
-use Rattle.declare_node.proofs.primitive_size.Reads as primitive-size-reads
+use Rattle.declare_kind.proofs.size.Reads as size-reads
 use Rattle.declare_node.proofs.sized_record.Reads as sized-record-reads
 
--- src/lib.rt:327:26
 enum-known-l : tie.Need-enum-known-l
 enum-known-l c = search needs
 
--- src/lib.rt:330:33
-primitive-size-requires : tie.Need-primitive-size-requires
-primitive-size-requires c κs = search needs
+size-requires : tie.Need-size-requires
+size-requires c κs = search needs
 
--- src/lib.rt:330:13
 returns : tie.Need-returns
-returns c = rw (c .before .before .l .given .1) (ap sized.Known (c .primitive-size .ensures))
+returns c = rw (c .before .before .l .given .1) (ap sized.Known (c .size .ensures))
 
--- src/lib.rt:332:28
 enum-known-l-2 : tie.Need-enum-known-l-2
 enum-known-l-2 c = search needs
 
--- src/lib.rt:333:13
 sized-record-requires : tie.Need-sized-record-requires
 sized-record-requires c κs = search needs
 
--- src/lib.rt:333:13
 returns-2 : tie.Need-returns-2
 returns-2 c = rw (c .before .before .l2 .given .1) (c .sized-record .ensures)
 
--- src/lib.rt:336:13
 enum-told : tie.Need-enum-told
 enum-told c = search needs
 
--- src/lib.rt:336:13
 returns-3 : tie.Need-returns-3
 returns-3 c = search needs
 
@@ -45,7 +38,7 @@ size-in-spec =
     tie.close
     (tie.spec
     enum-known-l
-    primitive-size-requires
+    size-requires
     returns
     enum-known-l-2
     sized-record-requires

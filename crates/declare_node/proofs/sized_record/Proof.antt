@@ -1,3 +1,4 @@
+-- `declare_node::sized_record` meets its contract. Assumes nothing.
 use Rattle.answer.proofs.Told.{told}
 use Rattle.word_attributes.specs.Said.{saidSize}
 use Rattle.answer.specs.Tables.{among}
@@ -10,139 +11,108 @@ use Rattle.declare_node.proofs.sized_record.Reads as reads
 use Rattle.declare_node.proofs.sized_record.Lts as lts
 use Rattle.word_attributes.proofs.PointerAttributes.size.Reads as size-reads
 
--- src/lib.rt:268:25
 enum-known-d : tie.Need-enum-known-d
 enum-known-d c = search needs
 
--- src/lib.rt:270:13
 returns : tie.Need-returns
 returns c = rw (c .before .before .d .given .1) (class-size ((c .before .before .d .given .0 .0) .kind) (c .before .before .d .given .0 .0))
 
--- src/lib.rt:272:25
 enum-known-d-2 : tie.Need-enum-known-d-2
 enum-known-d-2 c = search needs
 
--- src/lib.rt:274:13
 returns-2 : tie.Need-returns-2
 unfolding sizedIn among classes
 returns-2 c = rw (c .before .before .d2 .given .1)
 
--- src/lib.rt:276:25
 enum-known-d-3 : tie.Need-enum-known-d-3
 enum-known-d-3 c = search needs
 
--- src/lib.rt:278:13
 returns-3 : tie.Need-returns-3
 unfolding sizedIn among classes
 returns-3 c = rw (c .before .before .d3 .given .1)
 
--- src/lib.rt:280:28
 enum-known-d-4 : tie.Need-enum-known-d-4
 enum-known-d-4 c = search needs
 
--- src/lib.rt:282:13
 returns-4 : tie.Need-returns-4
 unfolding sizedIn among classes
 returns-4 c = rw (c .before .before .d4 .given .1)
 
--- src/lib.rt:284:31
 enum-known-d-5 : tie.Need-enum-known-d-5
 enum-known-d-5 c = search needs
 
--- src/lib.rt:286:13
 returns-5 : tie.Need-returns-5
 unfolding sizedIn among classes
 returns-5 c = rw (c .before .before .d5 .given .1)
 
--- src/lib.rt:288:27
 enum-known-d-6 : tie.Need-enum-known-d-6
 enum-known-d-6 c = search needs
 
--- src/lib.rt:290:19
 size-requires : tie.Need-size-requires
 size-requires c κs = search needs
 
--- src/lib.rt:291:38
 enum-known-n : tie.Need-enum-known-n
 enum-known-n c = search needs
 
--- src/lib.rt:292:41
 cast-t16 : tie.Need-cast-t16
 cast-t16 c = search needs
 
--- src/lib.rt:292:21
 returns-6 : tie.Need-returns-6
 unfolding sizedIn among classes
 returns-6 c = rw ((c .before .before .before .before .before .before .d6 .given .1), told saidSize (c .before .before .before .size .ensures) (c .before .n .given .1))
 
--- src/lib.rt:295:21
 enum-told : tie.Need-enum-told
 enum-told c = search needs
 
--- src/lib.rt:295:21
 returns-7 : tie.Need-returns-7
 unfolding sizedIn among classes
 returns-7 c = rw ((c .before .before .before .before .before .d6 .given .1), told saidSize (c .before .before .size .ensures) (c .enum-told .given .1))
 
--- src/lib.rt:300:13
 enum-told-2 : tie.Need-enum-told-2
 enum-told-2 c = search needs
 
--- src/lib.rt:300:13
 returns-8 : tie.Need-returns-8
 unfolding sizedIn among classes
 returns-8 c = rw (c .enum-told2 .given .1)
 
--- src/lib.rt:303:13
 enum-told-3 : tie.Need-enum-told-3
 enum-told-3 c = search needs
 
--- src/lib.rt:303:13
 returns-9 : tie.Need-returns-9
 unfolding sizedIn among classes
 returns-9 c = rw (c .enum-told3 .given .1)
 
--- src/lib.rt:306:13
 enum-told-4 : tie.Need-enum-told-4
 enum-told-4 c = search needs
 
--- src/lib.rt:306:13
 returns-10 : tie.Need-returns-10
 unfolding sizedIn among classes
 returns-10 c = rw (c .enum-told4 .given .1)
 
--- src/lib.rt:309:13
 enum-told-5 : tie.Need-enum-told-5
 enum-told-5 c = search needs
 
--- src/lib.rt:309:13
 returns-11 : tie.Need-returns-11
 unfolding sizedIn among classes
 returns-11 c = rw (c .enum-told5 .given .1)
 
--- src/lib.rt:312:13
 enum-told-6 : tie.Need-enum-told-6
 enum-told-6 c = search needs
 
--- src/lib.rt:312:13
 returns-12 : tie.Need-returns-12
 unfolding sizedIn among classes
 returns-12 c = rw (c .enum-told6 .given .1)
 
--- src/lib.rt:315:13
 enum-told-7 : tie.Need-enum-told-7
 enum-told-7 c = search needs
 
--- src/lib.rt:315:13
 returns-13 : tie.Need-returns-13
 unfolding sizedIn among classes
 returns-13 c = rw (c .enum-told7 .given .1)
 
--- src/lib.rt:318:13
 enum-told-8 : tie.Need-enum-told-8
 enum-told-8 c = search needs
 
--- src/lib.rt:318:13
 returns-14 : tie.Need-returns-14
 unfolding sizedIn among classes
 returns-14 c = rw (c .enum-told8 .given .1)

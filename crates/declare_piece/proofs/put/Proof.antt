@@ -1,3 +1,4 @@
+-- `declare_piece::put` meets its contract. Assumes nothing.
 use native.Mathlib.Omega.{arith}
 use mathlib.Core.Path.{sym}
 use Rattle.field_put.proofs.PutLaws.{lays, lays-none, room-for}
@@ -9,31 +10,24 @@ use Rattle.declare_piece.proofs.put.Lts as lts
 use Rattle.declare_piece.proofs.count.piece_len.Reads as piece-len-reads
 use Rattle.declare_piece.proofs.write.one.Reads as one-reads
 
--- src/lib.rt:58:9
 piece-len-requires : tie.Need-piece-len-requires
 piece-len-requires c κs = search needs
 
--- src/lib.rt:60:9
 returns : tie.Need-returns
 returns c = lays-none _ _ _ _ (sym (c .before .piece-len .ensures)) (omega arith)
 
--- src/lib.rt:62:8
 sub-if2 : tie.Need-sub-if2
 sub-if2 c = search needs
 
--- src/lib.rt:63:9
 returns-2 : tie.Need-returns-2
 returns-2 c = lays-none _ _ _ _ (sym (c .before .before .piece-len .ensures)) (omega arith)
 
--- src/lib.rt:65:5
 one-requires : tie.Need-one-requires
 one-requires c κs = room-for _ _ _ _ (sym (c .before .before .before .piece-len .ensures)) (omega arith)
 
--- src/lib.rt:55:1
 same-length : tie.Need-same-length
 same-length c = search needs
 
--- src/lib.rt:55:1
 returns-3 : tie.Need-returns-3
 returns-3 c = lays _ _ _ _ _ (room-for _ _ _ _ (sym (c .before .before .before .before .before .before .piece-len .ensures)) (omega arith)) (c .before .before .one .ensures)
 

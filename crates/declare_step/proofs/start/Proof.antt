@@ -1,3 +1,4 @@
+-- `declare_step::start` meets its contract. Assumes nothing.
 use borrow.Author.Needs.{needs}
 use Rattle.declare_step.proofs.start.Statement.{statement}
 use Rattle.declare_step.proofs.start.Tie as tie
@@ -5,11 +6,9 @@ use Rattle.declare_step.proofs.start.Reads as reads
 use Rattle.declare_step.proofs.start.Lts as lts
 use Rattle.declare_step.proofs.no_quals.Reads as no-quals-reads
 
--- src/lib.rt:80:16
 no-quals-requires : tie.Need-no-quals-requires
 no-quals-requires c κs = search needs
 
--- src/lib.rt:76:1
 returns : tie.Need-returns
 returns c = rw (c .no-quals .ensures)
 

@@ -1,3 +1,4 @@
+-- `declare_type::declarator`, `arguments` and `argument`, which call each other, meet their contracts: the depth that is left falls. Assumes nothing.
 use native.Mathlib.Omega.{arith}
 use borrow.Author.Needs.{needs}
 use Prim.Native.Nat.{_≤_, _+_, _*_, _-_}
@@ -62,7 +63,6 @@ abbrev declarator-below : ℕ → In 3 declarator-kinds.ps
 declarator-below t =
     and 3 declarator-kinds.ps (falls 3 declarator-kinds.ps _<_ μ-declarator t) declarator.Pre
 
--- src/lib.rt:149:9
 argument-start-requires : (t : ℕ) → argument-lts.Need-start-requires (
   start-reads.Asked,
   start-reads.Learnt,
@@ -73,7 +73,6 @@ argument-start-requires : (t : ℕ) → argument-lts.Need-start-requires (
 ) (argument-at t) argument.Post
 argument-start-requires t c κs = omega arith
 
--- src/lib.rt:150:16
 argument-sub-room : (t : ℕ) → argument-lts.Need-sub-room (
   start-reads.Asked,
   start-reads.Learnt,
@@ -84,7 +83,6 @@ argument-sub-room : (t : ℕ) → argument-lts.Need-sub-room (
 ) (argument-at t) argument.Post
 argument-sub-room t c = omega (arith, (c .before .before .before .before .pre .1) .high)
 
--- src/lib.rt:151:11
 argument-declarator-requires : (t : ℕ) → argument-lts.Need-declarator-requires (
   start-reads.Asked,
   start-reads.Learnt,
@@ -95,7 +93,6 @@ argument-declarator-requires : (t : ℕ) → argument-lts.Need-declarator-requir
 ) (argument-at t) argument.Post
 argument-declarator-requires t c κs = tt
 
--- src/lib.rt:152:24
 argument-enum-known-l : (t : ℕ) → argument-lts.Need-enum-known-l (
   start-reads.Asked,
   start-reads.Learnt,
@@ -106,7 +103,6 @@ argument-enum-known-l : (t : ℕ) → argument-lts.Need-enum-known-l (
 ) (argument-at t) argument.Post
 argument-enum-known-l t c = search needs
 
--- src/lib.rt:153:21
 argument-add-m : (t : ℕ) → argument-lts.Need-add-m (
   start-reads.Asked,
   start-reads.Learnt,
@@ -117,7 +113,6 @@ argument-add-m : (t : ℕ) → argument-lts.Need-add-m (
 ) (argument-at t) argument.Post
 argument-add-m t c = omega (arith, argument-fits _ _ _ (c .before .before .before .before .before .before .before .before .pre .1) _ _ (rw (c .before .before .before .before .start .ensures) at (sym (c .before .l .given .1) ∙ c .before .before .before .declarator .ensures)), c .before .before .before .before .before .before .before .before .good .1 .1 .1 .1 .1 .0 .0)
 
--- src/lib.rt:154:13
 argument-declarator-requires-2 : (t : ℕ) → argument-lts.Need-declarator-requires-2 (
   start-reads.Asked,
   start-reads.Learnt,
@@ -128,7 +123,6 @@ argument-declarator-requires-2 : (t : ℕ) → argument-lts.Need-declarator-requ
 ) (argument-at t) argument.Post
 argument-declarator-requires-2 t c κs = (omega (arith, c .before .before .before .before .before .before .before .before .before .pre .0), rw (c .before .before .before .before .before .start .ensures) (argument-sides _ _ _ (c .before .before .before .before .before .before .before .before .before .pre .1) _ _ (rw (c .before .before .before .before .before .start .ensures) at (sym (c .before .before .l .given .1) ∙ c .before .before .before .before .declarator .ensures))))
 
--- src/lib.rt:154:13
 argument-same-length : (t : ℕ) → argument-lts.Need-same-length (
   start-reads.Asked,
   start-reads.Learnt,
@@ -139,7 +133,6 @@ argument-same-length : (t : ℕ) → argument-lts.Need-same-length (
 ) (argument-at t) argument.Post
 argument-same-length t c = search needs
 
--- src/lib.rt:154:13
 argument-returns : (t : ℕ) → argument-lts.Need-returns (
   start-reads.Asked,
   start-reads.Learnt,
@@ -150,7 +143,6 @@ argument-returns : (t : ℕ) → argument-lts.Need-returns (
 ) (argument-at t) argument.Post
 argument-returns t c = argument-puts _ _ _ (c .before .before .before .before .before .before .before .before .before .before .before .before .pre .1) _ _ _ _ (rw (c .before .before .before .before .before .before .before .before .start .ensures) at (sym (c .before .before .before .before .before .l .given .1) ∙ c .before .before .before .before .before .before .before .declarator .ensures)) (rw (c .before .before .before .before .before .before .before .before .start .ensures) at (c .before .before .declarator2 .ensures))
 
--- src/lib.rt:157:13
 argument-enum-told : (t : ℕ) → argument-lts.Need-enum-told (
   start-reads.Asked,
   start-reads.Learnt,
@@ -161,7 +153,6 @@ argument-enum-told : (t : ℕ) → argument-lts.Need-enum-told (
 ) (argument-at t) argument.Post
 argument-enum-told t c = search needs
 
--- src/lib.rt:157:13
 argument-returns-2 : (t : ℕ) → argument-lts.Need-returns-2 (
   start-reads.Asked,
   start-reads.Learnt,
@@ -180,7 +171,6 @@ arguments-Inv-loop s f t g d out₀ at p n e₀ q₀ left₀ out e q left =
 abbrev arguments-μ-loop : arguments-lts.MeasureT-loop
 arguments-μ-loop s f t g d out₀ at p n e₀ q₀ left₀ out e q left = left
 
--- src/lib.rt:112:11
 arguments-list-of-requires : (t : ℕ) → arguments-lts.Need-list-of-requires (
   list-of-reads.Asked,
   list-of-reads.Learnt,
@@ -193,7 +183,6 @@ arguments-list-of-requires : (t : ℕ) → arguments-lts.Need-list-of-requires (
 ) (arguments-at t) arguments.Post arguments-Inv-loop arguments-μ-loop
 arguments-list-of-requires t c κs = omega arith
 
--- src/lib.rt:113:23
 arguments-enum-known-p : (t : ℕ) → arguments-lts.Need-enum-known-p (
   list-of-reads.Asked,
   list-of-reads.Learnt,
@@ -206,7 +195,6 @@ arguments-enum-known-p : (t : ℕ) → arguments-lts.Need-enum-known-p (
 ) (arguments-at t) arguments.Post arguments-Inv-loop arguments-μ-loop
 arguments-enum-known-p t c = search needs
 
--- src/lib.rt:115:17
 arguments-piece-requires : (t : ℕ) → arguments-lts.Need-piece-requires (
   list-of-reads.Asked,
   list-of-reads.Learnt,
@@ -219,7 +207,6 @@ arguments-piece-requires : (t : ℕ) → arguments-lts.Need-piece-requires (
 ) (arguments-at t) arguments.Post arguments-Inv-loop arguments-μ-loop
 arguments-piece-requires t c κs = void-room (λ j. walk (c .before .before .before .before .before .before .before .before .before .args .s .now) (state (c .before .before .before .before .before .before .before .before .before .args .f) (c .before .before .before .before .before .before .before .before .before .args .t .now)) (c .before .before .before .before .before .before .before .before .before .args .d) j startOf) _ _ _ _ _ _ (c .before .before .before .before .before .list-of .ensures .0) (c .before .before .before .before .before .before .before .before .before .pre .1) _ _ (c .before .before .before .p .given .1) (c .before .if1 .taken)
 
--- src/lib.rt:115:17
 arguments-same-length : (t : ℕ) → arguments-lts.Need-same-length (
   list-of-reads.Asked,
   list-of-reads.Learnt,
@@ -232,7 +219,6 @@ arguments-same-length : (t : ℕ) → arguments-lts.Need-same-length (
 ) (arguments-at t) arguments.Post arguments-Inv-loop arguments-μ-loop
 arguments-same-length t c = search needs
 
--- src/lib.rt:115:17
 arguments-returns : (t : ℕ) → arguments-lts.Need-returns (
   list-of-reads.Asked,
   list-of-reads.Learnt,
@@ -245,7 +231,6 @@ arguments-returns : (t : ℕ) → arguments-lts.Need-returns (
 ) (arguments-at t) arguments.Post arguments-Inv-loop arguments-μ-loop
 arguments-returns t c = void-puts (λ j. walk (c .before .before .before .before .before .before .before .before .before .before .before .before .args .s .now) (state (c .before .before .before .before .before .before .before .before .before .before .before .before .args .f) (c .before .before .before .before .before .before .before .before .before .before .before .before .args .t .now)) (c .before .before .before .before .before .before .before .before .before .before .before .before .args .d) j startOf) _ _ _ _ _ _ (c .before .before .before .before .before .before .before .before .list-of .ensures .0) (c .before .before .before .before .before .before .before .before .before .before .before .before .pre .1) _ _ (c .before .before .before .before .before .before .p .given .1) _ _ (c .before .before .before .before .if1 .taken) (c .before .before .piece .ensures)
 
--- src/lib.rt:117:17
 arguments-index-at-requires : (t : ℕ) → arguments-lts.Need-index-at-requires (
   list-of-reads.Asked,
   list-of-reads.Learnt,
@@ -258,7 +243,6 @@ arguments-index-at-requires : (t : ℕ) → arguments-lts.Need-index-at-requires
 ) (arguments-at t) arguments.Post arguments-Inv-loop arguments-μ-loop
 arguments-index-at-requires t c κs = tt
 
--- src/lib.rt:118:17
 arguments-argument-requires : (t : ℕ) → arguments-lts.Need-argument-requires (
   list-of-reads.Asked,
   list-of-reads.Learnt,
@@ -271,7 +255,6 @@ arguments-argument-requires : (t : ℕ) → arguments-lts.Need-argument-requires
 ) (arguments-at t) arguments.Post arguments-Inv-loop arguments-μ-loop
 arguments-argument-requires t c κs = (omega (arith, c .before .before .before .before .before .before .before .before .before .before .pre .0), rw (c .before .index-at .ensures) (argument-room (λ j. walk (c .before .before .before .before .before .before .before .before .before .before .args .s .now) (state (c .before .before .before .before .before .before .before .before .before .before .args .f) (c .before .before .before .before .before .before .before .before .before .before .args .t .now)) (c .before .before .before .before .before .before .before .before .before .before .args .d) j startOf) _ _ _ _ _ _ (c .before .before .before .before .before .before .list-of .ensures .0) (c .before .before .before .before .before .before .before .before .before .before .pre .1) _ _ (c .before .before .before .before .p .given .1) (omega arith)))
 
--- src/lib.rt:119:25
 arguments-add-q : (t : ℕ) → arguments-lts.Need-add-q (
   list-of-reads.Asked,
   list-of-reads.Learnt,
@@ -284,7 +267,6 @@ arguments-add-q : (t : ℕ) → arguments-lts.Need-add-q (
 ) (arguments-at t) arguments.Post arguments-Inv-loop arguments-μ-loop
 arguments-add-q t c = omega (arith, (rw (c .before .before .before .before .before .before .before .p .given .1) at (c .before .before .before .before .before .before .before .before .before .list-of .ensures .1)), c .before .before .before .before .before .before .before .before .before .before .before .before .before .good .0 .1)
 
--- src/lib.rt:120:28
 arguments-sub-left : (t : ℕ) → arguments-lts.Need-sub-left (
   list-of-reads.Asked,
   list-of-reads.Learnt,
@@ -297,7 +279,6 @@ arguments-sub-left : (t : ℕ) → arguments-lts.Need-sub-left (
 ) (arguments-at t) arguments.Post arguments-Inv-loop arguments-μ-loop
 arguments-sub-left t c = omega arith
 
--- src/lib.rt:121:13
 arguments-loop-holds : (t : ℕ) → arguments-lts.Need-loop-holds (
   list-of-reads.Asked,
   list-of-reads.Learnt,
@@ -310,7 +291,6 @@ arguments-loop-holds : (t : ℕ) → arguments-lts.Need-loop-holds (
 ) (arguments-at t) arguments.Post arguments-Inv-loop arguments-μ-loop
 arguments-loop-holds t c = (omega (arith, (rw (c .before .before .before .before .before .before .before .p .given .1) at (c .before .before .before .before .before .before .before .before .before .list-of .ensures .1))), argument-rest (λ j. walk (c .before .before .before .before .before .before .before .before .before .before .before .before .before .args .s .now) (state (c .before .before .before .before .before .before .before .before .before .before .before .before .before .args .f) (c .before .before .before .before .before .before .before .before .before .before .before .before .before .args .t .now)) (c .before .before .before .before .before .before .before .before .before .before .before .before .before .args .d) j startOf) _ _ _ _ _ _ (c .before .before .before .before .before .before .before .before .before .list-of .ensures .0) (c .before .before .before .before .before .before .before .before .before .before .before .before .before .pre .1) _ _ (c .before .before .before .before .before .before .before .p .given .1) _ _ (omega arith) (rw (c .before .before .before .before .index-at .ensures) at (c .before .before .argument .ensures)))
 
--- src/lib.rt:122:21
 arguments-piece-requires-2 : (t : ℕ) → arguments-lts.Need-piece-requires-2 (
   list-of-reads.Asked,
   list-of-reads.Learnt,
@@ -323,7 +303,6 @@ arguments-piece-requires-2 : (t : ℕ) → arguments-lts.Need-piece-requires-2 (
 ) (arguments-at t) arguments.Post arguments-Inv-loop arguments-μ-loop
 arguments-piece-requires-2 t c κs = comma-fits (λ j. walk (c .before .before .before .before .before .before .before .before .before .before .before .before .before .before .before .before .args .s .now) (state (c .before .before .before .before .before .before .before .before .before .before .before .before .before .before .before .before .args .f) (c .before .before .before .before .before .before .before .before .before .before .before .before .before .before .before .before .args .t .now)) (c .before .before .before .before .before .before .before .before .before .before .before .before .before .before .before .before .args .d) j startOf) _ _ _ _ _ _ _ _ (c .before .before .loop .inv .1) (omega arith)
 
--- src/lib.rt:123:21
 arguments-index-at-requires-2 : (t : ℕ) → arguments-lts.Need-index-at-requires-2 (
   list-of-reads.Asked,
   list-of-reads.Learnt,
@@ -336,7 +315,6 @@ arguments-index-at-requires-2 : (t : ℕ) → arguments-lts.Need-index-at-requir
 ) (arguments-at t) arguments.Post arguments-Inv-loop arguments-μ-loop
 arguments-index-at-requires-2 t c κs = tt
 
--- src/lib.rt:124:17
 arguments-argument-requires-2 : (t : ℕ) → arguments-lts.Need-argument-requires-2 (
   list-of-reads.Asked,
   list-of-reads.Learnt,
@@ -349,7 +327,6 @@ arguments-argument-requires-2 : (t : ℕ) → arguments-lts.Need-argument-requir
 ) (arguments-at t) arguments.Post arguments-Inv-loop arguments-μ-loop
 arguments-argument-requires-2 t c κs = (omega (arith, c .before .before .before .before .before .before .before .before .before .before .before .before .before .before .before .before .before .before .before .before .before .pre .0), rw (c .before .index-at2 .ensures) (next-room (λ j. walk (c .before .before .before .before .before .before .before .before .before .before .before .before .before .before .before .before .before .before .before .before .before .args .s .now) (state (c .before .before .before .before .before .before .before .before .before .before .before .before .before .before .before .before .before .before .before .before .before .args .f) (c .before .before .before .before .before .before .before .before .before .before .before .before .before .before .before .before .before .before .before .before .before .args .t .now)) (c .before .before .before .before .before .before .before .before .before .before .before .before .before .before .before .before .before .before .before .before .before .args .d) j startOf) _ _ _ _ _ _ _ _ (c .before .before .before .before .before .before .before .loop .inv .1) _ _ (omega arith) (c .before .before .before .before .piece2 .ensures)))
 
--- src/lib.rt:125:21
 arguments-add-q-2 : (t : ℕ) → arguments-lts.Need-add-q-2 (
   list-of-reads.Asked,
   list-of-reads.Learnt,
@@ -362,7 +339,6 @@ arguments-add-q-2 : (t : ℕ) → arguments-lts.Need-add-q-2 (
 ) (arguments-at t) arguments.Post arguments-Inv-loop arguments-μ-loop
 arguments-add-q-2 t c = omega (arith, c .before .before .before .before .before .before .before .before .before .before .before .before .before .before .before .before .before .before .before .before .before .before .before .before .good .0 .1)
 
--- src/lib.rt:126:24
 arguments-sub-left-2 : (t : ℕ) → arguments-lts.Need-sub-left-2 (
   list-of-reads.Asked,
   list-of-reads.Learnt,
@@ -375,7 +351,6 @@ arguments-sub-left-2 : (t : ℕ) → arguments-lts.Need-sub-left-2 (
 ) (arguments-at t) arguments.Post arguments-Inv-loop arguments-μ-loop
 arguments-sub-left-2 t c = omega arith
 
--- src/lib.rt:121:13
 arguments-loop-less : (t : ℕ) → arguments-lts.Need-loop-less (
   list-of-reads.Asked,
   list-of-reads.Learnt,
@@ -388,7 +363,6 @@ arguments-loop-less : (t : ℕ) → arguments-lts.Need-loop-less (
 ) (arguments-at t) arguments.Post arguments-Inv-loop arguments-μ-loop
 arguments-loop-less t c = omega arith
 
--- src/lib.rt:121:13
 arguments-loop-again : (t : ℕ) → arguments-lts.Need-loop-again (
   list-of-reads.Asked,
   list-of-reads.Learnt,
@@ -401,7 +375,6 @@ arguments-loop-again : (t : ℕ) → arguments-lts.Need-loop-again (
 ) (arguments-at t) arguments.Post arguments-Inv-loop arguments-μ-loop
 arguments-loop-again t c = (omega arith, next-rest (λ j. walk (c .before .before .before .before .before .before .before .before .before .before .before .before .before .before .before .before .before .before .before .before .before .before .before .before .args .s .now) (state (c .before .before .before .before .before .before .before .before .before .before .before .before .before .before .before .before .before .before .before .before .before .before .before .before .args .f) (c .before .before .before .before .before .before .before .before .before .before .before .before .before .before .before .before .before .before .before .before .before .before .before .before .args .t .now)) (c .before .before .before .before .before .before .before .before .before .before .before .before .before .before .before .before .before .before .before .before .before .before .before .before .args .d) j startOf) _ _ _ _ _ _ _ _ (c .before .before .before .before .before .before .before .before .before .before .loop .inv .1) _ _ _ _ (omega arith) (c .before .before .before .before .before .before .before .piece2 .ensures) (rw (c .before .before .before .before .index-at2 .ensures) at (c .before .before .argument2 .ensures)))
 
--- src/lib.rt:128:13
 arguments-same-length-2 : (t : ℕ) → arguments-lts.Need-same-length-2 (
   list-of-reads.Asked,
   list-of-reads.Learnt,
@@ -414,7 +387,6 @@ arguments-same-length-2 : (t : ℕ) → arguments-lts.Need-same-length-2 (
 ) (arguments-at t) arguments.Post arguments-Inv-loop arguments-μ-loop
 arguments-same-length-2 t c = c .before .loop .inv .1 .same ∙ c .before .before .before .before .argument .kept .1 .1 .1 .1 .1 .0
 
--- src/lib.rt:128:13
 arguments-returns-2 : (t : ℕ) → arguments-lts.Need-returns-2 (
   list-of-reads.Asked,
   list-of-reads.Learnt,
@@ -427,7 +399,6 @@ arguments-returns-2 : (t : ℕ) → arguments-lts.Need-returns-2 (
 ) (arguments-at t) arguments.Post arguments-Inv-loop arguments-μ-loop
 arguments-returns-2 t c = argument-all (λ j. walk (c .before .before .before .before .before .before .before .before .before .before .before .before .before .before .before .args .s .now) (state (c .before .before .before .before .before .before .before .before .before .before .before .before .before .before .before .args .f) (c .before .before .before .before .before .before .before .before .before .before .before .before .before .before .before .args .t .now)) (c .before .before .before .before .before .before .before .before .before .before .before .before .before .before .before .args .d) j startOf) _ _ _ _ _ _ (c .before .before .before .before .before .before .before .before .before .before .before .list-of .ensures .0) (c .before .before .before .before .before .before .before .before .before .before .before .before .before .before .before .pre .1) _ _ (c .before .before .before .before .before .before .before .before .before .p .given .1) _ _ (omega arith) (rw (c .before .before .before .before .before .before .index-at .ensures) at (c .before .before .before .before .argument .ensures)) _ _ (rest-all (λ j. walk (c .before .before .before .before .before .before .before .before .before .before .before .before .before .before .before .args .s .now) (state (c .before .before .before .before .before .before .before .before .before .before .before .before .before .before .before .args .f) (c .before .before .before .before .before .before .before .before .before .before .before .before .before .before .before .args .t .now)) (c .before .before .before .before .before .before .before .before .before .before .before .before .before .before .before .args .d) j startOf) _ _ _ _ _ _ _ _ (c .before .loop .inv .1) (omega arith))
 
--- src/lib.rt:131:13
 arguments-enum-told : (t : ℕ) → arguments-lts.Need-enum-told (
   list-of-reads.Asked,
   list-of-reads.Learnt,
@@ -440,7 +411,6 @@ arguments-enum-told : (t : ℕ) → arguments-lts.Need-enum-told (
 ) (arguments-at t) arguments.Post arguments-Inv-loop arguments-μ-loop
 arguments-enum-told t c = search needs
 
--- src/lib.rt:131:13
 arguments-returns-3 : (t : ℕ) → arguments-lts.Need-returns-3 (
   list-of-reads.Asked,
   list-of-reads.Learnt,
@@ -453,7 +423,6 @@ arguments-returns-3 : (t : ℕ) → arguments-lts.Need-returns-3 (
 ) (arguments-at t) arguments.Post arguments-Inv-loop arguments-μ-loop
 arguments-returns-3 t c = never-refused (λ j. walk (c .before .before .before .before .before .before .args .s .now) (state (c .before .before .before .before .before .before .args .f) (c .before .before .before .before .before .before .args .t .now)) (c .before .before .before .before .before .before .args .d) j startOf) _ _ _ _ _ _ (c .before .before .list-of .ensures .0) (c .before .before .before .before .before .before .pre .1) _ (c .enum-told .given .1)
 
--- src/lib.rt:76:9
 declarator-returns : (t : ℕ) → declarator-lts.Need-returns (
   step-of-reads.Asked,
   step-of-reads.Learnt,
@@ -468,7 +437,6 @@ declarator-returns : (t : ℕ) → declarator-lts.Need-returns (
 ) (declarator-at t) declarator.Post
 declarator-returns t c = no-room _ _ _ _ _ _ (deep-eq _ _ (c .before .before .before .before .args .d) _ _ (c .if1 .taken)) (c .before .before .before .before .pre .1)
 
--- src/lib.rt:78:11
 declarator-step-of-requires : (t : ℕ) → declarator-lts.Need-step-of-requires (
   step-of-reads.Asked,
   step-of-reads.Learnt,
@@ -483,7 +451,6 @@ declarator-step-of-requires : (t : ℕ) → declarator-lts.Need-step-of-requires
 ) (declarator-at t) declarator.Post
 declarator-step-of-requires t c κs = omega arith
 
--- src/lib.rt:79:20
 declarator-enum-known-p : (t : ℕ) → declarator-lts.Need-enum-known-p (
   step-of-reads.Asked,
   step-of-reads.Learnt,
@@ -498,7 +465,6 @@ declarator-enum-known-p : (t : ℕ) → declarator-lts.Need-enum-known-p (
 ) (declarator-at t) declarator.Post
 declarator-enum-known-p t c = search needs
 
--- src/lib.rt:80:17
 declarator-len-requires : (t : ℕ) → declarator-lts.Need-len-requires (
   step-of-reads.Asked,
   step-of-reads.Learnt,
@@ -513,7 +479,6 @@ declarator-len-requires : (t : ℕ) → declarator-lts.Need-len-requires (
 ) (declarator-at t) declarator.Post
 declarator-len-requires t c κs = tt
 
--- src/lib.rt:81:22
 declarator-sub-at : (t : ℕ) → declarator-lts.Need-sub-at (
   step-of-reads.Asked,
   step-of-reads.Learnt,
@@ -528,7 +493,6 @@ declarator-sub-at : (t : ℕ) → declarator-lts.Need-sub-at (
 ) (declarator-at t) declarator.Post
 declarator-sub-at t c = omega (arith, last-small _ _ _ _ _ (c .before .before .before .before .before .before .before .before .before .pre .1) (last-eq _ _ (c .before .before .before .before .before .before .before .before .before .args .d) _ _ (omega (arith, c .before .before .before .before .before .if1 .left)) _ (c .before .before .before .before .step-of .ensures) _ (c .before .before .p .given .1)))
 
--- src/lib.rt:82:13
 declarator-piece-requires : (t : ℕ) → declarator-lts.Need-piece-requires (
   step-of-reads.Asked,
   step-of-reads.Learnt,
@@ -543,7 +507,6 @@ declarator-piece-requires : (t : ℕ) → declarator-lts.Need-piece-requires (
 ) (declarator-at t) declarator.Post
 declarator-piece-requires t c κs = last-fits _ _ _ _ _ (c .before .before .before .before .before .before .before .before .before .before .pre .1) (last-eq _ _ (c .before .before .before .before .before .before .before .before .before .before .args .d) _ _ (omega (arith, c .before .before .before .before .before .before .if1 .left)) _ (c .before .before .before .before .before .step-of .ensures) _ (c .before .before .before .p .given .1)) _ (c .before .len .ensures)
 
--- src/lib.rt:83:13
 declarator-same-length : (t : ℕ) → declarator-lts.Need-same-length (
   step-of-reads.Asked,
   step-of-reads.Learnt,
@@ -558,7 +521,6 @@ declarator-same-length : (t : ℕ) → declarator-lts.Need-same-length (
 ) (declarator-at t) declarator.Post
 declarator-same-length t c = search needs
 
--- src/lib.rt:83:13
 declarator-returns-2 : (t : ℕ) → declarator-lts.Need-returns-2 (
   step-of-reads.Asked,
   step-of-reads.Learnt,
@@ -573,7 +535,6 @@ declarator-returns-2 : (t : ℕ) → declarator-lts.Need-returns-2 (
 ) (declarator-at t) declarator.Post
 declarator-returns-2 t c = last-both _ _ _ _ _ (c .before .before .before .before .before .before .before .before .before .before .before .before .before .pre .1) (last-eq _ _ (c .before .before .before .before .before .before .before .before .before .before .before .before .before .args .d) _ _ (omega (arith, c .before .before .before .before .before .before .before .before .before .if1 .left)) _ (c .before .before .before .before .before .before .before .before .step-of .ensures) _ (c .before .before .before .before .before .before .p .given .1)) _ _ _ (c .before .before .before .before .len .ensures) (c .before .before .piece .ensures)
 
--- src/lib.rt:85:22
 declarator-enum-known-l : (t : ℕ) → declarator-lts.Need-enum-known-l (
   step-of-reads.Asked,
   step-of-reads.Learnt,
@@ -588,7 +549,6 @@ declarator-enum-known-l : (t : ℕ) → declarator-lts.Need-enum-known-l (
 ) (declarator-at t) declarator.Post
 declarator-enum-known-l t c = search needs
 
--- src/lib.rt:86:17
 declarator-len-requires-2 : (t : ℕ) → declarator-lts.Need-len-requires-2 (
   step-of-reads.Asked,
   step-of-reads.Learnt,
@@ -603,7 +563,6 @@ declarator-len-requires-2 : (t : ℕ) → declarator-lts.Need-len-requires-2 (
 ) (declarator-at t) declarator.Post
 declarator-len-requires-2 t c κs = tt
 
--- src/lib.rt:87:22
 declarator-sub-at-2 : (t : ℕ) → declarator-lts.Need-sub-at-2 (
   step-of-reads.Asked,
   step-of-reads.Learnt,
@@ -618,7 +577,6 @@ declarator-sub-at-2 : (t : ℕ) → declarator-lts.Need-sub-at-2 (
 ) (declarator-at t) declarator.Post
 declarator-sub-at-2 t c = omega (arith, left-small _ _ _ _ _ _ (room-as _ _ _ _ _ (inward-eq _ _ (c .before .before .before .before .before .before .before .before .before .args .d) _ _ (omega (arith, c .before .before .before .before .before .if1 .left)) _ (c .before .before .before .before .step-of .ensures) _ _ _ _ (c .before .before .l .given .1)) (c .before .before .before .before .before .before .before .before .before .pre .1)))
 
--- src/lib.rt:88:13
 declarator-piece-requires-2 : (t : ℕ) → declarator-lts.Need-piece-requires-2 (
   step-of-reads.Asked,
   step-of-reads.Learnt,
@@ -633,7 +591,6 @@ declarator-piece-requires-2 : (t : ℕ) → declarator-lts.Need-piece-requires-2
 ) (declarator-at t) declarator.Post
 declarator-piece-requires-2 t c κs = left-fits _ _ _ _ _ _ (room-as _ _ _ _ _ (inward-eq _ _ (c .before .before .before .before .before .before .before .before .before .before .args .d) _ _ (omega (arith, c .before .before .before .before .before .before .if1 .left)) _ (c .before .before .before .before .before .step-of .ensures) _ _ _ _ (c .before .before .before .l .given .1)) (c .before .before .before .before .before .before .before .before .before .before .pre .1)) _ (c .before .len2 .ensures)
 
--- src/lib.rt:89:17
 declarator-piece-requires-3 : (t : ℕ) → declarator-lts.Need-piece-requires-3 (
   step-of-reads.Asked,
   step-of-reads.Learnt,
@@ -648,7 +605,6 @@ declarator-piece-requires-3 : (t : ℕ) → declarator-lts.Need-piece-requires-3
 ) (declarator-at t) declarator.Post
 declarator-piece-requires-3 t c κs = right-fits _ _ _ _ _ _ (room-as _ _ _ _ _ (inward-eq _ _ (c .before .before .before .before .before .before .before .before .before .before .before .before .before .before .args .d) _ _ (omega (arith, c .before .before .before .before .before .before .before .before .before .before .if1 .left)) _ (c .before .before .before .before .before .before .before .before .before .step-of .ensures) _ _ _ _ (c .before .before .before .before .before .before .before .l .given .1)) (c .before .before .before .before .before .before .before .before .before .before .before .before .before .before .pre .1)) _ _ _ (c .before .before .before .before .before .len2 .ensures) (c .before .before .before .piece2 .ensures)
 
--- src/lib.rt:90:43
 declarator-sub-declarator : (t : ℕ) → declarator-lts.Need-sub-declarator (
   step-of-reads.Asked,
   step-of-reads.Learnt,
@@ -663,7 +619,6 @@ declarator-sub-declarator : (t : ℕ) → declarator-lts.Need-sub-declarator (
 ) (declarator-at t) declarator.Post
 declarator-sub-declarator t c = omega arith
 
--- src/lib.rt:90:13
 declarator-declarator-requires : (t : ℕ) → declarator-lts.Need-declarator-requires (
   step-of-reads.Asked,
   step-of-reads.Learnt,
@@ -678,7 +633,6 @@ declarator-declarator-requires : (t : ℕ) → declarator-lts.Need-declarator-re
 ) (declarator-at t) declarator.Post
 declarator-declarator-requires t c κs = (omega (arith, c .before .before .before .before .before .before .before .before .before .before .before .before .before .before .before .before .before .before .pre .0), inner-room _ _ _ _ _ _ (room-as _ _ _ _ _ (inward-eq _ _ (c .before .before .before .before .before .before .before .before .before .before .before .before .before .before .before .before .before .before .args .d) _ _ (omega (arith, c .before .before .before .before .before .before .before .before .before .before .before .before .before .before .if1 .left)) _ (c .before .before .before .before .before .before .before .before .before .before .before .before .before .step-of .ensures) _ _ _ _ (c .before .before .before .before .before .before .before .before .before .before .before .l .given .1)) (c .before .before .before .before .before .before .before .before .before .before .before .before .before .before .before .before .before .before .pre .1)) _ _ _ (c .before .before .before .before .before .before .before .before .before .len2 .ensures) (c .before .before .before .before .before .before .before .piece2 .ensures) _ _ (c .before .before .before .piece3 .ensures))
 
--- src/lib.rt:90:13
 declarator-same-length-2 : (t : ℕ) → declarator-lts.Need-same-length-2 (
   step-of-reads.Asked,
   step-of-reads.Learnt,
@@ -693,7 +647,6 @@ declarator-same-length-2 : (t : ℕ) → declarator-lts.Need-same-length-2 (
 ) (declarator-at t) declarator.Post
 declarator-same-length-2 t c = search needs
 
--- src/lib.rt:90:13
 declarator-returns-3 : (t : ℕ) → declarator-lts.Need-returns-3 (
   step-of-reads.Asked,
   step-of-reads.Learnt,
@@ -708,7 +661,6 @@ declarator-returns-3 : (t : ℕ) → declarator-lts.Need-returns-3 (
 ) (declarator-at t) declarator.Post
 declarator-returns-3 t c = both-as _ _ _ _ _ _ _ (inward-eq _ _ (c .before .before .before .before .before .before .before .before .before .before .before .before .before .before .before .before .before .before .before .before .before .args .d) _ _ (omega (arith, c .before .before .before .before .before .before .before .before .before .before .before .before .before .before .before .before .before .if1 .left)) _ (c .before .before .before .before .before .before .before .before .before .before .before .before .before .before .before .before .step-of .ensures) _ _ _ _ (c .before .before .before .before .before .before .before .before .before .before .before .before .before .before .l .given .1)) (inner-both _ _ _ _ _ _ (room-as _ _ _ _ _ (inward-eq _ _ (c .before .before .before .before .before .before .before .before .before .before .before .before .before .before .before .before .before .before .before .before .before .args .d) _ _ (omega (arith, c .before .before .before .before .before .before .before .before .before .before .before .before .before .before .before .before .before .if1 .left)) _ (c .before .before .before .before .before .before .before .before .before .before .before .before .before .before .before .before .step-of .ensures) _ _ _ _ (c .before .before .before .before .before .before .before .before .before .before .before .before .before .before .l .given .1)) (c .before .before .before .before .before .before .before .before .before .before .before .before .before .before .before .before .before .before .before .before .before .pre .1)) _ _ _ (c .before .before .before .before .before .before .before .before .before .before .before .before .len2 .ensures) (c .before .before .before .before .before .before .before .before .before .before .piece2 .ensures) _ _ (c .before .before .before .before .before .before .piece3 .ensures) _ _ (c .before .before .declarator .ensures))
 
--- src/lib.rt:92:20
 declarator-enum-known-l-2 : (t : ℕ) → declarator-lts.Need-enum-known-l-2 (
   step-of-reads.Asked,
   step-of-reads.Learnt,
@@ -723,7 +675,6 @@ declarator-enum-known-l-2 : (t : ℕ) → declarator-lts.Need-enum-known-l-2 (
 ) (declarator-at t) declarator.Post
 declarator-enum-known-l-2 t c = search needs
 
--- src/lib.rt:93:17
 declarator-len-requires-3 : (t : ℕ) → declarator-lts.Need-len-requires-3 (
   step-of-reads.Asked,
   step-of-reads.Learnt,
@@ -738,7 +689,6 @@ declarator-len-requires-3 : (t : ℕ) → declarator-lts.Need-len-requires-3 (
 ) (declarator-at t) declarator.Post
 declarator-len-requires-3 t c κs = tt
 
--- src/lib.rt:94:22
 declarator-sub-at-3 : (t : ℕ) → declarator-lts.Need-sub-at-3 (
   step-of-reads.Asked,
   step-of-reads.Learnt,
@@ -753,7 +703,6 @@ declarator-sub-at-3 : (t : ℕ) → declarator-lts.Need-sub-at-3 (
 ) (declarator-at t) declarator.Post
 declarator-sub-at-3 t c = omega (arith, left-small _ _ _ _ _ _ (room-as _ _ _ _ _ (call-eq _ _ (c .before .before .before .before .before .before .before .before .before .args .d) _ _ (omega (arith, c .before .before .before .before .before .if1 .left)) _ (c .before .before .before .before .step-of .ensures) _ _ _ _ _ _ (c .before .before .l2 .given .1)) (c .before .before .before .before .before .before .before .before .before .pre .1)))
 
--- src/lib.rt:95:13
 declarator-piece-requires-4 : (t : ℕ) → declarator-lts.Need-piece-requires-4 (
   step-of-reads.Asked,
   step-of-reads.Learnt,
@@ -768,7 +717,6 @@ declarator-piece-requires-4 : (t : ℕ) → declarator-lts.Need-piece-requires-4
 ) (declarator-at t) declarator.Post
 declarator-piece-requires-4 t c κs = left-fits _ _ _ _ _ _ (room-as _ _ _ _ _ (call-eq _ _ (c .before .before .before .before .before .before .before .before .before .before .args .d) _ _ (omega (arith, c .before .before .before .before .before .before .if1 .left)) _ (c .before .before .before .before .before .step-of .ensures) _ _ _ _ _ _ (c .before .before .before .l2 .given .1)) (c .before .before .before .before .before .before .before .before .before .before .pre .1)) _ (c .before .len3 .ensures)
 
--- src/lib.rt:96:17
 declarator-piece-requires-5 : (t : ℕ) → declarator-lts.Need-piece-requires-5 (
   step-of-reads.Asked,
   step-of-reads.Learnt,
@@ -783,7 +731,6 @@ declarator-piece-requires-5 : (t : ℕ) → declarator-lts.Need-piece-requires-5
 ) (declarator-at t) declarator.Post
 declarator-piece-requires-5 t c κs = right-fits _ _ _ _ _ _ (room-as _ _ _ _ _ (call-eq _ _ (c .before .before .before .before .before .before .before .before .before .before .before .before .before .before .args .d) _ _ (omega (arith, c .before .before .before .before .before .before .before .before .before .before .if1 .left)) _ (c .before .before .before .before .before .before .before .before .before .step-of .ensures) _ _ _ _ _ _ (c .before .before .before .before .before .before .before .l2 .given .1)) (c .before .before .before .before .before .before .before .before .before .before .before .before .before .before .pre .1)) _ _ _ (c .before .before .before .before .before .len3 .ensures) (c .before .before .before .piece4 .ensures)
 
--- src/lib.rt:97:45
 declarator-sub-arguments : (t : ℕ) → declarator-lts.Need-sub-arguments (
   step-of-reads.Asked,
   step-of-reads.Learnt,
@@ -798,7 +745,6 @@ declarator-sub-arguments : (t : ℕ) → declarator-lts.Need-sub-arguments (
 ) (declarator-at t) declarator.Post
 declarator-sub-arguments t c = omega arith
 
--- src/lib.rt:97:17
 declarator-arguments-requires : (t : ℕ) → declarator-lts.Need-arguments-requires (
   step-of-reads.Asked,
   step-of-reads.Learnt,
@@ -813,7 +759,6 @@ declarator-arguments-requires : (t : ℕ) → declarator-lts.Need-arguments-requ
 ) (declarator-at t) declarator.Post
 declarator-arguments-requires t c κs = (omega (arith, c .before .before .before .before .before .before .before .before .before .before .before .before .before .before .before .before .before .before .pre .0), args-room _ _ _ _ _ _ (inner-room _ _ _ _ _ _ (room-as _ _ _ _ _ (call-eq _ _ (c .before .before .before .before .before .before .before .before .before .before .before .before .before .before .before .before .before .before .args .d) _ _ (omega (arith, c .before .before .before .before .before .before .before .before .before .before .before .before .before .before .if1 .left)) _ (c .before .before .before .before .before .before .before .before .before .before .before .before .before .step-of .ensures) _ _ _ _ _ _ (c .before .before .before .before .before .before .before .before .before .before .before .l2 .given .1)) (c .before .before .before .before .before .before .before .before .before .before .before .before .before .before .before .before .before .before .pre .1)) _ _ _ (c .before .before .before .before .before .before .before .before .before .len3 .ensures) (c .before .before .before .before .before .before .before .piece4 .ensures) _ _ (c .before .before .before .piece5 .ensures)))
 
--- src/lib.rt:98:17
 declarator-piece-requires-6 : (t : ℕ) → declarator-lts.Need-piece-requires-6 (
   step-of-reads.Asked,
   step-of-reads.Learnt,
@@ -828,7 +773,6 @@ declarator-piece-requires-6 : (t : ℕ) → declarator-lts.Need-piece-requires-6
 ) (declarator-at t) declarator.Post
 declarator-piece-requires-6 t c κs = close-fits _ _ _ _ _ _ (inner-room _ _ _ _ _ _ (room-as _ _ _ _ _ (call-eq _ _ (c .before .before .before .before .before .before .before .before .before .before .before .before .before .before .before .before .before .before .before .before .before .before .args .d) _ _ (omega (arith, c .before .before .before .before .before .before .before .before .before .before .before .before .before .before .before .before .before .before .if1 .left)) _ (c .before .before .before .before .before .before .before .before .before .before .before .before .before .before .before .before .before .step-of .ensures) _ _ _ _ _ _ (c .before .before .before .before .before .before .before .before .before .before .before .before .before .before .before .l2 .given .1)) (c .before .before .before .before .before .before .before .before .before .before .before .before .before .before .before .before .before .before .before .before .before .before .pre .1)) _ _ _ (c .before .before .before .before .before .before .before .before .before .before .before .before .before .len3 .ensures) (c .before .before .before .before .before .before .before .before .before .before .before .piece4 .ensures) _ _ (c .before .before .before .before .before .before .before .piece5 .ensures)) _ _ (c .before .before .before .arguments .ensures)
 
--- src/lib.rt:99:43
 declarator-sub-declarator-2 : (t : ℕ) → declarator-lts.Need-sub-declarator-2 (
   step-of-reads.Asked,
   step-of-reads.Learnt,
@@ -843,7 +787,6 @@ declarator-sub-declarator-2 : (t : ℕ) → declarator-lts.Need-sub-declarator-2
 ) (declarator-at t) declarator.Post
 declarator-sub-declarator-2 t c = omega arith
 
--- src/lib.rt:99:13
 declarator-declarator-requires-2 : (t : ℕ) → declarator-lts.Need-declarator-requires-2 (
   step-of-reads.Asked,
   step-of-reads.Learnt,
@@ -858,7 +801,6 @@ declarator-declarator-requires-2 : (t : ℕ) → declarator-lts.Need-declarator-
 ) (declarator-at t) declarator.Post
 declarator-declarator-requires-2 t c κs = (omega (arith, c .before .before .before .before .before .before .before .before .before .before .before .before .before .before .before .before .before .before .before .before .before .before .before .before .before .before .pre .0), after-room _ _ _ _ _ _ (inner-room _ _ _ _ _ _ (room-as _ _ _ _ _ (call-eq _ _ (c .before .before .before .before .before .before .before .before .before .before .before .before .before .before .before .before .before .before .before .before .before .before .before .before .before .before .args .d) _ _ (omega (arith, c .before .before .before .before .before .before .before .before .before .before .before .before .before .before .before .before .before .before .before .before .before .before .if1 .left)) _ (c .before .before .before .before .before .before .before .before .before .before .before .before .before .before .before .before .before .before .before .before .before .step-of .ensures) _ _ _ _ _ _ (c .before .before .before .before .before .before .before .before .before .before .before .before .before .before .before .before .before .before .before .l2 .given .1)) (c .before .before .before .before .before .before .before .before .before .before .before .before .before .before .before .before .before .before .before .before .before .before .before .before .before .before .pre .1)) _ _ _ (c .before .before .before .before .before .before .before .before .before .before .before .before .before .before .before .before .before .len3 .ensures) (c .before .before .before .before .before .before .before .before .before .before .before .before .before .before .before .piece4 .ensures) _ _ (c .before .before .before .before .before .before .before .before .before .before .before .piece5 .ensures)) _ _ (c .before .before .before .before .before .before .before .arguments .ensures) _ _ (c .before .before .before .piece6 .ensures))
 
--- src/lib.rt:99:13
 declarator-same-length-3 : (t : ℕ) → declarator-lts.Need-same-length-3 (
   step-of-reads.Asked,
   step-of-reads.Learnt,
@@ -873,7 +815,6 @@ declarator-same-length-3 : (t : ℕ) → declarator-lts.Need-same-length-3 (
 ) (declarator-at t) declarator.Post
 declarator-same-length-3 t c = search needs
 
--- src/lib.rt:99:13
 declarator-returns-4 : (t : ℕ) → declarator-lts.Need-returns-4 (
   step-of-reads.Asked,
   step-of-reads.Learnt,
@@ -888,7 +829,6 @@ declarator-returns-4 : (t : ℕ) → declarator-lts.Need-returns-4 (
 ) (declarator-at t) declarator.Post
 declarator-returns-4 t c = both-as _ _ _ _ _ _ _ (call-eq _ _ (c .before .before .before .before .before .before .before .before .before .before .before .before .before .before .before .before .before .before .before .before .before .before .before .before .before .before .before .before .before .args .d) _ _ (omega (arith, c .before .before .before .before .before .before .before .before .before .before .before .before .before .before .before .before .before .before .before .before .before .before .before .before .before .if1 .left)) _ (c .before .before .before .before .before .before .before .before .before .before .before .before .before .before .before .before .before .before .before .before .before .before .before .before .step-of .ensures) _ _ _ _ _ _ (c .before .before .before .before .before .before .before .before .before .before .before .before .before .before .before .before .before .before .before .before .before .before .l2 .given .1)) (inner-both _ _ _ _ _ _ (room-as _ _ _ _ _ (call-eq _ _ (c .before .before .before .before .before .before .before .before .before .before .before .before .before .before .before .before .before .before .before .before .before .before .before .before .before .before .before .before .before .args .d) _ _ (omega (arith, c .before .before .before .before .before .before .before .before .before .before .before .before .before .before .before .before .before .before .before .before .before .before .before .before .before .if1 .left)) _ (c .before .before .before .before .before .before .before .before .before .before .before .before .before .before .before .before .before .before .before .before .before .before .before .before .step-of .ensures) _ _ _ _ _ _ (c .before .before .before .before .before .before .before .before .before .before .before .before .before .before .before .before .before .before .before .before .before .before .l2 .given .1)) (c .before .before .before .before .before .before .before .before .before .before .before .before .before .before .before .before .before .before .before .before .before .before .before .before .before .before .before .before .before .pre .1)) _ _ _ (c .before .before .before .before .before .before .before .before .before .before .before .before .before .before .before .before .before .before .before .before .len3 .ensures) (c .before .before .before .before .before .before .before .before .before .before .before .before .before .before .before .before .before .before .piece4 .ensures) _ _ (c .before .before .before .before .before .before .before .before .before .before .before .before .before .before .piece5 .ensures) _ _ (after-both _ _ _ _ _ _ (inner-room _ _ _ _ _ _ (room-as _ _ _ _ _ (call-eq _ _ (c .before .before .before .before .before .before .before .before .before .before .before .before .before .before .before .before .before .before .before .before .before .before .before .before .before .before .before .before .before .args .d) _ _ (omega (arith, c .before .before .before .before .before .before .before .before .before .before .before .before .before .before .before .before .before .before .before .before .before .before .before .before .before .if1 .left)) _ (c .before .before .before .before .before .before .before .before .before .before .before .before .before .before .before .before .before .before .before .before .before .before .before .before .step-of .ensures) _ _ _ _ _ _ (c .before .before .before .before .before .before .before .before .before .before .before .before .before .before .before .before .before .before .before .before .before .before .l2 .given .1)) (c .before .before .before .before .before .before .before .before .before .before .before .before .before .before .before .before .before .before .before .before .before .before .before .before .before .before .before .before .before .pre .1)) _ _ _ (c .before .before .before .before .before .before .before .before .before .before .before .before .before .before .before .before .before .before .before .before .len3 .ensures) (c .before .before .before .before .before .before .before .before .before .before .before .before .before .before .before .before .before .before .piece4 .ensures) _ _ (c .before .before .before .before .before .before .before .before .before .before .before .before .before .before .piece5 .ensures)) _ _ (c .before .before .before .before .before .before .before .before .before .before .arguments .ensures) _ _ (c .before .before .before .before .before .before .piece6 .ensures) _ _ (c .before .before .declarator2 .ensures)))
 
--- src/lib.rt:102:13
 declarator-enum-told : (t : ℕ) → declarator-lts.Need-enum-told (
   step-of-reads.Asked,
   step-of-reads.Learnt,
@@ -903,7 +843,6 @@ declarator-enum-told : (t : ℕ) → declarator-lts.Need-enum-told (
 ) (declarator-at t) declarator.Post
 declarator-enum-told t c = search needs
 
--- src/lib.rt:102:13
 declarator-returns-5 : (t : ℕ) → declarator-lts.Need-returns-5 (
   step-of-reads.Asked,
   step-of-reads.Learnt,

@@ -1,3 +1,4 @@
+-- `declare_type::piece` meets its contract. Assumes nothing.
 use Rattle.field_put.proofs.PutLaws.{laid}
 use borrow.Author.Needs.{needs}
 use Rattle.declare_type.proofs.piece.Statement.{statement}
@@ -6,15 +7,12 @@ use Rattle.declare_type.proofs.piece.Reads as reads
 use Rattle.declare_type.proofs.piece.Lts as lts
 use Rattle.declare_piece.proofs.put.Reads as put-reads
 
--- src/lib.rt:56:5
 put-requires : tie.Need-put-requires
 put-requires c κs = search needs
 
--- src/lib.rt:52:1
 same-length : tie.Need-same-length
 same-length c = search needs
 
--- src/lib.rt:52:1
 returns : tie.Need-returns
 returns c = laid _ _ _ _ _ (c .before .before .before .before .before .before .pre) (c .before .before .put .ensures)
 

@@ -1,3 +1,4 @@
+-- `declare_walk::declarator` and `arguments`, which call each other, meet their contracts: the depth that is left falls. Assumes nothing.
 use native.Mathlib.Omega.{arith}
 use borrow.Author.Needs.{needs}
 use Prim.Native.Nat.{_≤_, _+_, _*_, _-_}
@@ -57,7 +58,6 @@ arguments-Inv-loop s f t g d room p n u v fixed₀ at₀ left₀ fixed at left =
 abbrev arguments-μ-loop : arguments-lts.MeasureT-loop
 arguments-μ-loop s f t g d room p n u v fixed₀ at₀ left₀ fixed at left = left
 
--- src/lib.rt:279:11
 arguments-list-of-requires : (t : ℕ) → arguments-lts.Need-list-of-requires (
   list-of-reads.Asked,
   list-of-reads.Learnt,
@@ -70,7 +70,6 @@ arguments-list-of-requires : (t : ℕ) → arguments-lts.Need-list-of-requires (
 ) (arguments-at t) arguments.Post arguments-Inv-loop arguments-μ-loop
 arguments-list-of-requires t c κs = omega arith
 
--- src/lib.rt:280:23
 arguments-enum-known-p : (t : ℕ) → arguments-lts.Need-enum-known-p (
   list-of-reads.Asked,
   list-of-reads.Learnt,
@@ -83,7 +82,6 @@ arguments-enum-known-p : (t : ℕ) → arguments-lts.Need-enum-known-p (
 ) (arguments-at t) arguments.Post arguments-Inv-loop arguments-μ-loop
 arguments-enum-known-p t c = search needs
 
--- src/lib.rt:283:21
 arguments-returns : (t : ℕ) → arguments-lts.Need-returns (
   list-of-reads.Asked,
   list-of-reads.Learnt,
@@ -96,7 +94,6 @@ arguments-returns : (t : ℕ) → arguments-lts.Need-returns (
 ) (arguments-at t) arguments.Post arguments-Inv-loop arguments-μ-loop
 arguments-returns t c = void-over _ _ _ _ _ _ (c .before .before .before .before .before .list-of .ensures .0) _ _ (c .before .before .before .p .given .1) (c .before .if1 .taken) (omega arith)
 
--- src/lib.rt:285:17
 arguments-returns-2 : (t : ℕ) → arguments-lts.Need-returns-2 (
   list-of-reads.Asked,
   list-of-reads.Learnt,
@@ -109,7 +106,6 @@ arguments-returns-2 : (t : ℕ) → arguments-lts.Need-returns-2 (
 ) (arguments-at t) arguments.Post arguments-Inv-loop arguments-μ-loop
 arguments-returns-2 t c = void-fits _ _ _ _ _ _ (c .before .before .before .before .before .list-of .ensures .0) _ _ (c .before .before .before .p .given .1) (c .before .if1 .taken) (omega arith)
 
--- src/lib.rt:287:17
 arguments-index-at-requires : (t : ℕ) → arguments-lts.Need-index-at-requires (
   list-of-reads.Asked,
   list-of-reads.Learnt,
@@ -122,7 +118,6 @@ arguments-index-at-requires : (t : ℕ) → arguments-lts.Need-index-at-requires
 ) (arguments-at t) arguments.Post arguments-Inv-loop arguments-μ-loop
 arguments-index-at-requires t c κs = tt
 
--- src/lib.rt:288:17
 arguments-start-requires : (t : ℕ) → arguments-lts.Need-start-requires (
   list-of-reads.Asked,
   list-of-reads.Learnt,
@@ -135,7 +130,6 @@ arguments-start-requires : (t : ℕ) → arguments-lts.Need-start-requires (
 ) (arguments-at t) arguments.Post arguments-Inv-loop arguments-μ-loop
 arguments-start-requires t c κs = omega arith
 
--- src/lib.rt:289:19
 arguments-declarator-requires : (t : ℕ) → arguments-lts.Need-declarator-requires (
   list-of-reads.Asked,
   list-of-reads.Learnt,
@@ -148,7 +142,6 @@ arguments-declarator-requires : (t : ℕ) → arguments-lts.Need-declarator-requ
 ) (arguments-at t) arguments.Post arguments-Inv-loop arguments-μ-loop
 arguments-declarator-requires t c κs = omega arith
 
--- src/lib.rt:290:32
 arguments-enum-known-u : (t : ℕ) → arguments-lts.Need-enum-known-u (
   list-of-reads.Asked,
   list-of-reads.Learnt,
@@ -161,7 +154,6 @@ arguments-enum-known-u : (t : ℕ) → arguments-lts.Need-enum-known-u (
 ) (arguments-at t) arguments.Post arguments-Inv-loop arguments-μ-loop
 arguments-enum-known-u t c = search needs
 
--- src/lib.rt:291:37
 arguments-add-fixed : (t : ℕ) → arguments-lts.Need-add-fixed (
   list-of-reads.Asked,
   list-of-reads.Learnt,
@@ -174,7 +166,6 @@ arguments-add-fixed : (t : ℕ) → arguments-lts.Need-add-fixed (
 ) (arguments-at t) arguments.Post arguments-Inv-loop arguments-μ-loop
 arguments-add-fixed t c = omega (arith, fits-within _ _ _ _ (sym (c .before .u .given .1) ∙ c .before .before .before .declarator .ensures), c .before .before .before .before .before .before .before .before .before .before .before .before .before .fits .room)
 
--- src/lib.rt:292:34
 arguments-add-at : (t : ℕ) → arguments-lts.Need-add-at (
   list-of-reads.Asked,
   list-of-reads.Learnt,
@@ -187,7 +178,6 @@ arguments-add-at : (t : ℕ) → arguments-lts.Need-add-at (
 ) (arguments-at t) arguments.Post arguments-Inv-loop arguments-μ-loop
 arguments-add-at t c = omega (arith, (rw (c .before .before .before .before .before .before .before .before .p .given .1) at (c .before .before .before .before .before .before .before .before .before .before .list-of .ensures .1)), c .before .before .before .before .before .before .before .before .before .before .before .before .before .good .0 .1)
 
--- src/lib.rt:293:36
 arguments-sub-left : (t : ℕ) → arguments-lts.Need-sub-left (
   list-of-reads.Asked,
   list-of-reads.Learnt,
@@ -200,7 +190,6 @@ arguments-sub-left : (t : ℕ) → arguments-lts.Need-sub-left (
 ) (arguments-at t) arguments.Post arguments-Inv-loop arguments-μ-loop
 arguments-sub-left t c = omega arith
 
--- src/lib.rt:294:21
 arguments-loop-holds : (t : ℕ) → arguments-lts.Need-loop-holds (
   list-of-reads.Asked,
   list-of-reads.Learnt,
@@ -213,7 +202,6 @@ arguments-loop-holds : (t : ℕ) → arguments-lts.Need-loop-holds (
 ) (arguments-at t) arguments.Post arguments-Inv-loop arguments-μ-loop
 arguments-loop-holds t c = (omega (arith, fits-within _ _ _ _ (sym (c .before .u .given .1) ∙ c .before .before .before .declarator .ensures)), omega (arith, (rw (c .before .before .before .before .before .before .before .before .p .given .1) at (c .before .before .before .before .before .before .before .before .before .before .list-of .ensures .1))), first-fits _ _ _ _ _ _ (c .before .before .before .before .before .before .before .before .before .before .list-of .ensures .0) _ _ (c .before .before .before .before .before .before .before .before .p .given .1) _ _ (omega arith) (rw (c .before .before .before .before .before .index-at .ensures, c .before .before .before .before .start .ensures) at (sym (c .before .u .given .1) ∙ c .before .before .before .declarator .ensures)))
 
--- src/lib.rt:295:36
 arguments-sub-more : (t : ℕ) → arguments-lts.Need-sub-more (
   list-of-reads.Asked,
   list-of-reads.Learnt,
@@ -226,7 +214,6 @@ arguments-sub-more : (t : ℕ) → arguments-lts.Need-sub-more (
 ) (arguments-at t) arguments.Post arguments-Inv-loop arguments-μ-loop
 arguments-sub-more t c = omega arith
 
--- src/lib.rt:297:29
 arguments-returns-3 : (t : ℕ) → arguments-lts.Need-returns-3 (
   list-of-reads.Asked,
   list-of-reads.Learnt,
@@ -239,7 +226,6 @@ arguments-returns-3 : (t : ℕ) → arguments-lts.Need-returns-3 (
 ) (arguments-at t) arguments.Post arguments-Inv-loop arguments-μ-loop
 arguments-returns-3 t c = rest-over _ _ _ _ _ _ _ (c .before .before .loop .inv .2) (omega arith) (omega arith)
 
--- src/lib.rt:299:29
 arguments-index-at-requires-2 : (t : ℕ) → arguments-lts.Need-index-at-requires-2 (
   list-of-reads.Asked,
   list-of-reads.Learnt,
@@ -252,7 +238,6 @@ arguments-index-at-requires-2 : (t : ℕ) → arguments-lts.Need-index-at-requir
 ) (arguments-at t) arguments.Post arguments-Inv-loop arguments-μ-loop
 arguments-index-at-requires-2 t c κs = tt
 
--- src/lib.rt:300:29
 arguments-start-requires-2 : (t : ℕ) → arguments-lts.Need-start-requires-2 (
   list-of-reads.Asked,
   list-of-reads.Learnt,
@@ -265,7 +250,6 @@ arguments-start-requires-2 : (t : ℕ) → arguments-lts.Need-start-requires-2 (
 ) (arguments-at t) arguments.Post arguments-Inv-loop arguments-μ-loop
 arguments-start-requires-2 t c κs = omega arith
 
--- src/lib.rt:301:31
 arguments-declarator-requires-2 : (t : ℕ) → arguments-lts.Need-declarator-requires-2 (
   list-of-reads.Asked,
   list-of-reads.Learnt,
@@ -278,7 +262,6 @@ arguments-declarator-requires-2 : (t : ℕ) → arguments-lts.Need-declarator-re
 ) (arguments-at t) arguments.Post arguments-Inv-loop arguments-μ-loop
 arguments-declarator-requires-2 t c κs = omega (arith, c .before .before .before .before .before .before .before .before .before .before .before .before .before .before .before .before .before .before .pre .0)
 
--- src/lib.rt:302:44
 arguments-enum-known-x : (t : ℕ) → arguments-lts.Need-enum-known-x (
   list-of-reads.Asked,
   list-of-reads.Learnt,
@@ -291,7 +274,6 @@ arguments-enum-known-x : (t : ℕ) → arguments-lts.Need-enum-known-x (
 ) (arguments-at t) arguments.Post arguments-Inv-loop arguments-μ-loop
 arguments-enum-known-x t c = search needs
 
--- src/lib.rt:303:55
 arguments-add-fixed-2 : (t : ℕ) → arguments-lts.Need-add-fixed-2 (
   list-of-reads.Asked,
   list-of-reads.Learnt,
@@ -304,7 +286,6 @@ arguments-add-fixed-2 : (t : ℕ) → arguments-lts.Need-add-fixed-2 (
 ) (arguments-at t) arguments.Post arguments-Inv-loop arguments-μ-loop
 arguments-add-fixed-2 t c = omega (arith, fits-within _ _ _ _ (sym (c .before .x .given .1) ∙ c .before .before .before .declarator2 .ensures), c .before .before .before .before .before .before .before .before .before .before .before .before .before .before .before .before .before .before .before .before .before .before .fits .room)
 
--- src/lib.rt:303:50
 arguments-add-fixed-3 : (t : ℕ) → arguments-lts.Need-add-fixed-3 (
   list-of-reads.Asked,
   list-of-reads.Learnt,
@@ -317,7 +298,6 @@ arguments-add-fixed-3 : (t : ℕ) → arguments-lts.Need-add-fixed-3 (
 ) (arguments-at t) arguments.Post arguments-Inv-loop arguments-μ-loop
 arguments-add-fixed-3 t c = omega (arith, fits-within _ _ _ _ (sym (c .before .x .given .1) ∙ c .before .before .before .declarator2 .ensures), c .before .before .before .before .before .before .before .before .before .before .before .before .before .before .before .before .before .before .before .before .before .before .fits .room)
 
--- src/lib.rt:303:41
 arguments-add-fixed-4 : (t : ℕ) → arguments-lts.Need-add-fixed-4 (
   list-of-reads.Asked,
   list-of-reads.Learnt,
@@ -330,7 +310,6 @@ arguments-add-fixed-4 : (t : ℕ) → arguments-lts.Need-add-fixed-4 (
 ) (arguments-at t) arguments.Post arguments-Inv-loop arguments-μ-loop
 arguments-add-fixed-4 t c = omega (arith, fits-within _ _ _ _ (sym (c .before .x .given .1) ∙ c .before .before .before .declarator2 .ensures), c .before .before .before .before .before .before .before .before .before .before .before .before .before .before .before .before .before .before .before .before .before .before .fits .room)
 
--- src/lib.rt:304:38
 arguments-add-at-2 : (t : ℕ) → arguments-lts.Need-add-at-2 (
   list-of-reads.Asked,
   list-of-reads.Learnt,
@@ -343,7 +322,6 @@ arguments-add-at-2 : (t : ℕ) → arguments-lts.Need-add-at-2 (
 ) (arguments-at t) arguments.Post arguments-Inv-loop arguments-μ-loop
 arguments-add-at-2 t c = omega (arith, c .before .before .before .before .before .before .before .before .before .before .before .before .before .before .before .before .before .before .before .before .before .before .good .0 .1)
 
--- src/lib.rt:305:40
 arguments-sub-left-2 : (t : ℕ) → arguments-lts.Need-sub-left-2 (
   list-of-reads.Asked,
   list-of-reads.Learnt,
@@ -356,7 +334,6 @@ arguments-sub-left-2 : (t : ℕ) → arguments-lts.Need-sub-left-2 (
 ) (arguments-at t) arguments.Post arguments-Inv-loop arguments-μ-loop
 arguments-sub-left-2 t c = omega arith
 
--- src/lib.rt:294:21
 arguments-loop-less : (t : ℕ) → arguments-lts.Need-loop-less (
   list-of-reads.Asked,
   list-of-reads.Learnt,
@@ -369,7 +346,6 @@ arguments-loop-less : (t : ℕ) → arguments-lts.Need-loop-less (
 ) (arguments-at t) arguments.Post arguments-Inv-loop arguments-μ-loop
 arguments-loop-less t c = omega arith
 
--- src/lib.rt:294:21
 arguments-loop-again : (t : ℕ) → arguments-lts.Need-loop-again (
   list-of-reads.Asked,
   list-of-reads.Learnt,
@@ -382,7 +358,6 @@ arguments-loop-again : (t : ℕ) → arguments-lts.Need-loop-again (
 ) (arguments-at t) arguments.Post arguments-Inv-loop arguments-μ-loop
 arguments-loop-again t c = (omega (arith, fits-within _ _ _ _ (sym (c .before .x .given .1) ∙ c .before .before .before .declarator2 .ensures)), omega arith, rest-more _ _ _ _ _ _ _ (c .before .before .before .before .before .before .before .before .loop .inv .2) _ _ (omega arith) (omega arith) (rw (c .before .before .before .before .before .index-at2 .ensures, c .before .before .before .before .start2 .ensures) at (sym (c .before .x .given .1) ∙ c .before .before .before .declarator2 .ensures)))
 
--- src/lib.rt:307:47
 arguments-enum-known-why : (t : ℕ) → arguments-lts.Need-enum-known-why (
   list-of-reads.Asked,
   list-of-reads.Learnt,
@@ -395,7 +370,6 @@ arguments-enum-known-why : (t : ℕ) → arguments-lts.Need-enum-known-why (
 ) (arguments-at t) arguments.Post arguments-Inv-loop arguments-μ-loop
 arguments-enum-known-why t c = search needs
 
--- src/lib.rt:308:33
 arguments-returns-4 : (t : ℕ) → arguments-lts.Need-returns-4 (
   list-of-reads.Asked,
   list-of-reads.Learnt,
@@ -408,7 +382,6 @@ arguments-returns-4 : (t : ℕ) → arguments-lts.Need-returns-4 (
 ) (arguments-at t) arguments.Post arguments-Inv-loop arguments-μ-loop
 arguments-returns-4 t c = rest-refused _ _ _ _ _ _ _ (c .before .before .before .before .before .before .before .before .loop .inv .2) _ (omega arith) (omega arith) (rw (c .before .before .before .before .before .index-at2 .ensures, c .before .before .before .before .start2 .ensures) at (sym (c .before .why .given .1) ∙ c .before .before .before .declarator2 .ensures))
 
--- src/lib.rt:312:21
 arguments-returns-5 : (t : ℕ) → arguments-lts.Need-returns-5 (
   list-of-reads.Asked,
   list-of-reads.Learnt,
@@ -421,7 +394,6 @@ arguments-returns-5 : (t : ℕ) → arguments-lts.Need-returns-5 (
 ) (arguments-at t) arguments.Post arguments-Inv-loop arguments-μ-loop
 arguments-returns-5 t c = rest-done _ _ _ _ _ _ _ (c .before .loop .inv .2) (omega arith)
 
--- src/lib.rt:314:35
 arguments-enum-known-why-2 : (t : ℕ) → arguments-lts.Need-enum-known-why-2 (
   list-of-reads.Asked,
   list-of-reads.Learnt,
@@ -434,7 +406,6 @@ arguments-enum-known-why-2 : (t : ℕ) → arguments-lts.Need-enum-known-why-2 (
 ) (arguments-at t) arguments.Post arguments-Inv-loop arguments-μ-loop
 arguments-enum-known-why-2 t c = search needs
 
--- src/lib.rt:315:21
 arguments-returns-6 : (t : ℕ) → arguments-lts.Need-returns-6 (
   list-of-reads.Asked,
   list-of-reads.Learnt,
@@ -447,7 +418,6 @@ arguments-returns-6 : (t : ℕ) → arguments-lts.Need-returns-6 (
 ) (arguments-at t) arguments.Post arguments-Inv-loop arguments-μ-loop
 arguments-returns-6 t c = first-refused _ _ _ _ _ _ (c .before .before .before .before .before .before .before .before .before .before .list-of .ensures .0) _ _ (c .before .before .before .before .before .before .before .before .p .given .1) _ (omega arith) (rw (c .before .before .before .before .before .index-at .ensures, c .before .before .before .before .start .ensures) at (sym (c .before .why2 .given .1) ∙ c .before .before .before .declarator .ensures))
 
--- src/lib.rt:319:28
 arguments-enum-known-why-3 : (t : ℕ) → arguments-lts.Need-enum-known-why-3 (
   list-of-reads.Asked,
   list-of-reads.Learnt,
@@ -460,7 +430,6 @@ arguments-enum-known-why-3 : (t : ℕ) → arguments-lts.Need-enum-known-why-3 (
 ) (arguments-at t) arguments.Post arguments-Inv-loop arguments-μ-loop
 arguments-enum-known-why-3 t c = search needs
 
--- src/lib.rt:320:13
 arguments-returns-7 : (t : ℕ) → arguments-lts.Need-returns-7 (
   list-of-reads.Asked,
   list-of-reads.Learnt,
@@ -473,7 +442,6 @@ arguments-returns-7 : (t : ℕ) → arguments-lts.Need-returns-7 (
 ) (arguments-at t) arguments.Post arguments-Inv-loop arguments-μ-loop
 arguments-returns-7 t c = list-refused _ _ _ _ _ _ (c .before .before .before .list-of .ensures .0) _ (c .before .why3 .given .1)
 
--- src/lib.rt:206:9
 declarator-returns : (t : ℕ) → declarator-lts.Need-returns (
   step-of-reads.Asked,
   step-of-reads.Learnt,
@@ -486,7 +454,6 @@ declarator-returns : (t : ℕ) → declarator-lts.Need-returns (
 ) (declarator-at t) declarator.Post
 declarator-returns t c = too-deep _ _ _ _ _ _ (c .if1 .taken)
 
--- src/lib.rt:208:11
 declarator-step-of-requires : (t : ℕ) → declarator-lts.Need-step-of-requires (
   step-of-reads.Asked,
   step-of-reads.Learnt,
@@ -499,7 +466,6 @@ declarator-step-of-requires : (t : ℕ) → declarator-lts.Need-step-of-requires
 ) (declarator-at t) declarator.Post
 declarator-step-of-requires t c κs = omega arith
 
--- src/lib.rt:209:20
 declarator-enum-known-p : (t : ℕ) → declarator-lts.Need-enum-known-p (
   step-of-reads.Asked,
   step-of-reads.Learnt,
@@ -512,7 +478,6 @@ declarator-enum-known-p : (t : ℕ) → declarator-lts.Need-enum-known-p (
 ) (declarator-at t) declarator.Post
 declarator-enum-known-p t c = search needs
 
--- src/lib.rt:210:17
 declarator-len-requires : (t : ℕ) → declarator-lts.Need-len-requires (
   step-of-reads.Asked,
   step-of-reads.Learnt,
@@ -525,7 +490,6 @@ declarator-len-requires : (t : ℕ) → declarator-lts.Need-len-requires (
 ) (declarator-at t) declarator.Post
 declarator-len-requires t c κs = tt
 
--- src/lib.rt:212:17
 declarator-returns-2 : (t : ℕ) → declarator-lts.Need-returns-2 (
   step-of-reads.Asked,
   step-of-reads.Learnt,
@@ -538,7 +502,6 @@ declarator-returns-2 : (t : ℕ) → declarator-lts.Need-returns-2 (
 ) (declarator-at t) declarator.Post
 declarator-returns-2 t c = last-over _ _ _ _ _ _ (omega arith) _ (c .before .before .before .before .before .step-of .ensures) _ (c .before .before .before .p .given .1) (omega arith)
 
--- src/lib.rt:214:13
 declarator-returns-3 : (t : ℕ) → declarator-lts.Need-returns-3 (
   step-of-reads.Asked,
   step-of-reads.Learnt,
@@ -551,7 +514,6 @@ declarator-returns-3 : (t : ℕ) → declarator-lts.Need-returns-3 (
 ) (declarator-at t) declarator.Post
 declarator-returns-3 t c = last-fits _ _ _ _ _ _ (omega arith) _ (c .before .before .before .before .before .step-of .ensures) _ _ (c .before .before .before .p .given .1) (c .before .len .ensures) (omega arith)
 
--- src/lib.rt:216:22
 declarator-enum-known-l : (t : ℕ) → declarator-lts.Need-enum-known-l (
   step-of-reads.Asked,
   step-of-reads.Learnt,
@@ -564,7 +526,6 @@ declarator-enum-known-l : (t : ℕ) → declarator-lts.Need-enum-known-l (
 ) (declarator-at t) declarator.Post
 declarator-enum-known-l t c = search needs
 
--- src/lib.rt:217:17
 declarator-len-requires-2 : (t : ℕ) → declarator-lts.Need-len-requires-2 (
   step-of-reads.Asked,
   step-of-reads.Learnt,
@@ -577,7 +538,6 @@ declarator-len-requires-2 : (t : ℕ) → declarator-lts.Need-len-requires-2 (
 ) (declarator-at t) declarator.Post
 declarator-len-requires-2 t c κs = tt
 
--- src/lib.rt:219:17
 declarator-returns-4 : (t : ℕ) → declarator-lts.Need-returns-4 (
   step-of-reads.Asked,
   step-of-reads.Learnt,
@@ -590,7 +550,6 @@ declarator-returns-4 : (t : ℕ) → declarator-lts.Need-returns-4 (
 ) (declarator-at t) declarator.Post
 declarator-returns-4 t c = inward-over _ _ _ _ _ _ (omega arith) _ (c .before .before .before .before .before .step-of .ensures) _ _ _ _ (c .before .before .before .l .given .1) (omega arith)
 
--- src/lib.rt:221:17
 declarator-len-requires-3 : (t : ℕ) → declarator-lts.Need-len-requires-3 (
   step-of-reads.Asked,
   step-of-reads.Learnt,
@@ -603,7 +562,6 @@ declarator-len-requires-3 : (t : ℕ) → declarator-lts.Need-len-requires-3 (
 ) (declarator-at t) declarator.Post
 declarator-len-requires-3 t c κs = tt
 
--- src/lib.rt:223:17
 declarator-returns-5 : (t : ℕ) → declarator-lts.Need-returns-5 (
   step-of-reads.Asked,
   step-of-reads.Learnt,
@@ -616,7 +574,6 @@ declarator-returns-5 : (t : ℕ) → declarator-lts.Need-returns-5 (
 ) (declarator-at t) declarator.Post
 declarator-returns-5 t c = inward-over _ _ _ _ _ _ (omega arith) _ (c .before .before .before .before .before .before .before .step-of .ensures) _ _ _ _ (c .before .before .before .before .before .l .given .1) (omega arith)
 
--- src/lib.rt:225:42
 declarator-sub-declarator : (t : ℕ) → declarator-lts.Need-sub-declarator (
   step-of-reads.Asked,
   step-of-reads.Learnt,
@@ -629,7 +586,6 @@ declarator-sub-declarator : (t : ℕ) → declarator-lts.Need-sub-declarator (
 ) (declarator-at t) declarator.Post
 declarator-sub-declarator t c = omega arith
 
--- src/lib.rt:225:52
 declarator-sub-declarator-2 : (t : ℕ) → declarator-lts.Need-sub-declarator-2 (
   step-of-reads.Asked,
   step-of-reads.Learnt,
@@ -642,7 +598,6 @@ declarator-sub-declarator-2 : (t : ℕ) → declarator-lts.Need-sub-declarator-2
 ) (declarator-at t) declarator.Post
 declarator-sub-declarator-2 t c = omega arith
 
--- src/lib.rt:225:19
 declarator-declarator-requires : (t : ℕ) → declarator-lts.Need-declarator-requires (
   step-of-reads.Asked,
   step-of-reads.Learnt,
@@ -655,7 +610,6 @@ declarator-declarator-requires : (t : ℕ) → declarator-lts.Need-declarator-re
 ) (declarator-at t) declarator.Post
 declarator-declarator-requires t c κs = omega arith
 
--- src/lib.rt:226:32
 declarator-enum-known-m : (t : ℕ) → declarator-lts.Need-enum-known-m (
   step-of-reads.Asked,
   step-of-reads.Learnt,
@@ -668,7 +622,6 @@ declarator-enum-known-m : (t : ℕ) → declarator-lts.Need-enum-known-m (
 ) (declarator-at t) declarator.Post
 declarator-enum-known-m t c = search needs
 
--- src/lib.rt:227:32
 declarator-add-left : (t : ℕ) → declarator-lts.Need-add-left (
   step-of-reads.Asked,
   step-of-reads.Learnt,
@@ -681,7 +634,6 @@ declarator-add-left : (t : ℕ) → declarator-lts.Need-add-left (
 ) (declarator-at t) declarator.Post
 declarator-add-left t c = omega (arith, fits-within _ _ _ _ (sym (c .before .m .given .1) ∙ c .before .before .before .declarator .ensures), c .before .before .before .before .before .before .before .before .before .before .before .before .before .before .before .fits .room)
 
--- src/lib.rt:228:33
 declarator-add-right : (t : ℕ) → declarator-lts.Need-add-right (
   step-of-reads.Asked,
   step-of-reads.Learnt,
@@ -694,7 +646,6 @@ declarator-add-right : (t : ℕ) → declarator-lts.Need-add-right (
 ) (declarator-at t) declarator.Post
 declarator-add-right t c = omega (arith, fits-within _ _ _ _ (sym (c .before .m .given .1) ∙ c .before .before .before .declarator .ensures), c .before .before .before .before .before .before .before .before .before .before .before .before .before .before .before .fits .room)
 
--- src/lib.rt:229:21
 declarator-returns-6 : (t : ℕ) → declarator-lts.Need-returns-6 (
   step-of-reads.Asked,
   step-of-reads.Learnt,
@@ -707,7 +658,6 @@ declarator-returns-6 : (t : ℕ) → declarator-lts.Need-returns-6 (
 ) (declarator-at t) declarator.Post
 declarator-returns-6 t c = inward-is _ _ _ _ _ _ (omega arith) _ (c .before .before .before .before .before .before .before .before .before .before .before .step-of .ensures) _ _ _ _ (c .before .before .before .before .before .before .before .before .before .l .given .1) _ _ (measured.Fits _ _) (c .before .before .before .before .before .before .before .len2 .ensures) (c .before .before .before .before .before .len3 .ensures) (omega arith) (sym (c .before .m .given .1) ∙ c .before .before .before .declarator .ensures)
 
--- src/lib.rt:231:35
 declarator-enum-known-why : (t : ℕ) → declarator-lts.Need-enum-known-why (
   step-of-reads.Asked,
   step-of-reads.Learnt,
@@ -720,7 +670,6 @@ declarator-enum-known-why : (t : ℕ) → declarator-lts.Need-enum-known-why (
 ) (declarator-at t) declarator.Post
 declarator-enum-known-why t c = search needs
 
--- src/lib.rt:232:21
 declarator-returns-7 : (t : ℕ) → declarator-lts.Need-returns-7 (
   step-of-reads.Asked,
   step-of-reads.Learnt,
@@ -733,7 +682,6 @@ declarator-returns-7 : (t : ℕ) → declarator-lts.Need-returns-7 (
 ) (declarator-at t) declarator.Post
 declarator-returns-7 t c = inward-is _ _ _ _ _ _ (omega arith) _ (c .before .before .before .before .before .before .before .before .before .before .before .step-of .ensures) _ _ _ _ (c .before .before .before .before .before .before .before .before .before .l .given .1) _ _ (measured.Refused _) (c .before .before .before .before .before .before .before .len2 .ensures) (c .before .before .before .before .before .len3 .ensures) (omega arith) (sym (c .before .why .given .1) ∙ c .before .before .before .declarator .ensures)
 
--- src/lib.rt:236:20
 declarator-enum-known-l-2 : (t : ℕ) → declarator-lts.Need-enum-known-l-2 (
   step-of-reads.Asked,
   step-of-reads.Learnt,
@@ -746,7 +694,6 @@ declarator-enum-known-l-2 : (t : ℕ) → declarator-lts.Need-enum-known-l-2 (
 ) (declarator-at t) declarator.Post
 declarator-enum-known-l-2 t c = search needs
 
--- src/lib.rt:237:17
 declarator-len-requires-4 : (t : ℕ) → declarator-lts.Need-len-requires-4 (
   step-of-reads.Asked,
   step-of-reads.Learnt,
@@ -759,7 +706,6 @@ declarator-len-requires-4 : (t : ℕ) → declarator-lts.Need-len-requires-4 (
 ) (declarator-at t) declarator.Post
 declarator-len-requires-4 t c κs = tt
 
--- src/lib.rt:239:17
 declarator-returns-8 : (t : ℕ) → declarator-lts.Need-returns-8 (
   step-of-reads.Asked,
   step-of-reads.Learnt,
@@ -772,7 +718,6 @@ declarator-returns-8 : (t : ℕ) → declarator-lts.Need-returns-8 (
 ) (declarator-at t) declarator.Post
 declarator-returns-8 t c = call-over _ _ _ _ _ _ (omega arith) _ (c .before .before .before .before .before .step-of .ensures) _ _ _ _ _ _ (c .before .before .before .l2 .given .1) (omega arith)
 
--- src/lib.rt:241:17
 declarator-len-requires-5 : (t : ℕ) → declarator-lts.Need-len-requires-5 (
   step-of-reads.Asked,
   step-of-reads.Learnt,
@@ -785,7 +730,6 @@ declarator-len-requires-5 : (t : ℕ) → declarator-lts.Need-len-requires-5 (
 ) (declarator-at t) declarator.Post
 declarator-len-requires-5 t c κs = tt
 
--- src/lib.rt:243:17
 declarator-returns-9 : (t : ℕ) → declarator-lts.Need-returns-9 (
   step-of-reads.Asked,
   step-of-reads.Learnt,
@@ -798,7 +742,6 @@ declarator-returns-9 : (t : ℕ) → declarator-lts.Need-returns-9 (
 ) (declarator-at t) declarator.Post
 declarator-returns-9 t c = call-over _ _ _ _ _ _ (omega arith) _ (c .before .before .before .before .before .before .before .step-of .ensures) _ _ _ _ _ _ (c .before .before .before .before .before .l2 .given .1) (omega arith)
 
--- src/lib.rt:245:43
 declarator-sub-arguments : (t : ℕ) → declarator-lts.Need-sub-arguments (
   step-of-reads.Asked,
   step-of-reads.Learnt,
@@ -811,7 +754,6 @@ declarator-sub-arguments : (t : ℕ) → declarator-lts.Need-sub-arguments (
 ) (declarator-at t) declarator.Post
 declarator-sub-arguments t c = omega arith
 
--- src/lib.rt:245:50
 declarator-sub-arguments-2 : (t : ℕ) → declarator-lts.Need-sub-arguments-2 (
   step-of-reads.Asked,
   step-of-reads.Learnt,
@@ -824,7 +766,6 @@ declarator-sub-arguments-2 : (t : ℕ) → declarator-lts.Need-sub-arguments-2 (
 ) (declarator-at t) declarator.Post
 declarator-sub-arguments-2 t c = omega arith
 
--- src/lib.rt:245:19
 declarator-arguments-requires : (t : ℕ) → declarator-lts.Need-arguments-requires (
   step-of-reads.Asked,
   step-of-reads.Learnt,
@@ -837,7 +778,6 @@ declarator-arguments-requires : (t : ℕ) → declarator-lts.Need-arguments-requ
 ) (declarator-at t) declarator.Post
 declarator-arguments-requires t c κs = omega arith
 
--- src/lib.rt:246:32
 declarator-enum-known-u : (t : ℕ) → declarator-lts.Need-enum-known-u (
   step-of-reads.Asked,
   step-of-reads.Learnt,
@@ -850,7 +790,6 @@ declarator-enum-known-u : (t : ℕ) → declarator-lts.Need-enum-known-u (
 ) (declarator-at t) declarator.Post
 declarator-enum-known-u t c = search needs
 
--- src/lib.rt:247:29
 declarator-add-w : (t : ℕ) → declarator-lts.Need-add-w (
   step-of-reads.Asked,
   step-of-reads.Learnt,
@@ -863,7 +802,6 @@ declarator-add-w : (t : ℕ) → declarator-lts.Need-add-w (
 ) (declarator-at t) declarator.Post
 declarator-add-w t c = omega (arith, fits-within _ _ _ _ (sym (c .before .u .given .1) ∙ c .before .before .before .arguments .ensures), c .before .before .before .before .before .before .before .before .before .before .before .before .before .before .before .fits .room)
 
--- src/lib.rt:248:32
 declarator-sub-more : (t : ℕ) → declarator-lts.Need-sub-more (
   step-of-reads.Asked,
   step-of-reads.Learnt,
@@ -876,7 +814,6 @@ declarator-sub-more : (t : ℕ) → declarator-lts.Need-sub-more (
 ) (declarator-at t) declarator.Post
 declarator-sub-more t c = omega arith
 
--- src/lib.rt:248:32
 declarator-sub-more-2 : (t : ℕ) → declarator-lts.Need-sub-more-2 (
   step-of-reads.Asked,
   step-of-reads.Learnt,
@@ -889,7 +826,6 @@ declarator-sub-more-2 : (t : ℕ) → declarator-lts.Need-sub-more-2 (
 ) (declarator-at t) declarator.Post
 declarator-sub-more-2 t c = omega (arith, fits-within _ _ _ _ (sym (c .before .u .given .1) ∙ c .before .before .before .arguments .ensures), c .before .before .before .before .before .before .before .before .before .before .before .before .before .before .before .fits .room)
 
--- src/lib.rt:249:25
 declarator-len-requires-6 : (t : ℕ) → declarator-lts.Need-len-requires-6 (
   step-of-reads.Asked,
   step-of-reads.Learnt,
@@ -902,7 +838,6 @@ declarator-len-requires-6 : (t : ℕ) → declarator-lts.Need-len-requires-6 (
 ) (declarator-at t) declarator.Post
 declarator-len-requires-6 t c κs = tt
 
--- src/lib.rt:251:25
 declarator-returns-10 : (t : ℕ) → declarator-lts.Need-returns-10 (
   step-of-reads.Asked,
   step-of-reads.Learnt,
@@ -915,7 +850,6 @@ declarator-returns-10 : (t : ℕ) → declarator-lts.Need-returns-10 (
 ) (declarator-at t) declarator.Post
 declarator-returns-10 t c = call-shut _ _ _ _ _ _ (omega arith) _ (c .before .before .before .before .before .before .before .before .before .before .before .before .before .step-of .ensures) _ _ _ _ _ _ (c .before .before .before .before .before .before .before .before .before .before .before .l2 .given .1) _ _ (c .before .before .before .before .before .before .before .before .before .len4 .ensures) (c .before .before .before .before .before .before .before .len5 .ensures) (omega arith) _ _ (sym (c .before .before .before .u .given .1) ∙ c .before .before .before .before .before .arguments .ensures) (omega (arith, c .before .len6 .ensures))
 
--- src/lib.rt:253:50
 declarator-sub-declarator-3 : (t : ℕ) → declarator-lts.Need-sub-declarator-3 (
   step-of-reads.Asked,
   step-of-reads.Learnt,
@@ -928,7 +862,6 @@ declarator-sub-declarator-3 : (t : ℕ) → declarator-lts.Need-sub-declarator-3
 ) (declarator-at t) declarator.Post
 declarator-sub-declarator-3 t c = omega arith
 
--- src/lib.rt:253:27
 declarator-declarator-requires-2 : (t : ℕ) → declarator-lts.Need-declarator-requires-2 (
   step-of-reads.Asked,
   step-of-reads.Learnt,
@@ -941,7 +874,6 @@ declarator-declarator-requires-2 : (t : ℕ) → declarator-lts.Need-declarator-
 ) (declarator-at t) declarator.Post
 declarator-declarator-requires-2 t c κs = omega arith
 
--- src/lib.rt:254:40
 declarator-enum-known-m-2 : (t : ℕ) → declarator-lts.Need-enum-known-m-2 (
   step-of-reads.Asked,
   step-of-reads.Learnt,
@@ -954,7 +886,6 @@ declarator-enum-known-m-2 : (t : ℕ) → declarator-lts.Need-enum-known-m-2 (
 ) (declarator-at t) declarator.Post
 declarator-enum-known-m-2 t c = search needs
 
--- src/lib.rt:255:40
 declarator-add-left-2 : (t : ℕ) → declarator-lts.Need-add-left-2 (
   step-of-reads.Asked,
   step-of-reads.Learnt,
@@ -967,7 +898,6 @@ declarator-add-left-2 : (t : ℕ) → declarator-lts.Need-add-left-2 (
 ) (declarator-at t) declarator.Post
 declarator-add-left-2 t c = omega (arith, fits-within _ _ _ _ (sym (c .before .before .before .before .before .before .before .u .given .1) ∙ c .before .before .before .before .before .before .before .before .before .arguments .ensures), fits-within _ _ _ _ (sym (c .before .m2 .given .1) ∙ c .before .before .before .declarator2 .ensures), c .before .before .before .before .before .before .before .before .before .before .before .before .before .before .before .before .before .before .before .before .before .fits .room)
 
--- src/lib.rt:256:51
 declarator-add-right-2 : (t : ℕ) → declarator-lts.Need-add-right-2 (
   step-of-reads.Asked,
   step-of-reads.Learnt,
@@ -980,7 +910,6 @@ declarator-add-right-2 : (t : ℕ) → declarator-lts.Need-add-right-2 (
 ) (declarator-at t) declarator.Post
 declarator-add-right-2 t c = omega (arith, fits-within _ _ _ _ (sym (c .before .before .before .before .before .before .before .u .given .1) ∙ c .before .before .before .before .before .before .before .before .before .arguments .ensures), fits-within _ _ _ _ (sym (c .before .m2 .given .1) ∙ c .before .before .before .declarator2 .ensures), c .before .before .before .before .before .before .before .before .before .before .before .before .before .before .before .before .before .before .before .before .before .fits .room)
 
--- src/lib.rt:256:46
 declarator-add-right-3 : (t : ℕ) → declarator-lts.Need-add-right-3 (
   step-of-reads.Asked,
   step-of-reads.Learnt,
@@ -993,7 +922,6 @@ declarator-add-right-3 : (t : ℕ) → declarator-lts.Need-add-right-3 (
 ) (declarator-at t) declarator.Post
 declarator-add-right-3 t c = omega (arith, fits-within _ _ _ _ (sym (c .before .before .before .before .before .before .before .u .given .1) ∙ c .before .before .before .before .before .before .before .before .before .arguments .ensures), fits-within _ _ _ _ (sym (c .before .m2 .given .1) ∙ c .before .before .before .declarator2 .ensures), c .before .before .before .before .before .before .before .before .before .before .before .before .before .before .before .before .before .before .before .before .before .fits .room)
 
--- src/lib.rt:256:41
 declarator-add-right-4 : (t : ℕ) → declarator-lts.Need-add-right-4 (
   step-of-reads.Asked,
   step-of-reads.Learnt,
@@ -1006,7 +934,6 @@ declarator-add-right-4 : (t : ℕ) → declarator-lts.Need-add-right-4 (
 ) (declarator-at t) declarator.Post
 declarator-add-right-4 t c = omega (arith, fits-within _ _ _ _ (sym (c .before .before .before .before .before .before .before .u .given .1) ∙ c .before .before .before .before .before .before .before .before .before .arguments .ensures), fits-within _ _ _ _ (sym (c .before .m2 .given .1) ∙ c .before .before .before .declarator2 .ensures), c .before .before .before .before .before .before .before .before .before .before .before .before .before .before .before .before .before .before .before .before .before .fits .room)
 
--- src/lib.rt:257:29
 declarator-returns-11 : (t : ℕ) → declarator-lts.Need-returns-11 (
   step-of-reads.Asked,
   step-of-reads.Learnt,
@@ -1019,7 +946,6 @@ declarator-returns-11 : (t : ℕ) → declarator-lts.Need-returns-11 (
 ) (declarator-at t) declarator.Post
 declarator-returns-11 t c = call-fits _ _ _ _ _ _ (omega arith) _ (c .before .before .before .before .before .before .before .before .before .before .before .before .before .before .before .before .before .step-of .ensures) _ _ _ _ _ _ (c .before .before .before .before .before .before .before .before .before .before .before .before .before .before .before .l2 .given .1) _ _ (c .before .before .before .before .before .before .before .before .before .before .before .before .before .len4 .ensures) (c .before .before .before .before .before .before .before .before .before .before .before .len5 .ensures) (omega arith) _ _ (sym (c .before .before .before .before .before .before .before .u .given .1) ∙ c .before .before .before .before .before .before .before .before .before .arguments .ensures) _ _ _ (c .before .before .before .before .before .len6 .ensures) (omega arith) (sym (c .before .m2 .given .1) ∙ c .before .before .before .declarator2 .ensures)
 
--- src/lib.rt:259:43
 declarator-enum-known-why-2 : (t : ℕ) → declarator-lts.Need-enum-known-why-2 (
   step-of-reads.Asked,
   step-of-reads.Learnt,
@@ -1032,7 +958,6 @@ declarator-enum-known-why-2 : (t : ℕ) → declarator-lts.Need-enum-known-why-2
 ) (declarator-at t) declarator.Post
 declarator-enum-known-why-2 t c = search needs
 
--- src/lib.rt:260:29
 declarator-returns-12 : (t : ℕ) → declarator-lts.Need-returns-12 (
   step-of-reads.Asked,
   step-of-reads.Learnt,
@@ -1045,7 +970,6 @@ declarator-returns-12 : (t : ℕ) → declarator-lts.Need-returns-12 (
 ) (declarator-at t) declarator.Post
 declarator-returns-12 t c = call-is _ _ _ _ _ _ (omega arith) _ (c .before .before .before .before .before .before .before .before .before .before .before .before .before .before .before .before .before .step-of .ensures) _ _ _ _ _ _ (c .before .before .before .before .before .before .before .before .before .before .before .before .before .before .before .l2 .given .1) _ _ (c .before .before .before .before .before .before .before .before .before .before .before .before .before .len4 .ensures) (c .before .before .before .before .before .before .before .before .before .before .before .len5 .ensures) (omega arith) _ _ (sym (c .before .before .before .before .before .before .before .u .given .1) ∙ c .before .before .before .before .before .before .before .before .before .arguments .ensures) _ (measured.Refused _) (c .before .before .before .before .before .len6 .ensures) (omega arith) (sym (c .before .why2 .given .1) ∙ c .before .before .before .declarator2 .ensures)
 
--- src/lib.rt:264:35
 declarator-enum-known-why-3 : (t : ℕ) → declarator-lts.Need-enum-known-why-3 (
   step-of-reads.Asked,
   step-of-reads.Learnt,
@@ -1058,7 +982,6 @@ declarator-enum-known-why-3 : (t : ℕ) → declarator-lts.Need-enum-known-why-3
 ) (declarator-at t) declarator.Post
 declarator-enum-known-why-3 t c = search needs
 
--- src/lib.rt:265:21
 declarator-returns-13 : (t : ℕ) → declarator-lts.Need-returns-13 (
   step-of-reads.Asked,
   step-of-reads.Learnt,
@@ -1071,7 +994,6 @@ declarator-returns-13 : (t : ℕ) → declarator-lts.Need-returns-13 (
 ) (declarator-at t) declarator.Post
 declarator-returns-13 t c = call-refused _ _ _ _ _ _ (omega arith) _ (c .before .before .before .before .before .before .before .before .before .before .before .step-of .ensures) _ _ _ _ _ _ (c .before .before .before .before .before .before .before .before .before .l2 .given .1) _ _ (c .before .before .before .before .before .before .before .len4 .ensures) (c .before .before .before .before .before .len5 .ensures) (omega arith) _ (sym (c .before .why3 .given .1) ∙ c .before .before .before .arguments .ensures)
 
--- src/lib.rt:269:23
 declarator-enum-known-why-4 : (t : ℕ) → declarator-lts.Need-enum-known-why-4 (
   step-of-reads.Asked,
   step-of-reads.Learnt,
@@ -1084,7 +1006,6 @@ declarator-enum-known-why-4 : (t : ℕ) → declarator-lts.Need-enum-known-why-4
 ) (declarator-at t) declarator.Post
 declarator-enum-known-why-4 t c = search needs
 
--- src/lib.rt:270:13
 declarator-returns-14 : (t : ℕ) → declarator-lts.Need-returns-14 (
   step-of-reads.Asked,
   step-of-reads.Learnt,

@@ -1,3 +1,4 @@
+-- `declare_piece::count::decimal_len`, which calls itself, meets its contract: the digits left fall. Assumes nothing.
 use native.Mathlib.Omega.{arith}
 use mathlib.Core.Path.{ap, sym, _∙_}
 use Prim.Native.Nat.{_+_}
@@ -22,42 +23,36 @@ abbrev decimal-len-below : ℕ → In 0 decimal-len-kinds.ps
 decimal-len-below t =
     and 0 decimal-len-kinds.ps (falls 0 decimal-len-kinds.ps _<_ μ-decimal-len t) decimal-len.Pre
 
--- src/pieces.rt:89:9
 decimal-len-returns : (t : ℕ) → decimal-len-lts.Need-returns (
   decimal-len-below t,
   decimal-len.Post,
 ) (decimal-len-at t) decimal-len.Post
 decimal-len-returns t c = (sym (no-digit _ _ (omega arith)), omega arith)
 
--- src/pieces.rt:92:9
 decimal-len-returns-2 : (t : ℕ) → decimal-len-lts.Need-returns-2 (
   decimal-len-below t,
   decimal-len.Post,
 ) (decimal-len-at t) decimal-len.Post
 decimal-len-returns-2 t c = (sym (one-digit _ _ (omega arith) (omega arith)), omega arith)
 
--- src/pieces.rt:94:17
 decimal-len-sub-decimal-len : (t : ℕ) → decimal-len-lts.Need-sub-decimal-len (
   decimal-len-below t,
   decimal-len.Post,
 ) (decimal-len-at t) decimal-len.Post
 decimal-len-sub-decimal-len t c = omega arith
 
--- src/pieces.rt:94:5
 decimal-len-decimal-len-requires : (t : ℕ) → decimal-len-lts.Need-decimal-len-requires (
   decimal-len-below t,
   decimal-len.Post,
 ) (decimal-len-at t) decimal-len.Post
 decimal-len-decimal-len-requires t c κs = omega arith
 
--- src/pieces.rt:94:5
 decimal-len-add-result : (t : ℕ) → decimal-len-lts.Need-add-result (
   decimal-len-below t,
   decimal-len.Post,
 ) (decimal-len-at t) decimal-len.Post
 decimal-len-add-result t c = omega (arith, c .decimal-len .ensures .1, c .before .before .before .fits .k)
 
--- src/pieces.rt:85:1
 decimal-len-returns-3 : (t : ℕ) → decimal-len-lts.Need-returns-3 (
   decimal-len-below t,
   decimal-len.Post,

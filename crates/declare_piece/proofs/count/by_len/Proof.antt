@@ -1,3 +1,4 @@
+-- `declare_piece::count::by_len` meets its contract. Assumes nothing.
 use Rattle.declare_piece.proofs.PutLaws.{word-length}
 use borrow.Author.Needs.{needs}
 use Rattle.declare_piece.proofs.count.by_len.Statement.{statement}
@@ -6,11 +7,9 @@ use Rattle.declare_piece.proofs.count.by_len.Reads as reads
 use Rattle.declare_piece.proofs.count.by_len.Lts as lts
 use Rattle.declare_word.proofs.by.Reads as by-reads
 
--- src/pieces.rt:24:9
 by-requires : tie.Need-by-requires
 by-requires c κs = search needs
 
--- src/pieces.rt:21:1
 returns : tie.Need-returns
 returns c = word-length _ _ (c .by .ensures)
 

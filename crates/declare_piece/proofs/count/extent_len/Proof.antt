@@ -1,3 +1,4 @@
+-- `declare_piece::count::extent_len` meets its contract. Assumes nothing.
 use borrow.Author.Needs.{needs}
 use Rattle.declare_piece.proofs.count.extent_len.Statement.{statement}
 use Rattle.declare_piece.proofs.count.extent_len.Tie as tie
@@ -5,23 +6,18 @@ use Rattle.declare_piece.proofs.count.extent_len.Reads as reads
 use Rattle.declare_piece.proofs.count.extent_len.Lts as lts
 use Rattle.declare_piece.proofs.count.decimal_len.Reads as decimal-len-reads
 
--- src/pieces.rt:101:23
 enum-known-e : tie.Need-enum-known-e
 enum-known-e c = search needs
 
--- src/pieces.rt:101:29
 decimal-len-requires : tie.Need-decimal-len-requires
 decimal-len-requires c κs = search needs
 
--- src/pieces.rt:102:28
 enum-told : tie.Need-enum-told
 enum-told c = search needs
 
--- src/pieces.rt:97:1
 returns : tie.Need-returns
 returns c = rw (c .before .before .e .given .1) (c .decimal-len .ensures)
 
--- src/pieces.rt:97:1
 returns-2 : tie.Need-returns-2
 returns-2 c = search needs
 

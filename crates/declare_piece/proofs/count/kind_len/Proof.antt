@@ -1,3 +1,4 @@
+-- `declare_piece::count::kind_len` meets its contract. Assumes nothing.
 use Rattle.declare_piece.proofs.PutLaws.{word-length}
 use borrow.Author.Needs.{needs}
 use Rattle.declare_piece.proofs.count.kind_len.Statement.{statement}
@@ -6,11 +7,9 @@ use Rattle.declare_piece.proofs.count.kind_len.Reads as reads
 use Rattle.declare_piece.proofs.count.kind_len.Lts as lts
 use Rattle.declare_kind.proofs.kind.Reads as kind-reads
 
--- src/pieces.rt:16:9
 kind-requires : tie.Need-kind-requires
 kind-requires c κs = search needs
 
--- src/pieces.rt:13:1
 returns : tie.Need-returns
 returns c = word-length _ _ (c .kind .ensures)
 

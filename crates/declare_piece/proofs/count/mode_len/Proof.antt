@@ -1,3 +1,4 @@
+-- `declare_piece::count::mode_len` meets its contract. Assumes nothing.
 use Rattle.declare_piece.proofs.PutLaws.{word-length}
 use borrow.Author.Needs.{needs}
 use Rattle.declare_piece.proofs.count.mode_len.Statement.{statement}
@@ -6,11 +7,9 @@ use Rattle.declare_piece.proofs.count.mode_len.Reads as reads
 use Rattle.declare_piece.proofs.count.mode_len.Lts as lts
 use Rattle.declare_word.proofs.mode.Reads as mode-reads
 
--- src/pieces.rt:23:9
 mode-requires : tie.Need-mode-requires
 mode-requires c κs = search needs
 
--- src/pieces.rt:20:1
 returns : tie.Need-returns
 returns c = word-length _ _ (c .mode .ensures)
 

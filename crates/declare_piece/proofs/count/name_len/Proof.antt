@@ -1,3 +1,4 @@
+-- `declare_piece::count::name_len` meets its contract. Assumes nothing.
 use native.Mathlib.Omega.{arith}
 use Rattle.declare_piece.proofs.PieceLaws.{no-name, cut-name, whole-name}
 use borrow.Author.Needs.{needs}
@@ -6,19 +7,15 @@ use Rattle.declare_piece.proofs.count.name_len.Tie as tie
 use Rattle.declare_piece.proofs.count.name_len.Reads as reads
 use Rattle.declare_piece.proofs.count.name_len.Lts as lts
 
--- src/count.rt:77:9
 returns : tie.Need-returns
 returns c = (no-name (c .before .args .s .now) (c .before .args .p) (c .before .args .n) (omega arith), omega arith)
 
--- src/count.rt:79:16
 sub-rest : tie.Need-sub-rest
 sub-rest c = search needs
 
--- src/count.rt:81:9
 returns-2 : tie.Need-returns-2
 returns-2 c = (cut-name (c .before .before .args .s .now) (c .before .before .args .p) (c .before .before .args .n) (omega arith), omega arith)
 
--- src/count.rt:73:1
 returns-3 : tie.Need-returns-3
 returns-3 c = (whole-name (c .before .before .args .s .now) (c .before .before .args .p) (c .before .before .args .n) (omega arith), omega arith)
 

@@ -1,3 +1,4 @@
+-- `declare_piece::count::piece_len` meets its contract. Assumes nothing.
 use Rattle.declare_piece.specs.Pieces.{textOf}
 use Rattle.declare_piece.proofs.PieceLaws.{pointer-length, primitive-length, pointed-length, tag-length, extent-length, begin-length, end-length}
 use borrow.Author.Needs.{needs}
@@ -16,223 +17,169 @@ use Rattle.declare_piece.proofs.count.quals_in_len.Reads as quals-in-le
 use Rattle.declare_piece.proofs.count.quals_len.Reads as quals-len-reads
 use Rattle.declare_piece.proofs.count.spaced_len.Reads as spaced-len-reads
 
--- src/count.rt:122:27
 enum-told : tie.Need-enum-told
 enum-told c = search needs
 
--- src/count.rt:123:24
 enum-told-2 : tie.Need-enum-told-2
 enum-told-2 c = search needs
 
--- src/count.rt:124:24
 enum-known-p : tie.Need-enum-known-p
 enum-known-p c = search needs
 
--- src/count.rt:124:36
 mode-len-requires : tie.Need-mode-len-requires
 mode-len-requires c κs = search needs
 
--- src/count.rt:124:66
 quals-len-requires : tie.Need-quals-len-requires
 quals-len-requires c κs = search needs
 
--- src/count.rt:124:50
 quals-in-len-requires : tie.Need-quals-in-len-requires
 quals-in-len-requires c κs = search needs
 
--- src/count.rt:124:36
 add-result : tie.Need-add-result
 add-result c = search needs
 
--- src/count.rt:125:26
 enum-known-p-2 : tie.Need-enum-known-p-2
 enum-known-p-2 c = search needs
 
--- src/count.rt:125:49
 quals-len-requires-2 : tie.Need-quals-len-requires-2
 quals-len-requires-2 c κs = search needs
 
--- src/count.rt:125:38
 spaced-len-requires : tie.Need-spaced-len-requires
 spaced-len-requires c κs = search needs
 
--- src/count.rt:125:65
 kind-len-requires : tie.Need-kind-len-requires
 kind-len-requires c κs = search needs
 
--- src/count.rt:125:38
 add-result-2 : tie.Need-add-result-2
 add-result-2 c = search needs
 
--- src/count.rt:125:79
 gap-len-requires : tie.Need-gap-len-requires
 gap-len-requires c κs = search needs
 
--- src/count.rt:125:38
 add-result-3 : tie.Need-add-result-3
 add-result-3 c = search needs
 
--- src/count.rt:126:24
 enum-known-p-3 : tie.Need-enum-known-p-3
 enum-known-p-3 c = search needs
 
--- src/count.rt:126:39
 kind-len-requires-2 : tie.Need-kind-len-requires-2
 kind-len-requires-2 c κs = search needs
 
--- src/count.rt:126:39
 add-result-4 : tie.Need-add-result-4
 add-result-4 c = search needs
 
--- src/count.rt:126:57
 by-len-requires : tie.Need-by-len-requires
 by-len-requires c κs = search needs
 
--- src/count.rt:126:39
 add-result-5 : tie.Need-add-result-5
 add-result-5 c = search needs
 
--- src/count.rt:126:85
 quals-len-requires-3 : tie.Need-quals-len-requires-3
 quals-len-requires-3 c κs = search needs
 
--- src/count.rt:126:69
 quals-in-len-requires-2 : tie.Need-quals-in-len-requires-2
 quals-in-len-requires-2 c κs = search needs
 
--- src/count.rt:126:39
 add-result-6 : tie.Need-add-result-6
 add-result-6 c = search needs
 
--- src/count.rt:127:20
 enum-known-p-4 : tie.Need-enum-known-p-4
 enum-known-p-4 c = search needs
 
--- src/count.rt:127:46
 quals-len-requires-4 : tie.Need-quals-len-requires-4
 quals-len-requires-4 c κs = search needs
 
--- src/count.rt:127:35
 spaced-len-requires-2 : tie.Need-spaced-len-requires-2
 spaced-len-requires-2 c κs = search needs
 
--- src/count.rt:127:62
 name-len-requires : tie.Need-name-len-requires
 name-len-requires c κs = search needs
 
--- src/count.rt:127:35
 add-result-7 : tie.Need-add-result-7
 add-result-7 c = search needs
 
--- src/count.rt:127:82
 gap-len-requires-2 : tie.Need-gap-len-requires-2
 gap-len-requires-2 c κs = search needs
 
--- src/count.rt:127:35
 add-result-8 : tie.Need-add-result-8
 add-result-8 c = search needs
 
--- src/count.rt:128:23
 enum-known-p-5 : tie.Need-enum-known-p-5
 enum-known-p-5 c = search needs
 
--- src/count.rt:128:32
 closing-len-requires : tie.Need-closing-len-requires
 closing-len-requires c κs = search needs
 
--- src/count.rt:128:32
 add-result-9 : tie.Need-add-result-9
 add-result-9 c = search needs
 
--- src/count.rt:128:53
 extent-len-requires : tie.Need-extent-len-requires
 extent-len-requires c κs = search needs
 
--- src/count.rt:128:32
 add-result-10 : tie.Need-add-result-10
 add-result-10 c = search needs
 
--- src/count.rt:129:22
 enum-known-p-6 : tie.Need-enum-known-p-6
 enum-known-p-6 c = search needs
 
--- src/count.rt:129:28
 closing-len-requires-2 : tie.Need-closing-len-requires-2
 closing-len-requires-2 c κs = search needs
 
--- src/count.rt:129:28
 add-result-11 : tie.Need-add-result-11
 add-result-11 c = search needs
 
--- src/count.rt:130:25
 enum-told-3 : tie.Need-enum-told-3
 enum-told-3 c = search needs
 
--- src/count.rt:131:24
 enum-told-4 : tie.Need-enum-told-4
 enum-told-4 c = search needs
 
--- src/count.rt:132:20
 enum-known-p-7 : tie.Need-enum-known-p-7
 enum-known-p-7 c = search needs
 
--- src/count.rt:132:41
 quals-len-requires-5 : tie.Need-quals-len-requires-5
 quals-len-requires-5 c κs = search needs
 
--- src/count.rt:132:30
 spaced-len-requires-3 : tie.Need-spaced-len-requires-3
 spaced-len-requires-3 c κs = search needs
 
--- src/count.rt:132:26
 add-result-12 : tie.Need-add-result-12
 add-result-12 c = search needs
 
--- src/count.rt:118:1
 returns : tie.Need-returns
 unfolding textOf
 returns c = rw (c .enum-told .given .1)
 
--- src/count.rt:118:1
 returns-2 : tie.Need-returns-2
 unfolding textOf
 returns-2 c = rw (c .enum-told2 .given .1)
 
--- src/count.rt:118:1
 returns-3 : tie.Need-returns-3
 returns-3 c = pointer-length _ _ _ _ _ _ _ _ (c .before .before .before .before .p .given .1) (c .before .before .mode-len .ensures .0) (c .quals-in-len .ensures .0) (c .before .quals-len .ensures .0)
 
--- src/count.rt:118:1
 returns-4 : tie.Need-returns-4
 returns-4 c = primitive-length _ _ _ _ _ _ _ _ _ (c .before .before .before .before .before .p2 .given .1) (c .before .before .spaced-len .ensures .0) (c .before .before .before .quals-len2 .ensures .0) (c .before .kind-len .ensures .0) (c .gap-len .ensures .0)
 
--- src/count.rt:118:1
 returns-5 : tie.Need-returns-5
 returns-5 c = pointed-length _ _ _ _ _ _ _ _ _ _ (c .before .before .before .before .before .p3 .given .1) (c .before .before .before .kind-len2 .ensures .0) (c .before .before .by-len .ensures .0) (c .quals-in-len2 .ensures .0) (c .before .quals-len3 .ensures .0)
 
--- src/count.rt:118:1
 returns-6 : tie.Need-returns-6
 returns-6 c = tag-length _ _ _ _ _ _ _ _ _ _ (c .before .before .before .before .before .p4 .given .1) (c .before .before .spaced-len2 .ensures .0) (c .before .before .before .quals-len4 .ensures .0) (c .before .name-len .ensures .0) (c .gap-len2 .ensures .0)
 
--- src/count.rt:118:1
 returns-7 : tie.Need-returns-7
 returns-7 c = extent-length _ _ _ _ _ _ (c .before .before .before .p5 .given .1) (c .before .closing-len .ensures .0) (c .extent-len .ensures .0)
 
--- src/count.rt:118:1
 returns-8 : tie.Need-returns-8
 returns-8 c = begin-length _ _ _ _ (c .before .before .p6 .given .1) (c .closing-len2 .ensures .0)
 
--- src/count.rt:118:1
 returns-9 : tie.Need-returns-9
 unfolding textOf
 returns-9 c = rw (c .enum-told3 .given .1)
 
--- src/count.rt:118:1
 returns-10 : tie.Need-returns-10
 unfolding textOf
 returns-10 c = rw (c .enum-told4 .given .1)
 
--- src/count.rt:118:1
 returns-11 : tie.Need-returns-11
 returns-11 c = end-length _ _ _ _ _ (c .before .before .before .p7 .given .1) (c .spaced-len3 .ensures .0) (c .before .quals-len5 .ensures .0)
 

@@ -1,3 +1,4 @@
+-- `declare_piece::count::quals_in_len` meets its contract. Assumes nothing.
 use borrow.Author.Needs.{needs}
 use Rattle.declare_piece.proofs.count.quals_in_len.Statement.{statement}
 use Rattle.declare_piece.proofs.count.quals_in_len.Tie as tie
@@ -5,15 +6,12 @@ use Rattle.declare_piece.proofs.count.quals_in_len.Reads as reads
 use Rattle.declare_piece.proofs.count.quals_in_len.Lts as lts
 use Rattle.declare_piece.proofs.count.spaced_len.Reads as spaced-len-reads
 
--- src/count.rt:58:9
 returns : tie.Need-returns
 returns c = search needs
 
--- src/count.rt:60:5
 spaced-len-requires : tie.Need-spaced-len-requires
 spaced-len-requires c κs = search needs
 
--- src/count.rt:53:1
 returns-2 : tie.Need-returns-2
 returns-2 c = rw (c .before .if1 .left) (c .spaced-len .ensures)
 

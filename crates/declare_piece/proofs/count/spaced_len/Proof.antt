@@ -1,3 +1,4 @@
+-- `declare_piece::count::spaced_len` meets its contract. Assumes nothing.
 use native.Mathlib.Omega.{arith}
 use mathlib.Core.Path.{refl}
 use borrow.Author.Tests.{ne-eqb}
@@ -7,15 +8,12 @@ use Rattle.declare_piece.proofs.count.spaced_len.Tie as tie
 use Rattle.declare_piece.proofs.count.spaced_len.Reads as reads
 use Rattle.declare_piece.proofs.count.spaced_len.Lts as lts
 
--- src/pieces.rt:69:9
 returns : tie.Need-returns
 returns c = rw (c .if1 .taken) (refl, omega arith)
 
--- src/pieces.rt:71:5
 add-result : tie.Need-add-result
 add-result c = search needs
 
--- src/pieces.rt:64:1
 returns-2 : tie.Need-returns-2
 returns-2 c = rw (ne-eqb _ _ (c .if1 .left)) (refl, omega arith)
 

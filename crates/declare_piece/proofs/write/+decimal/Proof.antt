@@ -1,3 +1,4 @@
+-- `declare_piece::write::decimal`, which calls itself, meets its contract: the digits left fall. Assumes nothing.
 use native.Mathlib.Omega.{arith}
 use borrow.Author.Needs.{needs}
 use mathlib.Core.Path.{sym}
@@ -22,7 +23,6 @@ decimal-at t = and 1 decimal-kinds.ps (is 1 decimal-kinds.ps μ-decimal t) decim
 abbrev decimal-below : ℕ → In 1 decimal-kinds.ps
 decimal-below t = and 1 decimal-kinds.ps (falls 1 decimal-kinds.ps _<_ μ-decimal t) decimal.Pre
 
--- src/put.rt:112:9
 decimal-returns : (t : ℕ) → decimal-lts.Need-returns (
   byte-reads.Asked,
   byte-reads.Learnt,
@@ -31,7 +31,6 @@ decimal-returns : (t : ℕ) → decimal-lts.Need-returns (
 ) (decimal-at t) decimal.Post
 decimal-returns t c = puts-as _ _ _ _ _ _ (sym (decimal-none _ _ (c .if1 .taken))) (puts-none _ _)
 
--- src/put.rt:115:36
 decimal-cast-byte : (t : ℕ) → decimal-lts.Need-cast-byte (
   byte-reads.Asked,
   byte-reads.Learnt,
@@ -40,7 +39,6 @@ decimal-cast-byte : (t : ℕ) → decimal-lts.Need-cast-byte (
 ) (decimal-at t) decimal.Post
 decimal-cast-byte t c = omega arith
 
--- src/put.rt:115:30
 decimal-add-byte : (t : ℕ) → decimal-lts.Need-add-byte (
   byte-reads.Asked,
   byte-reads.Learnt,
@@ -49,7 +47,6 @@ decimal-add-byte : (t : ℕ) → decimal-lts.Need-add-byte (
 ) (decimal-at t) decimal.Post
 decimal-add-byte t c = omega arith
 
--- src/put.rt:115:9
 decimal-byte-requires : (t : ℕ) → decimal-lts.Need-byte-requires (
   byte-reads.Asked,
   byte-reads.Learnt,
@@ -58,7 +55,6 @@ decimal-byte-requires : (t : ℕ) → decimal-lts.Need-byte-requires (
 ) (decimal-at t) decimal.Post
 decimal-byte-requires t c κs = fits-as _ _ _ _ (decimal-one (c .before .before .before .before .args .k) (c .before .before .before .before .args .n) (omega arith) (omega arith)) (c .before .before .before .before .pre .1)
 
--- src/put.rt:115:9
 decimal-same-length : (t : ℕ) → decimal-lts.Need-same-length (
   byte-reads.Asked,
   byte-reads.Learnt,
@@ -67,7 +63,6 @@ decimal-same-length : (t : ℕ) → decimal-lts.Need-same-length (
 ) (decimal-at t) decimal.Post
 decimal-same-length t c = search needs
 
--- src/put.rt:115:9
 decimal-returns-2 : (t : ℕ) → decimal-lts.Need-returns-2 (
   byte-reads.Asked,
   byte-reads.Learnt,
@@ -76,7 +71,6 @@ decimal-returns-2 : (t : ℕ) → decimal-lts.Need-returns-2 (
 ) (decimal-at t) decimal.Post
 decimal-returns-2 t c = puts-as _ _ _ _ _ _ (sym (decimal-one _ _ (omega arith) (omega arith))) (c .before .before .byte .ensures)
 
--- src/put.rt:117:30
 decimal-sub-decimal : (t : ℕ) → decimal-lts.Need-sub-decimal (
   byte-reads.Asked,
   byte-reads.Learnt,
@@ -85,7 +79,6 @@ decimal-sub-decimal : (t : ℕ) → decimal-lts.Need-sub-decimal (
 ) (decimal-at t) decimal.Post
 decimal-sub-decimal t c = omega arith
 
--- src/put.rt:117:9
 decimal-decimal-requires : (t : ℕ) → decimal-lts.Need-decimal-requires (
   byte-reads.Asked,
   byte-reads.Learnt,
@@ -94,7 +87,6 @@ decimal-decimal-requires : (t : ℕ) → decimal-lts.Need-decimal-requires (
 ) (decimal-at t) decimal.Post
 decimal-decimal-requires t c κs = (omega arith, fits-first _ _ _ _ (fits-as _ _ _ _ (more-is (c .before .before .before .before .args .k) (c .before .before .before .before .args .n) (omega arith) (omega arith)) (c .before .before .before .before .pre .1)))
 
--- src/put.rt:118:24
 decimal-cast-byte-2 : (t : ℕ) → decimal-lts.Need-cast-byte-2 (
   byte-reads.Asked,
   byte-reads.Learnt,
@@ -103,7 +95,6 @@ decimal-cast-byte-2 : (t : ℕ) → decimal-lts.Need-cast-byte-2 (
 ) (decimal-at t) decimal.Post
 decimal-cast-byte-2 t c = omega arith
 
--- src/put.rt:118:18
 decimal-add-byte-2 : (t : ℕ) → decimal-lts.Need-add-byte-2 (
   byte-reads.Asked,
   byte-reads.Learnt,
@@ -112,7 +103,6 @@ decimal-add-byte-2 : (t : ℕ) → decimal-lts.Need-add-byte-2 (
 ) (decimal-at t) decimal.Post
 decimal-add-byte-2 t c = omega arith
 
--- src/put.rt:118:5
 decimal-byte-requires-2 : (t : ℕ) → decimal-lts.Need-byte-requires-2 (
   byte-reads.Asked,
   byte-reads.Learnt,
@@ -121,7 +111,6 @@ decimal-byte-requires-2 : (t : ℕ) → decimal-lts.Need-byte-requires-2 (
 ) (decimal-at t) decimal.Post
 decimal-byte-requires-2 t c κs = fits-second _ _ _ _ _ _ (fits-as _ _ _ _ (more-is (c .before .before .before .before .before .before .before .before .args .k) (c .before .before .before .before .before .before .before .before .args .n) (omega arith) (omega arith)) (c .before .before .before .before .before .before .before .before .pre .1)) (c .before .before .before .decimal .ensures)
 
--- src/put.rt:107:1
 decimal-same-length-2 : (t : ℕ) → decimal-lts.Need-same-length-2 (
   byte-reads.Asked,
   byte-reads.Learnt,
@@ -130,7 +119,6 @@ decimal-same-length-2 : (t : ℕ) → decimal-lts.Need-same-length-2 (
 ) (decimal-at t) decimal.Post
 decimal-same-length-2 t c = search needs
 
--- src/put.rt:107:1
 decimal-returns-3 : (t : ℕ) → decimal-lts.Need-returns-3 (
   byte-reads.Asked,
   byte-reads.Learnt,

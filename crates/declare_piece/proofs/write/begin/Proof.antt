@@ -1,3 +1,4 @@
+-- `declare_piece::write::begin` meets its contract. Assumes nothing.
 use Rattle.declare_piece.proofs.PutLaws.{puts-two, fits-first, fits-second}
 use borrow.Author.Needs.{needs}
 use Rattle.declare_piece.proofs.write.begin.Statement.{statement}
@@ -7,19 +8,15 @@ use Rattle.declare_piece.proofs.write.begin.Lts as lts
 use Rattle.declare_piece.proofs.write.byte.Reads as byte-reads
 use Rattle.declare_piece.proofs.write.closed.Reads as closed-reads
 
--- src/put.rt:192:9
 closed-requires : tie.Need-closed-requires
 closed-requires c κs = fits-first _ _ _ _ (c .before .before .pre)
 
--- src/put.rt:193:5
 byte-requires : tie.Need-byte-requires
 byte-requires c κs = fits-second _ _ _ _ _ _ (c .before .before .before .before .before .before .pre) (c .before .before .before .closed .ensures)
 
--- src/put.rt:188:1
 same-length : tie.Need-same-length
 same-length c = search needs
 
--- src/put.rt:188:1
 returns : tie.Need-returns
 returns c = puts-two _ _ _ _ _ _ _ _ (c .before .before .before .before .before .before .closed .ensures) (c .before .before .byte .ensures)
 

@@ -1,3 +1,4 @@
+-- `declare_piece::write::behind` meets its contract. Assumes nothing.
 use mathlib.Core.Path.{sym, _∙_}
 use Rattle.declare_word.specs.Spellings.{qualsText}
 use Rattle.declare_piece.proofs.PutLaws.{puts-none, puts-as, puts-two, fits-as, fits-first, fits-second, behind-none, behind-some}
@@ -10,27 +11,21 @@ use Rattle.declare_piece.proofs.count.quals_len.Reads as quals-len-read
 use Rattle.declare_piece.proofs.write.byte.Reads as byte-reads
 use Rattle.declare_piece.proofs.write.quals.Reads as quals-reads
 
--- src/write.rt:110:9
 quals-len-requires : tie.Need-quals-len-requires
 quals-len-requires c κs = search needs
 
--- src/write.rt:112:9
 returns : tie.Need-returns
 returns c = puts-as _ _ _ _ _ _ (sym (behind-none (qualsText (c .before .before .before .args .q)) (sym (c .before .quals-len .ensures .0) ∙ c .if1 .taken))) (puts-none _ _)
 
--- src/write.rt:114:9
 byte-requires : tie.Need-byte-requires
 byte-requires c κs = fits-first _ _ _ _ (fits-as _ _ _ _ (behind-some (qualsText (c .before .before .before .before .args .q)) (λ e. c .before .if1 .left (c .before .before .quals-len .ensures .0 ∙ e))) (c .before .before .before .before .pre))
 
--- src/write.rt:115:5
 quals-requires : tie.Need-quals-requires
 quals-requires c κs = fits-second _ _ _ _ _ _ (fits-as _ _ _ _ (behind-some (qualsText (c .before .before .before .before .before .before .before .before .args .q)) (λ e. c .before .before .before .before .before .if1 .left (c .before .before .before .before .before .before .quals-len .ensures .0 ∙ e))) (c .before .before .before .before .before .before .before .before .pre)) (c .before .before .before .byte .ensures)
 
--- src/write.rt:106:1
 same-length : tie.Need-same-length
 same-length c = search needs
 
--- src/write.rt:106:1
 returns-2 : tie.Need-returns-2
 returns-2 c = puts-as _ _ _ _ _ _ (sym (behind-some (qualsText (c .before .before .before .before .before .before .before .before .before .before .before .args .q)) (λ e. c .before .before .before .before .before .before .before .before .if1 .left (c .before .before .before .before .before .before .before .before .before .quals-len .ensures .0 ∙ e)))) (puts-two _ _ _ _ _ _ _ _ (c .before .before .before .before .before .before .byte .ensures) (c .before .before .quals .ensures))
 

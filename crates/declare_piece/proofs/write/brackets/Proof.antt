@@ -1,3 +1,4 @@
+-- `declare_piece::write::brackets` meets its contract. Assumes nothing.
 use Rattle.declare_piece.proofs.PutLaws.{puts-two, fits-first, fits-second}
 use borrow.Author.Needs.{needs}
 use Rattle.declare_piece.proofs.write.brackets.Statement.{statement}
@@ -8,27 +9,21 @@ use Rattle.declare_piece.proofs.write.byte.Reads as byte-reads
 use Rattle.declare_piece.proofs.write.closed.Reads as closed-reads
 use Rattle.declare_piece.proofs.write.extent.Reads as extent-reads
 
--- src/put.rt:182:9
 closed-requires : tie.Need-closed-requires
 closed-requires c κs = fits-first _ _ _ _ (fits-first _ _ _ _ (fits-first _ _ _ _ (c .before .before .pre)))
 
--- src/put.rt:183:9
 byte-requires : tie.Need-byte-requires
 byte-requires c κs = fits-second _ _ _ _ _ _ (fits-first _ _ _ _ (fits-first _ _ _ _ (c .before .before .before .before .before .before .pre))) (c .before .before .before .closed .ensures)
 
--- src/put.rt:184:9
 extent-requires : tie.Need-extent-requires
 extent-requires c κs = fits-second _ _ _ _ _ _ (fits-first _ _ _ _ (c .before .before .before .before .before .before .before .before .before .before .pre)) (puts-two _ _ _ _ _ _ _ _ (c .before .before .before .before .before .before .before .closed .ensures) (c .before .before .before .byte .ensures))
 
--- src/put.rt:185:5
 byte-requires-2 : tie.Need-byte-requires-2
 byte-requires-2 c κs = fits-second _ _ _ _ _ _ (c .before .before .before .before .before .before .before .before .before .before .before .before .before .before .pre) (puts-two _ _ _ _ _ _ _ _ (puts-two _ _ _ _ _ _ _ _ (c .before .before .before .before .before .before .before .before .before .before .before .closed .ensures) (c .before .before .before .before .before .before .before .byte .ensures)) (c .before .before .before .extent .ensures))
 
--- src/put.rt:178:1
 same-length : tie.Need-same-length
 same-length c = search needs
 
--- src/put.rt:178:1
 returns : tie.Need-returns
 returns c = puts-two _ _ _ _ _ _ _ _ (puts-two _ _ _ _ _ _ _ _ (puts-two _ _ _ _ _ _ _ _ (c .before .before .before .before .before .before .before .before .before .before .before .before .before .before .closed .ensures) (c .before .before .before .before .before .before .before .before .before .before .byte .ensures)) (c .before .before .before .before .before .before .extent .ensures)) (c .before .before .byte2 .ensures)
 

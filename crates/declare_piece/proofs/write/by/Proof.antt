@@ -1,3 +1,4 @@
+-- `declare_piece::write::by` meets its contract. Assumes nothing.
 use Rattle.declare_piece.proofs.PutLaws.{word-fits, word-puts}
 use borrow.Author.Needs.{needs}
 use Rattle.declare_piece.proofs.write.by.Statement.{statement}
@@ -7,19 +8,15 @@ use Rattle.declare_piece.proofs.write.by.Lts as lts
 use Rattle.declare_piece.proofs.write.word.Reads as word-reads
 use Rattle.declare_word.proofs.by.Reads as by-reads
 
--- src/put.rt:50:19
 by-requires : tie.Need-by-requires
 by-requires c κs = search needs
 
--- src/put.rt:50:5
 word-requires : tie.Need-word-requires
 word-requires c κs = word-fits _ _ _ _ (c .by .ensures) (c .before .before .before .pre)
 
--- src/put.rt:46:1
 same-length : tie.Need-same-length
 same-length c = search needs
 
--- src/put.rt:46:1
 returns : tie.Need-returns
 returns c = word-puts _ _ _ _ _ _ (c .before .before .before .by .ensures) (c .before .before .word .ensures)
 

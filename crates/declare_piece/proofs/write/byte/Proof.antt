@@ -1,3 +1,4 @@
+-- `declare_piece::write::byte` meets its contract. Assumes nothing.
 use native.Mathlib.Omega.{arith}
 use Rattle.declare_piece.proofs.PutLaws.{byte-puts}
 use borrow.Author.Needs.{needs}
@@ -6,19 +7,15 @@ use Rattle.declare_piece.proofs.write.byte.Tie as tie
 use Rattle.declare_piece.proofs.write.byte.Reads as reads
 use Rattle.declare_piece.proofs.write.byte.Lts as lts
 
--- src/put.rt:63:5
 slice-write-out : tie.Need-slice-write-out
 slice-write-out c = omega (arith, c .pre .room)
 
--- src/put.rt:64:5
 add-result : tie.Need-add-result
 add-result c = search needs
 
--- src/put.rt:59:1
 same-length : tie.Need-same-length
 same-length c = search needs
 
--- src/put.rt:59:1
 returns : tie.Need-returns
 returns c = byte-puts _ _ _
 

@@ -1,3 +1,4 @@
+-- `declare_piece::write::closed` meets its contract. Assumes nothing.
 use Rattle.declare_piece.proofs.PutLaws.{puts-none}
 use borrow.Author.Needs.{needs}
 use Rattle.declare_piece.proofs.write.closed.Statement.{statement}
@@ -6,19 +7,15 @@ use Rattle.declare_piece.proofs.write.closed.Reads as reads
 use Rattle.declare_piece.proofs.write.closed.Lts as lts
 use Rattle.declare_piece.proofs.write.byte.Reads as byte-reads
 
--- src/put.rt:140:9
 byte-requires : tie.Need-byte-requires
 byte-requires c κs = rw (c .before .if1 .taken) at (c .before .before .before .pre)
 
--- src/put.rt:140:9
 same-length : tie.Need-same-length
 same-length c = search needs
 
--- src/put.rt:140:9
 returns : tie.Need-returns
 returns c = rw (c .before .before .before .before .if1 .taken) (c .before .before .byte .ensures)
 
--- src/put.rt:135:1
 returns-2 : tie.Need-returns-2
 returns-2 c = rw (c .if1 .left) (puts-none _ _)
 

@@ -1,3 +1,4 @@
+-- `declare_piece::write::end` meets its contract. Assumes nothing.
 use Rattle.declare_piece.proofs.PutLaws.{fits-first, fits-second, puts-two}
 use borrow.Author.Needs.{needs}
 use Rattle.declare_piece.proofs.write.end.Statement.{statement}
@@ -7,19 +8,15 @@ use Rattle.declare_piece.proofs.write.end.Lts as lts
 use Rattle.declare_piece.proofs.write.behind.Reads as behind-reads
 use Rattle.declare_piece.proofs.write.byte.Reads as byte-reads
 
--- src/write.rt:238:9
 byte-requires : tie.Need-byte-requires
 byte-requires c κs = fits-first _ _ _ _ (c .before .before .pre)
 
--- src/write.rt:239:5
 behind-requires : tie.Need-behind-requires
 behind-requires c κs = fits-second _ _ _ _ _ _ (c .before .before .before .before .before .before .pre) (c .before .before .before .byte .ensures)
 
--- src/write.rt:234:1
 same-length : tie.Need-same-length
 same-length c = search needs
 
--- src/write.rt:234:1
 returns : tie.Need-returns
 returns c = puts-two _ _ _ _ _ _ _ _ (c .before .before .before .before .before .before .byte .ensures) (c .before .before .behind .ensures)
 

@@ -1,3 +1,4 @@
+-- `declare_piece::write::end_quals` meets its contract. Assumes nothing.
 use borrow.Author.Tests.{eq-eqb, ne-eqb}
 use Rattle.declare_piece.proofs.PutLaws.{puts-none}
 use borrow.Author.Needs.{needs}
@@ -7,23 +8,18 @@ use Rattle.declare_piece.proofs.write.end_quals.Reads as reads
 use Rattle.declare_piece.proofs.write.end_quals.Lts as lts
 use Rattle.declare_piece.proofs.write.byte.Reads as byte-reads
 
--- src/write.rt:78:9
 returns : tie.Need-returns
 returns c = rw (c .if1 .taken) (puts-none _ _)
 
--- src/write.rt:81:9
 returns-2 : tie.Need-returns-2
 returns-2 c = rw (c .before .if1 .left, eq-eqb _ _ (c .if2 .taken)) (puts-none _ _)
 
--- src/write.rt:83:5
 byte-requires : tie.Need-byte-requires
 byte-requires c κs = rw (c .before .before .if1 .left, ne-eqb _ _ (c .before .if2 .left)) at (c .before .before .before .before .pre)
 
--- src/write.rt:73:1
 same-length : tie.Need-same-length
 same-length c = search needs
 
--- src/write.rt:73:1
 returns-3 : tie.Need-returns-3
 returns-3 c = rw (c .before .before .before .before .before .if1 .left, ne-eqb _ _ (c .before .before .before .before .if2 .left)) (c .before .before .byte .ensures)
 

@@ -1,3 +1,4 @@
+-- `declare_piece::write::gap` meets its contract. Assumes nothing.
 use Rattle.declare_piece.proofs.PutLaws.{puts-none}
 use borrow.Author.Needs.{needs}
 use Rattle.declare_piece.proofs.write.gap.Statement.{statement}
@@ -6,19 +7,15 @@ use Rattle.declare_piece.proofs.write.gap.Reads as reads
 use Rattle.declare_piece.proofs.write.gap.Lts as lts
 use Rattle.declare_piece.proofs.write.byte.Reads as byte-reads
 
--- src/write.rt:100:9
 returns : tie.Need-returns
 returns c = rw (c .if1 .taken) (puts-none _ _)
 
--- src/write.rt:102:5
 byte-requires : tie.Need-byte-requires
 byte-requires c κs = rw (c .before .if1 .left) at (c .before .before .before .pre)
 
--- src/write.rt:95:1
 same-length : tie.Need-same-length
 same-length c = search needs
 
--- src/write.rt:95:1
 returns-2 : tie.Need-returns-2
 returns-2 c = rw (c .before .before .before .before .if1 .left) (c .before .before .byte .ensures)
 

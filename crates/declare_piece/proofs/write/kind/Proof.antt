@@ -1,3 +1,4 @@
+-- `declare_piece::write::kind` meets its contract. Assumes nothing.
 use Rattle.declare_piece.proofs.PutLaws.{word-fits, word-puts}
 use borrow.Author.Needs.{needs}
 use Rattle.declare_piece.proofs.write.kind.Statement.{statement}
@@ -7,19 +8,15 @@ use Rattle.declare_piece.proofs.write.kind.Lts as lts
 use Rattle.declare_piece.proofs.write.word.Reads as word-reads
 use Rattle.declare_kind.proofs.kind.Reads as kind-reads
 
--- src/put.rt:40:19
 kind-requires : tie.Need-kind-requires
 kind-requires c κs = search needs
 
--- src/put.rt:40:5
 word-requires : tie.Need-word-requires
 word-requires c κs = word-fits _ _ _ _ (c .kind .ensures) (c .before .before .before .pre)
 
--- src/put.rt:36:1
 same-length : tie.Need-same-length
 same-length c = search needs
 
--- src/put.rt:36:1
 returns : tie.Need-returns
 returns c = word-puts _ _ _ _ _ _ (c .before .before .before .kind .ensures) (c .before .before .word .ensures)
 

@@ -1,3 +1,4 @@
+-- `declare_piece::write::mode` meets its contract. Assumes nothing.
 use Rattle.declare_piece.proofs.PutLaws.{word-fits, word-puts}
 use borrow.Author.Needs.{needs}
 use Rattle.declare_piece.proofs.write.mode.Statement.{statement}
@@ -7,19 +8,15 @@ use Rattle.declare_piece.proofs.write.mode.Lts as lts
 use Rattle.declare_piece.proofs.write.word.Reads as word-reads
 use Rattle.declare_word.proofs.mode.Reads as mode-reads
 
--- src/put.rt:47:19
 mode-requires : tie.Need-mode-requires
 mode-requires c κs = search needs
 
--- src/put.rt:47:5
 word-requires : tie.Need-word-requires
 word-requires c κs = word-fits _ _ _ _ (c .mode .ensures) (c .before .before .before .pre)
 
--- src/put.rt:43:1
 same-length : tie.Need-same-length
 same-length c = search needs
 
--- src/put.rt:43:1
 returns : tie.Need-returns
 returns c = word-puts _ _ _ _ _ _ (c .before .before .before .mode .ensures) (c .before .before .word .ensures)
 

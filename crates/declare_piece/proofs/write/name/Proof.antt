@@ -1,3 +1,4 @@
+-- `declare_piece::write::name` meets its contract. Assumes nothing.
 use native.Mathlib.Omega.{arith}
 use mathlib.Core.Path.{sym}
 use Rattle.declare_piece.proofs.PutLaws.{puts-none, puts-as, fits-as, name-none, name-cut, name-whole}
@@ -8,55 +9,42 @@ use Rattle.declare_piece.proofs.write.name.Reads as reads
 use Rattle.declare_piece.proofs.write.name.Lts as lts
 use Rattle.declare_piece.proofs.write.text.Reads as text-reads
 
--- src/write.rt:125:9
 returns : tie.Need-returns
 returns c = puts-as _ _ _ _ _ _ (sym (name-none (c .before .before .before .args .s .now) (c .before .before .before .args .p) (c .before .before .before .args .n) (omega arith))) (puts-none _ _)
 
--- src/write.rt:128:30
 part-text-start : tie.Need-part-text-start
 part-text-start c = search needs
 
--- src/write.rt:128:30
 part-text-end : tie.Need-part-text-end
 part-text-end c = search needs
 
--- src/write.rt:128:9
 text-requires : tie.Need-text-requires
 text-requires c κs = fits-as _ _ _ _ (sym (name-cut (c .before .before .before .before .before .before .args .s .now) (c .before .before .before .before .before .before .args .p) (c .before .before .before .before .before .before .args .n) (omega arith))) (c .before .before .before .before .before .before .pre)
 
--- src/write.rt:128:9
 same-length : tie.Need-same-length
 same-length c = search needs
 
--- src/write.rt:128:9
 returns-2 : tie.Need-returns-2
 returns-2 c = puts-as _ _ _ _ _ _ (name-cut (c .before .before .before .before .before .before .before .before .before .args .s .now) (c .before .before .before .before .before .before .before .before .before .args .p) (c .before .before .before .before .before .before .before .before .before .args .n) (omega arith)) (c .before .before .text .ensures)
 
--- src/write.rt:130:13
 add-e : tie.Need-add-e
 add-e c = search needs
 
--- src/write.rt:131:19
 sub-text : tie.Need-sub-text
 sub-text c = search needs
 
--- src/write.rt:131:19
 part-text-start-2 : tie.Need-part-text-start-2
 part-text-start-2 c = search needs
 
--- src/write.rt:131:19
 part-text-end-2 : tie.Need-part-text-end-2
 part-text-end-2 c = search needs
 
--- src/write.rt:131:5
 text-requires-2 : tie.Need-text-requires-2
 text-requires-2 c κs = fits-as _ _ _ _ (sym (name-whole (c .before .before .before .before .before .before .args .s .now) (c .before .before .before .before .before .before .args .p) (c .before .before .before .before .before .before .args .n))) (c .before .before .before .before .before .before .pre)
 
--- src/write.rt:119:1
 same-length-2 : tie.Need-same-length-2
 same-length-2 c = search needs
 
--- src/write.rt:119:1
 returns-3 : tie.Need-returns-3
 returns-3 c = puts-as _ _ _ _ _ _ (name-whole (c .before .before .before .before .before .before .before .before .before .args .s .now) (c .before .before .before .before .before .before .before .before .before .args .p) (c .before .before .before .before .before .before .before .before .before .args .n)) (c .before .before .text2 .ensures)
 

@@ -1,3 +1,4 @@
+-- `declare_piece::write::one` meets its contract. Assumes nothing.
 use Rattle.declare_piece.specs.Pieces.{textOf}
 use Rattle.declare_piece.proofs.PutLaws.{puts-none}
 use borrow.Author.Needs.{needs}
@@ -15,199 +16,155 @@ use Rattle.declare_piece.proofs.write.primitive.Reads as primitive-read
 use Rattle.declare_piece.proofs.write.tag.Reads as tag-reads
 use Rattle.declare_piece.proofs.write.text.Reads as text-reads
 
--- src/write.rt:249:13
 enum-told : tie.Need-enum-told
 enum-told c = search needs
 
--- src/write.rt:249:13
 returns : tie.Need-returns
 unfolding textOf
 returns c = rw (c .enum-told .given .1) (puts-none _ _)
 
--- src/write.rt:252:25
 enum-told-2 : tie.Need-enum-told-2
 enum-told-2 c = search needs
 
--- src/write.rt:252:13
 byte-requires : tie.Need-byte-requires
 unfolding textOf
 byte-requires c κs = rw (c .before .enum-told2 .given .1) at (c .before .before .before .before .before .pre)
 
--- src/write.rt:252:13
 same-length : tie.Need-same-length
 same-length c = search needs
 
--- src/write.rt:252:13
 returns-2 : tie.Need-returns-2
 unfolding textOf
 returns-2 c = rw (c .before .before .before .before .enum-told2 .given .1) (c .before .before .byte .ensures)
 
--- src/write.rt:254:24
 enum-known-p : tie.Need-enum-known-p
 enum-known-p c = search needs
 
--- src/write.rt:255:13
 pointer-requires : tie.Need-pointer-requires
 unfolding textOf
 pointer-requires c κs = rw (c .before .before .p .given .1) at (c .before .before .before .before .before .before .pre)
 
--- src/write.rt:255:13
 same-length-2 : tie.Need-same-length-2
 same-length-2 c = search needs
 
--- src/write.rt:255:13
 returns-3 : tie.Need-returns-3
 unfolding textOf
 returns-3 c = rw (c .before .before .before .before .before .p .given .1) (c .before .before .pointer .ensures)
 
--- src/write.rt:257:26
 enum-known-p-2 : tie.Need-enum-known-p-2
 enum-known-p-2 c = search needs
 
--- src/write.rt:258:13
 primitive-requires : tie.Need-primitive-requires
 unfolding textOf
 primitive-requires c κs = rw (c .before .before .p2 .given .1) at (c .before .before .before .before .before .before .pre)
 
--- src/write.rt:258:13
 same-length-3 : tie.Need-same-length-3
 same-length-3 c = search needs
 
--- src/write.rt:258:13
 returns-4 : tie.Need-returns-4
 unfolding textOf
 returns-4 c = rw (c .before .before .before .before .before .p2 .given .1) (c .before .before .primitive .ensures)
 
--- src/write.rt:260:24
 enum-known-p-3 : tie.Need-enum-known-p-3
 enum-known-p-3 c = search needs
 
--- src/write.rt:261:13
 pointed-requires : tie.Need-pointed-requires
 unfolding textOf
 pointed-requires c κs = rw (c .before .before .p3 .given .1) at (c .before .before .before .before .before .before .pre)
 
--- src/write.rt:261:13
 same-length-4 : tie.Need-same-length-4
 same-length-4 c = search needs
 
--- src/write.rt:261:13
 returns-5 : tie.Need-returns-5
 unfolding textOf
 returns-5 c = rw (c .before .before .before .before .before .p3 .given .1) (c .before .before .pointed .ensures)
 
--- src/write.rt:263:20
 enum-known-p-4 : tie.Need-enum-known-p-4
 enum-known-p-4 c = search needs
 
--- src/write.rt:264:13
 tag-requires : tie.Need-tag-requires
 unfolding textOf
 tag-requires c κs = rw (c .before .before .p4 .given .1) at (c .before .before .before .before .before .before .pre)
 
--- src/write.rt:264:13
 same-length-5 : tie.Need-same-length-5
 same-length-5 c = search needs
 
--- src/write.rt:264:13
 returns-6 : tie.Need-returns-6
 unfolding textOf
 returns-6 c = rw (c .before .before .before .before .before .p4 .given .1) (c .before .before .tag .ensures)
 
--- src/write.rt:266:23
 enum-known-p-5 : tie.Need-enum-known-p-5
 enum-known-p-5 c = search needs
 
--- src/write.rt:267:13
 brackets-requires : tie.Need-brackets-requires
 unfolding textOf
 brackets-requires c κs = rw (c .before .before .p5 .given .1) at (c .before .before .before .before .before .before .pre)
 
--- src/write.rt:267:13
 same-length-6 : tie.Need-same-length-6
 same-length-6 c = search needs
 
--- src/write.rt:267:13
 returns-7 : tie.Need-returns-7
 unfolding textOf
 returns-7 c = rw (c .before .before .before .before .before .p5 .given .1) (c .before .before .brackets .ensures)
 
--- src/write.rt:269:22
 enum-known-p-6 : tie.Need-enum-known-p-6
 enum-known-p-6 c = search needs
 
--- src/write.rt:270:13
 begin-requires : tie.Need-begin-requires
 unfolding textOf
 begin-requires c κs = rw (c .before .before .p6 .given .1) at (c .before .before .before .before .before .before .pre)
 
--- src/write.rt:270:13
 same-length-7 : tie.Need-same-length-7
 same-length-7 c = search needs
 
--- src/write.rt:270:13
 returns-8 : tie.Need-returns-8
 unfolding textOf
 returns-8 c = rw (c .before .before .before .before .before .p6 .given .1) (c .before .before .begin .ensures)
 
--- src/write.rt:273:25
 enum-told-3 : tie.Need-enum-told-3
 enum-told-3 c = search needs
 
--- src/write.rt:273:34
 slice-aggregate-text : tie.Need-slice-aggregate-text
 slice-aggregate-text c = search needs
 
--- src/write.rt:273:13
 text-requires : tie.Need-text-requires
 unfolding textOf
 text-requires c κs = rw (c .before .before .enum-told3 .given .1) at (c .before .before .before .before .before .before .pre)
 
--- src/write.rt:273:13
 same-length-8 : tie.Need-same-length-8
 same-length-8 c = search needs
 
--- src/write.rt:273:13
 returns-9 : tie.Need-returns-9
 unfolding textOf
 returns-9 c = rw (c .before .before .before .before .before .enum-told3 .given .1) (c .before .before .text .ensures)
 
--- src/write.rt:276:25
 enum-told-4 : tie.Need-enum-told-4
 enum-told-4 c = search needs
 
--- src/write.rt:276:34
 slice-aggregate-text-2 : tie.Need-slice-aggregate-text-2
 slice-aggregate-text-2 c = search needs
 
--- src/write.rt:276:13
 text-requires-2 : tie.Need-text-requires-2
 unfolding textOf
 text-requires-2 c κs = rw (c .before .before .enum-told4 .given .1) at (c .before .before .before .before .before .before .pre)
 
--- src/write.rt:276:13
 same-length-9 : tie.Need-same-length-9
 same-length-9 c = search needs
 
--- src/write.rt:276:13
 returns-10 : tie.Need-returns-10
 unfolding textOf
 returns-10 c = rw (c .before .before .before .before .before .enum-told4 .given .1) (c .before .before .text2 .ensures)
 
--- src/write.rt:278:20
 enum-known-p-7 : tie.Need-enum-known-p-7
 enum-known-p-7 c = search needs
 
--- src/write.rt:279:13
 end-requires : tie.Need-end-requires
 unfolding textOf
 end-requires c κs = rw (c .before .before .p7 .given .1) at (c .before .before .before .before .before .before .pre)
 
--- src/write.rt:279:13
 same-length-10 : tie.Need-same-length-10
 same-length-10 c = search needs
 
--- src/write.rt:279:13
 returns-11 : tie.Need-returns-11
 unfolding textOf
 returns-11 c = rw (c .before .before .before .before .before .p7 .given .1) (c .before .before .end .ensures)

@@ -1,3 +1,4 @@
+-- `declare_piece::write::pointed` meets its contract. Assumes nothing.
 use Rattle.declare_piece.proofs.PutLaws.{fits-first, fits-second, puts-two}
 use borrow.Author.Needs.{needs}
 use Rattle.declare_piece.proofs.write.pointed.Statement.{statement}
@@ -9,27 +10,21 @@ use Rattle.declare_piece.proofs.write.byte.Reads as byte-reads
 use Rattle.declare_piece.proofs.write.kind.Reads as kind-reads
 use Rattle.declare_piece.proofs.write.quals_in.Reads as quals-in-reads
 
--- src/write.rt:201:9
 kind-requires : tie.Need-kind-requires
 kind-requires c κs = fits-first _ _ _ _ (fits-first _ _ _ _ (fits-first _ _ _ _ (c .before .before .pre)))
 
--- src/write.rt:202:9
 byte-requires : tie.Need-byte-requires
 byte-requires c κs = fits-second _ _ _ _ _ _ (fits-first _ _ _ _ (fits-first _ _ _ _ (c .before .before .before .before .before .before .pre))) (c .before .before .before .kind .ensures)
 
--- src/write.rt:203:9
 by-requires : tie.Need-by-requires
 by-requires c κs = fits-second _ _ _ _ _ _ (fits-first _ _ _ _ (c .before .before .before .before .before .before .before .before .before .before .pre)) (puts-two _ _ _ _ _ _ _ _ (c .before .before .before .before .before .before .before .kind .ensures) (c .before .before .before .byte .ensures))
 
--- src/write.rt:204:5
 quals-in-requires : tie.Need-quals-in-requires
 quals-in-requires c κs = fits-second _ _ _ _ _ _ (c .before .before .before .before .before .before .before .before .before .before .before .before .before .before .pre) (puts-two _ _ _ _ _ _ _ _ (puts-two _ _ _ _ _ _ _ _ (c .before .before .before .before .before .before .before .before .before .before .before .kind .ensures) (c .before .before .before .before .before .before .before .byte .ensures)) (c .before .before .before .by .ensures))
 
--- src/write.rt:190:1
 same-length : tie.Need-same-length
 same-length c = search needs
 
--- src/write.rt:190:1
 returns : tie.Need-returns
 returns c = puts-two _ _ _ _ _ _ _ _ (puts-two _ _ _ _ _ _ _ _ (puts-two _ _ _ _ _ _ _ _ (c .before .before .before .before .before .before .before .before .before .before .before .before .before .before .kind .ensures) (c .before .before .before .before .before .before .before .before .before .before .byte .ensures)) (c .before .before .before .before .before .before .by .ensures)) (c .before .before .quals-in .ensures)
 

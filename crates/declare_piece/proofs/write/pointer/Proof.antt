@@ -1,3 +1,4 @@
+-- `declare_piece::write::pointer` meets its contract. Assumes nothing.
 use Rattle.declare_piece.proofs.PutLaws.{fits-first, fits-second, puts-two}
 use borrow.Author.Needs.{needs}
 use Rattle.declare_piece.proofs.write.pointer.Statement.{statement}
@@ -7,19 +8,15 @@ use Rattle.declare_piece.proofs.write.pointer.Lts as lts
 use Rattle.declare_piece.proofs.write.mode.Reads as mode-reads
 use Rattle.declare_piece.proofs.write.quals_in.Reads as quals-in-reads
 
--- src/write.rt:177:9
 mode-requires : tie.Need-mode-requires
 mode-requires c κs = fits-first _ _ _ _ (c .before .before .pre)
 
--- src/write.rt:178:5
 quals-in-requires : tie.Need-quals-in-requires
 quals-in-requires c κs = fits-second _ _ _ _ _ _ (c .before .before .before .before .before .before .pre) (c .before .before .before .mode .ensures)
 
--- src/write.rt:173:1
 same-length : tie.Need-same-length
 same-length c = search needs
 
--- src/write.rt:173:1
 returns : tie.Need-returns
 returns c = puts-two _ _ _ _ _ _ _ _ (c .before .before .before .before .before .before .mode .ensures) (c .before .before .quals-in .ensures)
 

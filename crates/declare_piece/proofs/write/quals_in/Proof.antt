@@ -1,3 +1,4 @@
+-- `declare_piece::write::quals_in` meets its contract. Assumes nothing.
 use Rattle.declare_word.specs.Spellings.{qualsText}
 use Rattle.declare_piece.proofs.PutLaws.{ending-first, ending-second, ending-puts}
 use borrow.Author.Needs.{needs}
@@ -8,19 +9,15 @@ use Rattle.declare_piece.proofs.write.quals_in.Lts as lts
 use Rattle.declare_piece.proofs.write.end_quals.Reads as end-quals-reads
 use Rattle.declare_piece.proofs.write.quals.Reads as quals-reads
 
--- src/write.rt:90:9
 quals-requires : tie.Need-quals-requires
 quals-requires c κs = ending-first (c .before .before .args .last) (qualsText (c .before .before .args .q)) _ _ (c .before .before .pre)
 
--- src/write.rt:91:5
 end-quals-requires : tie.Need-end-quals-requires
 end-quals-requires c κs = ending-second (c .before .before .before .before .before .before .args .last) (qualsText (c .before .before .before .before .before .before .args .q)) _ _ (c .before .before .before .before .before .before .pre) _ _ (c .before .before .before .quals .ensures)
 
--- src/write.rt:86:1
 same-length : tie.Need-same-length
 same-length c = search needs
 
--- src/write.rt:86:1
 returns : tie.Need-returns
 returns c = ending-puts (c .before .before .before .before .before .before .before .before .before .args .last) (qualsText (c .before .before .before .before .before .before .before .before .before .args .q)) _ _ _ _ _ _ (c .before .before .before .before .before .before .quals .ensures) (c .before .before .end-quals .ensures)
 

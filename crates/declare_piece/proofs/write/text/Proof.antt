@@ -1,3 +1,4 @@
+-- `declare_piece::write::text` meets its contract. Assumes nothing.
 use Rattle.field_put.proofs.PutLaws.{laid}
 use borrow.Author.Needs.{needs}
 use Rattle.declare_piece.proofs.write.text.Statement.{statement}
@@ -6,15 +7,12 @@ use Rattle.declare_piece.proofs.write.text.Reads as reads
 use Rattle.declare_piece.proofs.write.text.Lts as lts
 use Rattle.field_put.proofs.put_all.Reads as put-all-reads
 
--- src/write.rt:24:5
 put-all-requires : tie.Need-put-all-requires
 put-all-requires c κs = search needs
 
--- src/write.rt:20:1
 same-length : tie.Need-same-length
 same-length c = search needs
 
--- src/write.rt:20:1
 returns : tie.Need-returns
 returns c = laid _ _ _ _ _ (c .before .before .before .before .before .before .pre) (c .before .before .put-all .ensures)
 

@@ -1,3 +1,4 @@
+-- `declare_piece::write::word` meets its contract. Assumes nothing.
 use native.Mathlib.Omega.{arith}
 use Rattle.stream_finder.specs.Finder.{State}
 use Prim.Native.Nat.{_-_}
@@ -9,27 +10,21 @@ use Rattle.declare_piece.proofs.write.word.Reads as reads
 use Rattle.declare_piece.proofs.write.word.Lts as lts
 use Rattle.declare_piece.proofs.write.text.Reads as text-reads
 
--- src/put.rt:33:19
 sub-text : tie.Need-sub-text
 sub-text c = search needs
 
--- src/put.rt:33:19
 part-text-start : tie.Need-part-text-start
 part-text-start c = search needs
 
--- src/put.rt:33:19
 part-text-end : tie.Need-part-text-end
 part-text-end c = search needs
 
--- src/put.rt:33:5
 text-requires : tie.Need-text-requires
 text-requires c κs = let e : c .before .before .before .before .before .args .w .n - 0 ≡ c .before .before .before .before .before .args .w .n = omega arith in rw e (c .before .before .before .before .before .pre .0)
 
--- src/put.rt:27:1
 same-length : tie.Need-same-length
 same-length c = search needs
 
--- src/put.rt:27:1
 returns : tie.Need-returns
 returns c = let e : c .before .before .before .before .before .before .before .before .args .w .n - 0 ≡ c .before .before .before .before .before .before .before .before .args .w .n = omega arith in rw e at (c .before .before .text .ensures)
 

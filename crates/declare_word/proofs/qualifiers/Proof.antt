@@ -1,12 +1,12 @@
--- `declare_word::quals` meets its contract: a line for each set of qualifiers, its text computed. Assumes nothing.
+-- `declare_word::qualifiers` meets its contract: a line for each set of qualifiers, its text computed. Assumes nothing.
 use native.Mathlib.Omega.{arith}
 use mathlib.Core.Path.{refl}
 use Rattle.declare_word.specs.Spellings.{wordsOf}
 use Rattle.declare_word.specs.Words.{spaces}
-use Rattle.declare_word.proofs.quals.Statement.{statement}
-use Rattle.declare_word.proofs.quals.Tie as tie
-use Rattle.declare_word.proofs.quals.Reads as reads
-use Rattle.declare_word.proofs.quals.Lts as lts
+use Rattle.declare_word.proofs.qualifiers.Statement.{statement}
+use Rattle.declare_word.proofs.qualifiers.Tie as tie
+use Rattle.declare_word.proofs.qualifiers.Reads as reads
+use Rattle.declare_word.proofs.qualifiers.Lts as lts
 
 returns : tie.Need-returns
 unfolding wordsOf spaces
@@ -72,8 +72,8 @@ returns-16 : tie.Need-returns-16
 unfolding wordsOf spaces
 returns-16 c = rw (c .before .before .before .before .before .if1 .left, c .before .before .before .before .if9 .left, c .before .before .before .if13 .left, c .before .before .if15 .left) (record { all = refl; count = refl; whole = refl })
 
-pub quals-spec : {M : Type 1} → statement M
-quals-spec =
+pub qualifiers-spec : {M : Type 1} → statement M
+qualifiers-spec =
     tie.close
     (tie.spec
     returns
