@@ -4,8 +4,8 @@
     speed_time.py SPEED
 
 SPEED is the program speed that build.sh made; the port's is target/bin/measure, which `rt check measure` makes. Of each operation the clock of the
-quickest of five runs is taken, less that of a tenth of the turns, so that starting and reading the input are not in it. Nothing else should run
-beside it; on a machine that others share, two runs differ by some hundredths.
+quickest of fifteen runs is taken, less that of a tenth of the turns, so that starting and reading the input are not in it. The two programs take turns,
+since a machine that others share is now quick and now slow. Nothing else should run beside it.
 """
 import subprocess
 import sys
@@ -15,6 +15,8 @@ from pathlib import Path
 ROOT = Path(__file__).resolve().parent.parent
 MEASURE = ROOT / "target/bin/measure"
 TYPES, IDS = ROOT / "samples/gen400-x64.tpi", ROOT / "samples/rich-x64.ipi"
+
+RUNS = 15
 
 # The operation, its stream, and how often the whole stream is done.
 OPERATIONS = [
@@ -32,21 +34,23 @@ def records(stream):
     return int.from_bytes(head[12:16], "little") - int.from_bytes(head[8:12], "little")
 
 
-def quickest(program, operation, turns, stream):
-    best = None
-    for _ in range(5):
-        with stream.open("rb") as data:
-            began = time.perf_counter()
-            subprocess.run([program, operation, str(turns)], stdin=data, stdout=subprocess.DEVNULL, check=True)
-            took = time.perf_counter() - began
-        best = took if best is None else min(best, took)
-    return best
+def clock(program, operation, turns, stream):
+    with stream.open("rb") as data:
+        began = time.perf_counter()
+        subprocess.run([program, operation, str(turns)], stdin=data, stdout=subprocess.DEVNULL, check=True)
+        return time.perf_counter() - began
 
 
-def nanoseconds(program, operation, turns, stream):
+def nanoseconds(programs, operation, turns, stream):
+    """Of each program, what a record takes."""
     few = turns // 10
-    spent = quickest(program, operation, turns, stream) - quickest(program, operation, few, stream)
-    return spent * 1e9 / ((turns - few) * records(stream))
+    runs = [(program, n) for program in programs for n in (turns, few)]
+    least = {}
+    for _ in range(RUNS):
+        for run in runs:
+            took = clock(run[0], operation, run[1], stream)
+            least[run] = min(took, least.get(run, took))
+    return [(least[program, turns] - least[program, few]) * 1e9 / ((turns - few) * records(stream)) for program in programs]
 
 
 def main():
@@ -55,8 +59,7 @@ def main():
     print("| operation | port | crate | port / crate |")
     print("|---|---|---|---|")
     for operation, stream, turns in OPERATIONS:
-        port = nanoseconds(MEASURE, operation, turns, stream)
-        crate = nanoseconds(sys.argv[1], operation, turns, stream)
+        port, crate = nanoseconds([MEASURE, sys.argv[1]], operation, turns, stream)
         print(f"| {operation}, {stream.name} | {port:.1f} | {crate:.1f} | {port / crate:.2f} |", flush=True)
 
 

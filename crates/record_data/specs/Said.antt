@@ -64,17 +64,20 @@ kindValues kind.Struct19 r =
     number 0x1609 ∷ number (r .properties .0) ∷ absent ∷ orAbsent (typeOption (r .fields)) ∷ orAbsent (typeOption (r .«derived_from»)) ∷ orAbsent (typeOption (r .«vtable_shape»))
     ∷ number (r .count) ∷ sizeValue (r .size) ∷ many (part (r .name)) ∷ stringValue (r .«unique_name») ∷ []
 
--- the three kinds that have one layout, and what the record of such a leaf says
+-- the three kinds that have one layout, by their leaves
 unfoldable pub classKinds : List (Line ClassKind)
 classKinds = (0x1504 is kind.Class) ∷ (0x1505 is kind.Struct) ∷ (0x1519 is kind.Interface) ∷ []
 
+-- a kind whose record says its leaf and then the values of a class in their order: all but 0x1609
 abbrev pub Plain : ClassKind → Type 0
 Plain k = (r : ClassType) → kindValues k r ≡ number (kindLeaf k) ∷ classValues r
 
+-- what `class_kind` answers
 abbrev pub kindOption : OptKind → Option ClassKind
 kindOption optKind.None = none
 kindOption (optKind.Some k) = some k
 
+-- what a record with such a leaf says, its fields at p: all the values of a class's layout, wherever the last one ends
 abbrev pub classOf : ℕ → List ℕ → ℕ → Answer (List Shown)
 classOf leaf s p = and-then (byLayout (some class) leaf s p) (λ vs e. answered vs)
 
