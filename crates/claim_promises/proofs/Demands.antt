@@ -23,6 +23,7 @@ use Rattle.claim_promises.proofs.PlacesWhen.{places-when}
 use Rattle.claim_promises.proofs.WritesWhen.{writes-when}
 use Rattle.claim_promises.proofs.SectionsProof.{sections-refuse, sections-when}
 use Rattle.claim_promises.proofs.DeclareRefuses.{declare-when}
+use Rattle.claim_promises.proofs.Digits.{lengths-shown}
 use Rattle.claim_promises.proofs.Examples.{examples-hold}
 use Rattle.claim_promises.proofs.OneOutcome.{one-outcome}
 use Rattle.claim_promises.specs.Demands.{Demands}
@@ -54,6 +55,7 @@ demands = record {
   streams-walk = stream-walks;
   given-writing = writes-when;
   given-declarations = declare-when;
+  lengths-shown = lengths-shown;
   paged = tally-holds;
   five = same;
   of-runs = of-runs;

@@ -4,6 +4,7 @@ pub mod StreamRefuses
 pub mod PlacesRefuse
 pub mod WritersRefuse
 pub mod DeclareRefuses
+pub mod Digits
 pub mod LeftAlone
 pub mod Demand1
 pub mod Given

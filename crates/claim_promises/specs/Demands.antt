@@ -27,6 +27,7 @@ use Rattle.claim_promises.specs.PlacesWhen.{PlacesWhen}
 use Rattle.claim_promises.specs.WritesWhen.{WritesWhen}
 use Rattle.claim_promises.specs.Sections.{SectionsRefuse, SectionsWhen}
 use Rattle.claim_promises.specs.DeclareWhen.{DeclareWhen}
+use Rattle.claim_promises.specs.Digits.{LengthsShown}
 use Rattle.claim_promises.specs.Examples.{examples, asked, given as answers}
 use Rattle.claim_promises.specs.OneOutcome.{OneOutcome}
 
@@ -79,6 +80,8 @@ pub record Demands : Type 1 where
   -- document 02, R-5: "19 exactly if the bytes that the walk has fixed pass the room before another is met", and else the answer of "a definition that
   -- prints with no limit on room": DeclareWhen.antt
   pub given-declarations : DeclareWhen
+  -- and an array's length is printed whole, of every 64-bit number: Digits.antt
+  pub lengths-shown : LengthsShown
   -- document 02, R-14: "the links passed for looking up each of c indices once, upward from the minimum": crates/pane/specs/Tally.antt; and that the
   -- five functions for C are enough: crates/pane/specs/Same.antt
   pub paged : Tally
