@@ -56,6 +56,8 @@ use Rattle.write_row.specs.Rows.{memberRows, methodRows}
 use Rattle.declare_piece.specs.Pieces.{textOf}
 use Rattle.declare_word.specs.Spellings.{kindText, byText, modeText, qualsText}
 use Rattle.declare_word.proofs.OneOutcome.{one-spells}
+use Rattle.answer_name.specs.Names.{nameText}
+use Rattle.answer_name.proofs.OneOutcome.{one-holds}
 use Rattle.declare_type.specs.Declares.{declareOf}
 use Rattle.declare_type.proofs.OneOutcome.{one-declares}
 use Rattle.claim_promises.specs.Contracts as contract
@@ -97,6 +99,7 @@ one-outcome = record {
   declare-word-by = λ y. one-spells (byText y);
   declare-word-mode = λ m. one-spells (modeText m);
   declare-word-qualifiers = λ q. one-spells (qualsText q);
+  answer-name-name-of = λ e. one-holds (nameText e);
   answer-refusal-number = λ self r q a b. a ∙ sym b;
   answer-refusal-details = λ self r q a b. one-details r q (a ∙ sym b);
   field-fixed-u8-at = λ s p r q a b. one-u8 r q (a ∙ sym b);

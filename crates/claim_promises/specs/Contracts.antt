@@ -12,6 +12,8 @@ use Rattle.answer.specs.Details.{detailsValue}
 use Rattle.answer.specs.Refusals.{detailsOf, numberOf}
 use Rattle.answer.specs.declared.Details.{Details}
 use Rattle.answer.specs.declared.Refusal.{Refusal}
+use Rattle.answer_name.specs.Names.{Holds, nameText}
+use Rattle.answer_name.specs.declared.Name.{Name}
 use Rattle.declare_kind.specs.Sizes.{primitiveSize}
 use Rattle.declare_node.specs.Inside.{ListInside}
 use Rattle.declare_node.specs.Nodes.{indexAt, listOf, nodeOf}
@@ -158,6 +160,10 @@ answer-refusal-number self r = r ≡ numberOf self
 -- answer::Refusal::details
 abbrev pub answer-refusal-details : (self : Refusal) → Details → Type 0
 answer-refusal-details self r = detailsValue r ≡ detailsOf self
+
+-- answer_name::name_of
+abbrev pub answer-name-name-of : (e : Refusal) → Name → Type 0
+answer-name-name-of e r = Holds r (nameText e)
 
 -- declare_kind::kind
 abbrev pub declare-kind-kind : (k : PrimitiveKind) → Word → Type 0

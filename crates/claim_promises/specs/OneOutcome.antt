@@ -51,6 +51,8 @@ pub record OneOutcome : Type 1 where
   -- answer
   pub answer-refusal-number : (self : Refusal) → Once (contract.answer-refusal-number self)
   pub answer-refusal-details : (self : Refusal) → Once (contract.answer-refusal-details self)
+  -- answer_name
+  pub answer-name-name-of : (e : Refusal) → Once (contract.answer-name-name-of e)
   -- declare_kind
   pub declare-kind-kind : (k : PrimitiveKind) → Once (contract.declare-kind-kind k)
   pub declare-kind-size : (k : PrimitiveKind) (by : Indirection) → Once (contract.declare-kind-size k by)
