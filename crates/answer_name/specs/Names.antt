@@ -43,6 +43,10 @@ nameText refusal.TooDeep = quoted "too deep"
 nameText refusal.LeafNotPrinted = quoted "leaf not printed"
 nameText refusal.Signature = quoted "signature"
 nameText refusal.Shift = quoted "shift"
+nameText refusal.TotalTooLarge = quoted "total too large"
+nameText refusal.LeavesFull = quoted "leaves full"
+nameText refusal.NotFit = quoted "not fit"
+nameText refusal.ReadsAsNone = quoted "reads as none"
 
 unfoldable pub spaces : ℕ → List ℕ
 spaces zero = []

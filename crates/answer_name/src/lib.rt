@@ -138,6 +138,26 @@ const SHIFT: Name = Name {
     n: 5,
 };
 
+const TOTAL_TOO_LARGE: Name = Name {
+    bytes: *b"total too large     ",
+    n: 15,
+};
+
+const LEAVES_FULL: Name = Name {
+    bytes: *b"leaves full         ",
+    n: 11,
+};
+
+const NOT_FIT: Name = Name {
+    bytes: *b"not fit             ",
+    n: 7,
+};
+
+const READS_AS_NONE: Name = Name {
+    bytes: *b"reads as none       ",
+    n: 13,
+};
+
 // The name of a refusal. A number has one name, whatever comes with it.
 pub fn name_of(e: Refusal) -> Name
     ensures { λ r. ⌜ Holds r (nameText e) ⌝ }
@@ -170,5 +190,9 @@ pub fn name_of(e: Refusal) -> Name
         Refusal::LeafNotPrinted => LEAF_NOT_PRINTED,
         Refusal::Signature => SIGNATURE,
         Refusal::Shift => SHIFT,
+        Refusal::TotalTooLarge => TOTAL_TOO_LARGE,
+        Refusal::LeavesFull => LEAVES_FULL,
+        Refusal::NotFit => NOT_FIT,
+        Refusal::ReadsAsNone => READS_AS_NONE,
     }
 }

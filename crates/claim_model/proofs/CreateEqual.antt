@@ -12,7 +12,7 @@ use borrow.Author.Tests.{le-leb, lt-leb, le-ltb, lt-ltb}
 use Rattle.answer.specs.Answer.{answered}
 use Rattle.stream_header.specs.Header.{longest}
 use Rattle.stream_header.specs.declared.Header.{Header}
-use Rattle.stream_item.specs.declared.Stream.{Stream}
+use Rattle.field.specs.declared.index.Stream.{Stream}
 use Rattle.stream_item.specs.declared.iter.ItemIter.{ItemIter}
 use Rattle.stream_finder.specs.Finder.{state, holding, begunBy}
 use Rattle.stream_finder.proofs.FinderLaws.{begun-none, begun-full, begun-some}

@@ -12,9 +12,9 @@ use lib.Pow.{pow-pos}
 use borrow.Author.Tests.{le-leb, le-ltb, lt-ltb, eq-eqb, ne-eqb}
 use Rattle.answer.specs.Answer.{answered, refused}
 use Rattle.field.specs.Fields.{littleAt}
-use Rattle.stream_item.specs.Items.{numberIn}
+use Rattle.field.specs.Indices.{numberIn}
 use Rattle.stream_item.specs.Links.{linkOf, chain, Walk, reached, broke}
-use Rattle.stream_item.specs.declared.ItemIndex.{ItemIndex}
+use Rattle.field.specs.declared.index.ItemIndex.{ItemIndex}
 use Rattle.stream_item.specs.declared.link.Hit.the-variants.{Missed}
 use Rattle.stream_item.proofs.LinkLaws.{link-whole, link-broken, chain-none, linkOf-landed, linkOf-missed, linkOf-broke, linkOf-cut}
 use Rattle.stream_finder.specs.Finder.{State, blockOf, maxIndexOf, landed, findOf}

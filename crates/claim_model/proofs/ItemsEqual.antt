@@ -14,15 +14,16 @@ use Rattle.answer.specs.Answer.{Answer, answered, refused, then}
 use Rattle.field.specs.Fields.{littleAt}
 use Rattle.stream_header.specs.Header.{headerOf}
 use Rattle.stream_header.specs.declared.Header.{Header}
-use Rattle.stream_item.specs.Items.{numberIn, indexOf, lengthOf}
+use Rattle.field.specs.Indices.{numberIn}
+use Rattle.stream_item.specs.Items.{indexOf, lengthOf}
 use Rattle.stream_view.specs.Views.{named, kindAt, rawKindOf}
 use Rattle.stream_item.specs.Information.{lenOf, isEmptyOf}
 use Rattle.stream_item.specs.Iterator.{iterOf}
-use Rattle.stream_item.specs.declared.Stream.{Stream}
+use Rattle.field.specs.declared.index.Stream.{Stream}
 use Rattle.stream_item.specs.declared.Entry.{Entry}
 use Rattle.stream_item.specs.declared.Entry.the-variants.{Record, Marker}
-use Rattle.stream_item.specs.declared.ItemIndex.{ItemIndex}
-use Rattle.stream_item.specs.declared.ItemIndex.the-variants.{Types, Ids}
+use Rattle.field.specs.declared.index.ItemIndex.{ItemIndex}
+use Rattle.field.specs.declared.index.ItemIndex.the-variants.{Types, Ids}
 use Rattle.stream_finder.specs.Finder.{begunBy, createOf, createBy}
 use Rattle.claim_model.specs.Rust.{gives, _>>=_}
 use Rattle.claim_model.specs.TpiHeader.{parse-information}

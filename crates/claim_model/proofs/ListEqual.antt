@@ -16,7 +16,7 @@ use Rattle.field.specs.Runs.{bytesAfter}
 use Rattle.record_layout.specs.Layouts.{idLeaves}
 use Rattle.record_layout.specs.Fields.{number, Shown, readFieldBy, readFieldsBy}
 use Rattle.record_list.specs.Lists.{ElementValues, typeElement, idElement, inCounted, countedBy, counted, startOf, startIds, countedStep, stepOf, elementBy, elementOf}
-use Rattle.stream_item.specs.declared.Stream.the-variants as stream
+use Rattle.field.specs.declared.index.Stream.the-variants as stream
 use Rattle.claim_model.specs.Rust.{gives, _>>=_, match}
 use Rattle.claim_model.specs.TpiId.{build-info, string-list, by-leaf, try-from-ctx, parse-id}
 use Rattle.claim_model.specs.Equal.{Same}

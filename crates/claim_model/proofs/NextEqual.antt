@@ -7,10 +7,10 @@ use native.Mathlib.Omega.{arith}
 use lib.ListN.{length}
 use borrow.Author.Tests.{le-ltb, lt-ltb}
 use Rattle.field.specs.Fields.{littleAt}
-use Rattle.stream_item.specs.Items.{indexIn, numberIn}
+use Rattle.field.specs.Indices.{indexIn, numberIn}
 use Rattle.stream_item.specs.Iterator.{Next, yielded, itemAt, nextOf}
-use Rattle.stream_item.specs.declared.Stream.{Stream}
-use Rattle.stream_item.specs.declared.Stream.the-variants.{Types, Ids}
+use Rattle.field.specs.declared.index.Stream.{Stream}
+use Rattle.field.specs.declared.index.Stream.the-variants.{Types, Ids}
 use Rattle.stream_item.specs.declared.iter.ItemIter.{ItemIter}
 use Rattle.stream_item.proofs.NextLaws.{next-done, next-length, next-short, next-payload, next-used, next-yields}
 use Rattle.claim_model.specs.Rust.{gives, UnexpectedEof, TypeTooShort, usize}

@@ -15,7 +15,7 @@ use Rattle.word_primitive.specs.declared.PrimitiveType.{PrimitiveType as PortPr
 use Rattle.record_layout.specs.Fields.{Shown}
 use Rattle.record_layout.specs.Layouts.{idLeaves, readLeaf, leafOf, recordOf}
 use Rattle.stream_item.specs.Items.{indexOf}
-use Rattle.stream_item.specs.declared.ItemIndex.the-variants as index
+use Rattle.field.specs.declared.index.ItemIndex.the-variants as index
 use Rattle.stream_item.specs.declared.Entry.{Entry}
 use Rattle.stream_item.specs.declared.Entry.the-variants.{Record, Marker}
 use Rattle.record_parse.specs.Record.{primitive, id, idBytes, typeItem, typeMarker, parseOf}

@@ -11,9 +11,9 @@ use Rattle.answer.specs.Answer.{Answer, answered, refused, pick, stop, both, th
 use Rattle.field.specs.Fields.{littleAt}
 use Rattle.stream_header.specs.Header.{longest, fieldsOf, empty, headerOf}
 use Rattle.stream_header.specs.declared.Header.{Header}
-use Rattle.stream_item.specs.Items.{indexIn}
+use Rattle.field.specs.Indices.{indexIn}
 use Rattle.stream_item.specs.Iterator.{iterOf, Next, done, yielded, nextOf}
-use Rattle.stream_item.specs.declared.Stream.{Stream}
+use Rattle.field.specs.declared.index.Stream.{Stream}
 use Rattle.stream_item.specs.declared.Item.{Item}
 use Rattle.stream_item.specs.declared.iter.ItemIter.{ItemIter}
 use Rattle.stream_item.proofs.NextLaws.{passed, Yields, yields}

@@ -13,21 +13,21 @@ use Rattle.answer.specs.Answer.{answered}
 use Rattle.field.specs.declared.index.TypeIndex.{TypeIndex}
 use Rattle.field.specs.declared.index.IdIndex.{IdIndex}
 use Rattle.field.specs.Fields.{littleAt}
-use Rattle.field.specs.Indices.{noType, noId, optionalAt}
+use Rattle.field.specs.Indices.{noType, noId, optionalAt, numberIn}
 use Rattle.field_text.specs.Texts.{stringOf, paddingAfter}
 use Rattle.word_primitive.specs.Primitive.{primitiveOf}
 use Rattle.word_attributes.specs.Bits.{bit, bits}
 use Rattle.word_attributes.specs.Words.{methodProperty, introducing}
 use Rattle.word_attributes.specs.Pointers.{kindOf, modeOf, toMemberOf, referenceOf, sizeOf}
 use Rattle.stream_header.specs.Header.{longest, headerOf}
-use Rattle.stream_item.specs.Items.{numberIn, indexOf, lengthOf}
+use Rattle.stream_item.specs.Items.{indexOf, lengthOf}
 use Rattle.stream_item.specs.Iterator.{iterOf, nextOf}
 use Rattle.stream_view.specs.Views.{named, rawKindOf}
 use Rattle.stream_item.specs.Information.{lenOf, isEmptyOf}
-use Rattle.stream_item.specs.declared.Stream.{Stream}
-use Rattle.stream_item.specs.declared.Stream.the-variants as stream
-use Rattle.stream_item.specs.declared.ItemIndex.{ItemIndex}
-use Rattle.stream_item.specs.declared.ItemIndex.the-variants as index
+use Rattle.field.specs.declared.index.Stream.{Stream}
+use Rattle.field.specs.declared.index.Stream.the-variants as stream
+use Rattle.field.specs.declared.index.ItemIndex.{ItemIndex}
+use Rattle.field.specs.declared.index.ItemIndex.the-variants as index
 use Rattle.stream_item.specs.declared.Entry.{Entry}
 use Rattle.stream_item.specs.declared.iter.ItemIter.{ItemIter}
 use Rattle.stream_finder.specs.Finder.{State, blockOf, createOf, updateOf, maxIndexOf, findOf}

@@ -7,9 +7,9 @@ use lib.ListN.{length}
 use Rattle.answer.specs.Answer.{Answer, answered, then}
 use Rattle.stream_header.specs.Header.{longest, headerOf}
 use Rattle.stream_header.specs.declared.Header.{Header}
-use Rattle.stream_item.specs.Items.{indexIn}
+use Rattle.field.specs.Indices.{indexIn}
 use Rattle.stream_item.specs.Iterator.{iterOf, Next, done, yielded, nextOf}
-use Rattle.stream_item.specs.declared.Stream.{Stream}
+use Rattle.field.specs.declared.index.Stream.{Stream}
 use Rattle.stream_item.specs.declared.iter.ItemIter.{ItemIter}
 use Rattle.stream_finder.specs.Finder.{State, createOf, updateOf, Found, findOf}
 use Rattle.claim_model.specs.Rust.{Rust, _>>=_}

@@ -8,14 +8,13 @@ use lib.Dec.{eqb}
 use Rattle.answer.specs.Answer.{Answer, answered, refused, Got, pick}
 use Rattle.field.specs.Fields.{littleAt}
 use Rattle.field_text.specs.Texts.{Part}
-use Rattle.stream_item.specs.Items.{numberIn as indexShown}
+use Rattle.field.specs.Indices.{numberIn as indexShown, idOption}
 use Rattle.stream_item.specs.Iterator.{Next, done, yielded}
 use Rattle.stream_item.specs.declared.Item.{Item as PortItem}
 use Rattle.stream_item.specs.declared.Entry.{Entry}
 use Rattle.stream_item.specs.declared.Entry.the-variants.{Record, Marker}
 use Rattle.stream_item.specs.declared.iter.ItemIter.{ItemIter as PortIter}
 use Rattle.stream_finder.specs.Finder.{State, Found}
-use Rattle.field.specs.Indices.{idOption}
 use Rattle.field_text.specs.declared.RawString.{RawString}
 use Rattle.answer.specs.Refusals.{no}
 use Rattle.record_layout.specs.Fields.{Shown}

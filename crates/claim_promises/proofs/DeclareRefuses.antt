@@ -10,7 +10,7 @@ use lib.Dec.{ltb, leb, eqb}
 use borrow.Author.Tests.{lt-ltb, le-ltb, ltb-true, eqb-true}
 use Rattle.answer.specs.Answer.{Answer, answered, refused, Read, pick, stop, both}
 use Rattle.answer.specs.Tables.{Line, _is_, among}
-use Rattle.answer.specs.Refusals.{numberOf, detailsOf, no, Named, plain, one, two, refusals, filled, named, listed}
+use Rattle.answer.specs.Refusals.{numberOf, detailsOf, no, Named, plain, one, two, refusals, filled, inTable, listed}
 use Rattle.answer.proofs.OneOutcome.{in-table}
 use Rattle.answer.specs.declared.Refusal.{Refusal}
 use Rattle.answer.specs.declared.Refusal.the-variants as refusal
@@ -22,7 +22,7 @@ use Rattle.record_layout.specs.Fields.{Shown, number, numeral, absent, many}
 use Rattle.record_layout.specs.Values.{nth}
 use Rattle.record_layout.specs.Layouts.{typeLeaves, recordOf}
 use Rattle.stream_header.specs.Header.{longest}
-use Rattle.stream_item.specs.declared.ItemIndex.the-variants as index
+use Rattle.field.specs.declared.index.ItemIndex.the-variants as index
 use Rattle.stream_item.specs.declared.Entry.{Entry}
 use Rattle.stream_item.specs.declared.Entry.the-variants as entry
 use Rattle.stream_finder.specs.Finder.{State, Found, findOf}
@@ -74,11 +74,11 @@ filled-right m (two f) (a ∷ []) e r h = never e h
 filled-right m (two f) (a ∷ b ∷ []) e r h = rw (sym (same (f a b) e h)) (r a b)
 filled-right m (two f) (a ∷ b ∷ c ∷ d) e r h = never e h
 
-named-right : (ls : List (Line Named)) → AllRight ls → (n : ℕ) (d : List ℕ) (e : Refusal) → named ls n d ≡ some e → numberOf e ≡ n
-unfolding named
+named-right : (ls : List (Line Named)) → AllRight ls → (n : ℕ) (d : List ℕ) (e : Refusal) → inTable ls n d ≡ some e → numberOf e ≡ n
+unfolding inTable
 named-right [] r n d e h = never e h
 named-right ((m is w) ∷ ls) r n d e h = go (eqb n m) refl (filled w d) refl (λ k. named-right ls (r .1) n d e k) where
-  go : (b : Bool) → eqb n m ≡ b → (o : Option Refusal) → filled w d ≡ o → (named ls n d ≡ some e → numberOf e ≡ n) → numberOf e ≡ n
+  go : (b : Bool) → eqb n m ≡ b → (o : Option Refusal) → filled w d ≡ o → (inTable ls n d ≡ some e → numberOf e ≡ n) → numberOf e ≡ n
   go true f (some x) g later =
       let k : some x ≡ some e = rw (f, g) at h in
       rw (sym (same x e k)) (filled-right m w d x (r .0) g ∙ sym (eqb-true n m f))
@@ -88,7 +88,7 @@ named-right ((m is w) ∷ ls) r n d e h = go (eqb n m) refl (filled w d) refl (�
 all-right : AllRight refusals
 unfolding refusals
 all-right =
-    (refl, (λ a. refl, (refl, (refl, (refl, (refl, (refl, (refl, (λ a. refl, (λ a b. refl, (λ a. refl, (refl, (refl, (refl, (refl, (refl, (refl, (refl, (refl, (refl, (refl, (refl, (refl, (refl, (refl, (refl, (refl, tt)))))))))))))))))))))))))))
+    (refl, (λ a. refl, (refl, (refl, (refl, (refl, (refl, (refl, (λ a. refl, (λ a b. refl, (λ a. refl, (refl, (refl, (refl, (refl, (refl, (refl, (refl, (refl, (refl, (refl, (refl, (refl, (refl, (refl, (refl, (refl, (refl, (refl, (refl, (refl, tt)))))))))))))))))))))))))))))))
 
 -- ---- what a walk is refused by: the lookup's numbers, the readers', 23 and 24
 
@@ -98,14 +98,14 @@ ofWalks = 16 ∷ 26 ∷ 13 ∷ 8 ∷ 9 ∷ 1 ∷ 10 ∷ 11 ∷ 12 ∷ 23 ∷ 24 
 record Good (e : Refusal) : Type 0 where
   pub good : among (numberOf e) ofWalks ≡ true
 
-good-named : (n : ℕ) (d : List ℕ) → listed n d ≡ true → among n ofWalks ≡ true → Good (orEnded (named refusals n d))
+good-named : (n : ℕ) (d : List ℕ) → listed n d ≡ true → among n ofWalks ≡ true → Good (orEnded (inTable refusals n d))
 unfolding listed
-good-named n d l a = go (named refusals n d) refl where
-  go : (o : Option Refusal) → named refusals n d ≡ o → Good (orEnded (named refusals n d))
+good-named n d l a = go (inTable refusals n d) refl where
+  go : (o : Option Refusal) → inTable refusals n d ≡ o → Good (orEnded (inTable refusals n d))
   go none f = absurd (false≢true (rw f at l))
   go (some e) f = rw f (record { good = rw (named-right refusals all-right n d e f) a })
 
-good-by : (l : Links) (n : ℕ) (d : List ℕ) → fits l ofWalks n d ≡ true → Good (orEnded (named refusals n d))
+good-by : (l : Links) (n : ℕ) (d : List ℕ) → fits l ofWalks n d ≡ true → Good (orEnded (inTable refusals n d))
 unfolding fits
 good-by l n d p =
     good-named n d (both-first (listed n d) (linksFit l n d) (both-second (among n ofWalks) (both (listed n d) (linksFit l n d)) p))
@@ -354,11 +354,11 @@ abbrev Said : ℕ → List ℕ → Type 0
 Said n d = (among n (19 ∷ ofWalks) ≡ true) × (listed n d ≡ true)
 
 said-19 : Said 19 []
-unfolding among listed named refusals
+unfolding among listed inTable refusals
 said-19 = (refl, refl)
 
 said-16 : Said 16 []
-unfolding among listed named refusals
+unfolding among listed inTable refusals
 said-16 = (refl, refl)
 
 text-says : (room : ℕ) (w : Walked) → GoodWalk w → (n : ℕ) (d : List ℕ) → textIn room w ≡ refused n d → Said n d

@@ -34,7 +34,7 @@ use Rattle.record_layout.specs.Fields.{number, Elements, types, ids, runBytes, 
 use Rattle.record_layout.specs.Layouts.{always, T, pointer, memberO, Layout, Table, isAnswered, typeLeaves, memberLeaves, method, idLeaves, byLayout, readLeaf, readRecord, leafOf, recordOf}
 use Rattle.record_list.specs.Lists.{ElementValues, typeElement, idElement, inCounted, countedBy, counted, startTypes, startIds, startOf, countedStep, methodStep, memberStep, nextMember, stepOf, elementBy, elementOf}
 use Rattle.record_list.specs.declared.ListCursor.{ListCursor}
-use Rattle.stream_item.specs.declared.Stream.the-variants as stream
+use Rattle.field.specs.declared.index.Stream.the-variants as stream
 use Rattle.claim_promises.specs.Given.{by, Given}
 use Rattle.claim_promises.specs.ExactlyWhen.{NoZero, PadsPast, short, later, Below, Negative, Ends, AtEnd}
 use Rattle.claim_promises.proofs.ByTable.{both-first, both-second, within}

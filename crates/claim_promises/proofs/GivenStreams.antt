@@ -15,13 +15,13 @@ use Rattle.field_text.specs.Texts.{Part}
 use Rattle.stream_header.specs.Header.{longest, empty, fieldsOf, headerOf}
 use Rattle.stream_header.specs.declared.Header.{Header}
 use Rattle.stream_header.proofs.HeaderLaws.{There, Sized, header-long, header-cut, header-small, header-large, header-past, minimum-low, maximum-low}
-use Rattle.stream_item.specs.Items.{numberIn}
+use Rattle.field.specs.Indices.{numberIn}
 use Rattle.stream_item.specs.Links.{linkOf}
 use Rattle.stream_item.specs.Iterator.{iterOf, Next, done, overRecord, nextOf}
 use Rattle.stream_item.specs.Information.{lenOf, isEmptyOf}
-use Rattle.stream_item.specs.declared.Stream.{Stream}
+use Rattle.field.specs.declared.index.Stream.{Stream}
 use Rattle.stream_item.specs.declared.Item.{Item}
-use Rattle.stream_item.specs.declared.ItemIndex.{ItemIndex}
+use Rattle.field.specs.declared.index.ItemIndex.{ItemIndex}
 use Rattle.stream_item.specs.declared.Entry.{Entry}
 use Rattle.stream_item.specs.declared.Entry.the-variants as entry
 use Rattle.stream_item.specs.declared.iter.ItemIter.{ItemIter}

@@ -8,7 +8,7 @@ use native.Mathlib.Omega.{arith}
 use lib.ListN.{length}
 use Rattle.answer.specs.Answer.{Answer, refused}
 use Rattle.answer.specs.Tables.{find, among}
-use Rattle.answer.specs.Refusals.{listed, named, refusals}
+use Rattle.answer.specs.Refusals.{listed, inTable, refusals}
 use Rattle.word_primitive.specs.Kinds.{kinds}
 use Rattle.word_primitive.specs.declared.PrimitiveType.{PrimitiveType}
 use Rattle.stream_header.specs.Header.{longest}
@@ -26,11 +26,11 @@ idlePrimitive i = refused 8 (0 ∷ [])
 
 -- Demand1's fields `headers` and `primitives` hold of them
 header-by-table : (s : List ℕ) → Refuses (16 ∷ 1 ∷ 2 ∷ 3 ∷ 4 ∷ 5 ∷ []) (idleHeader s)
-unfolding fits among listed named refusals
+unfolding fits among listed inTable refusals
 header-by-table s = refuses refl
 
 primitive-by-table : (i : ℕ) → Refuses (8 ∷ []) (idlePrimitive i)
-unfolding fits among listed named refusals
+unfolding fits among listed inTable refusals
 primitive-by-table i = refuses refl
 
 -- ExactlyWhen's `headers-16` and `primitives-8` do not: the empty stream is not too long, and 3 is a primitive

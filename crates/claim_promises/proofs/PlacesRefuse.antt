@@ -7,7 +7,7 @@ use lib.ListN.{length}
 use lib.Dec.{ltb, eqb}
 use Rattle.answer.specs.Answer.{both}
 use Rattle.answer.specs.Tables.{find, among}
-use Rattle.answer.specs.Refusals.{listed, named as inTable, refusals}
+use Rattle.answer.specs.Refusals.{listed, inTable, refusals}
 use Rattle.field.specs.Fields.{littleAt}
 use Rattle.stream_header.specs.declared.Header.{Header}
 use Rattle.stream_finder.specs.Finder.{State}

@@ -9,7 +9,7 @@ use lib.Dec.{leb, ltb, eqb}
 use lib.IntN.{ℤ, pos, negsuc}
 use Rattle.answer.specs.Answer.{Answer, answered, refused, pick, both, Got, Read}
 use Rattle.answer.specs.Tables.{Line, _is_, find, among}
-use Rattle.answer.specs.Refusals.{listed, named as inTable, refusals}
+use Rattle.answer.specs.Refusals.{listed, inTable, refusals}
 use Rattle.field.specs.Fields.{fixedAt, signedAt}
 use Rattle.field.specs.Indices.{noType, noId, optionalAt}
 use Rattle.field.specs.Runs.{bytesAfter}

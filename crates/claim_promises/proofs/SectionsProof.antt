@@ -9,7 +9,7 @@ use lib.Dec.{leb, ltb, eqb}
 use borrow.Author.Tests.{ltb-true, ltb-false, lt-ltb, le-ltb, leb-true, eqb-true, eqb-false}
 use Rattle.answer.specs.Answer.{Answer, answered, refused, pick, stop, then}
 use Rattle.answer.specs.Tables.{find, among}
-use Rattle.answer.specs.Refusals.{listed, named as inTable, refusals}
+use Rattle.answer.specs.Refusals.{listed, inTable, refusals}
 use Rattle.field.specs.Fields.{littleAt}
 use Rattle.stream_header.specs.Header.{longest}
 use Rattle.stream_item.specs.Iterator.{Next, done, yielded, nextOf}

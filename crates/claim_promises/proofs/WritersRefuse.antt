@@ -10,7 +10,7 @@ use lib.Dec.{ltb, eqb}
 use lib.IntN.{ℤ, pos, negsuc}
 use Rattle.answer.specs.Answer.{Answer, answered, refused, pick}
 use Rattle.answer.specs.Tables.{find, among}
-use Rattle.answer.specs.Refusals.{listed, named as inTable, refusals}
+use Rattle.answer.specs.Refusals.{listed, inTable, refusals}
 use Rattle.field.specs.Bytes.{bytes}
 use Rattle.field.specs.Indices.{noType, noId}
 use Rattle.field_number.specs.Forms.{shortest, carried}

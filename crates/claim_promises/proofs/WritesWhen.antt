@@ -9,7 +9,7 @@ use lib.Dec.{ltb, eqb}
 use borrow.Author.Tests.{ltb-true, ltb-false, lt-ltb, le-ltb, eqb-true}
 use Rattle.answer.specs.Answer.{Answer, answered, refused, got, pick, stop, then, both}
 use Rattle.answer.specs.Tables.{Line, _is_, find, among}
-use Rattle.answer.specs.Refusals.{listed, named as inTable, refusals}
+use Rattle.answer.specs.Refusals.{listed, inTable, refusals}
 use Rattle.field.specs.Bytes.{bytes}
 use Rattle.field.proofs.ByteLaws.{Stands, stands}
 use Rattle.field_number.specs.Forms.{formOf, AllBytes}

@@ -12,7 +12,7 @@ use Rattle.field_number.specs.Forms.{shortest, carried}
 use Rattle.word_attributes.specs.Pointers.{kindOf, modeOf, toMemberOf, pointerKinds, pointerModes}
 use Rattle.stream_header.specs.declared.Header.{Header}
 use Rattle.stream_item.specs.Iterator.{iterOf}
-use Rattle.stream_item.specs.declared.Stream.the-variants.{Types}
+use Rattle.field.specs.declared.index.Stream.the-variants.{Types}
 use Rattle.record_layout.specs.Fields.{number, numeral, absent, many}
 use Rattle.record_layout.specs.Layouts.{typeLeaves, memberLeaves}
 use Rattle.write_layout.specs.Runs.{noZero, pads, zeros}

@@ -34,13 +34,15 @@ use Rattle.declare_word.specs.declared.Quals.{Quals}
 use Rattle.declare_word.specs.declared.Word.{Word}
 use Rattle.field.specs.Bytes.{bytes as bytes-of-field}
 use Rattle.field.specs.Fields.{fixedAt, said16, said32, said64, said8}
-use Rattle.field.specs.Indices.{idOption, noId, noType, optionalAt, optionalOf, saidId, saidOptId, saidOptType, saidStringRef, saidType, typeOption}
+use Rattle.field.specs.Indices.{idOption, indexIn, noId, noType, numberIn, optionalAt, optionalOf, saidId, saidOptId, saidOptType, saidStringRef, saidType, streamIn, typeOption}
 use Rattle.field.specs.Runs.{bytesAfter, bytesAt, saidAfter}
 use Rattle.field.specs.declared.fixed.Read16.{Read16}
 use Rattle.field.specs.declared.fixed.Read32.{Read32}
 use Rattle.field.specs.declared.fixed.Read64.{Read64}
 use Rattle.field.specs.declared.fixed.Read8.{Read8}
 use Rattle.field.specs.declared.index.IdIndex.{IdIndex}
+use Rattle.field.specs.declared.index.ItemIndex.the-variants as item-index
+use Rattle.field.specs.declared.index.ItemIndex.{ItemIndex}
 use Rattle.field.specs.declared.index.OptIdIndex.{OptIdIndex}
 use Rattle.field.specs.declared.index.OptTypeIndex.{OptTypeIndex}
 use Rattle.field.specs.declared.index.ReadId.{ReadId}
@@ -48,6 +50,7 @@ use Rattle.field.specs.declared.index.ReadOptId.{ReadOptId}
 use Rattle.field.specs.declared.index.ReadOptType.{ReadOptType}
 use Rattle.field.specs.declared.index.ReadStringRef.{ReadStringRef}
 use Rattle.field.specs.declared.index.ReadType.{ReadType}
+use Rattle.field.specs.declared.index.Stream.{Stream}
 use Rattle.field.specs.declared.index.TypeIndex.{TypeIndex}
 use Rattle.field.specs.declared.run.After.{After}
 use Rattle.field_number.specs.Forms.{numeralAt, saidSize as saidSize-of-field-number, saidVariant, sizedAt}
@@ -103,13 +106,10 @@ use Rattle.stream_index.specs.declared.IndexAnswer.{IndexAnswer}
 use Rattle.stream_index.specs.declared.Tour.{Tour}
 use Rattle.stream_index.specs.declared.TurnAnswer.{TurnAnswer}
 use Rattle.stream_item.specs.Information.{isEmptyOf, lenOf, saidEmpty, saidLen}
-use Rattle.stream_item.specs.Items.{indexIn, indexOf, lengthOf, numberIn, streamIn}
+use Rattle.stream_item.specs.Items.{indexOf, lengthOf}
 use Rattle.stream_item.specs.Iterator.{iterOf, nextOf, saidIter, saidNext}
 use Rattle.stream_item.specs.Links.{linkOf}
 use Rattle.stream_item.specs.declared.Entry.{Entry}
-use Rattle.stream_item.specs.declared.ItemIndex.the-variants as item-index
-use Rattle.stream_item.specs.declared.ItemIndex.{ItemIndex}
-use Rattle.stream_item.specs.declared.Stream.{Stream}
 use Rattle.stream_item.specs.declared.information.EmptyAnswer.{EmptyAnswer}
 use Rattle.stream_item.specs.declared.information.LenAnswer.{LenAnswer}
 use Rattle.stream_item.specs.declared.iter.ItemIter.{ItemIter}
@@ -236,6 +236,18 @@ field-fixed-u32-at s p r = said32 r ≡ fixedAt 4 s p
 -- field::fixed::u64_at
 abbrev pub field-fixed-u64-at : (s : List ℕ) (p : ℕ) → Read64 → Type 0
 field-fixed-u64-at s p r = said64 r ≡ fixedAt 8 s p
+
+-- field::index::Stream::index
+abbrev pub field-index-stream-index : (self : Stream) (n : ℕ) → ItemIndex → Type 0
+field-index-stream-index self n r = r ≡ indexIn self n
+
+-- field::index::ItemIndex::stream
+abbrev pub field-index-item-index-stream : (self : ItemIndex) → Stream → Type 0
+field-index-item-index-stream self r = r ≡ streamIn self
+
+-- field::index::ItemIndex::number
+abbrev pub field-index-item-index-number : (self : ItemIndex) → ℕ → Type 0
+field-index-item-index-number self r = r ≡ numberIn self
 
 -- field::index::TypeIndex::is_cross_module
 abbrev pub field-index-type-index-is-cross-module : (self : TypeIndex) → Bool → Type 0
@@ -500,18 +512,6 @@ stream-index-index-all stream s t r t′ = Indexes-of-stream-index stream s t r 
 -- stream_index::index_all_by
 abbrev pub stream-index-index-all-by : (stream : Stream) (s : List ℕ) (t : List ℕ) (shift : ℕ) → IndexAnswer → List ℕ → Type 0
 stream-index-index-all-by stream s t shift r t′ = IndexesBy-of-stream-index shift stream s t r t′
-
--- stream_item::Stream::index
-abbrev pub stream-item-stream-index : (self : Stream) (n : ℕ) → ItemIndex → Type 0
-stream-item-stream-index self n r = r ≡ indexIn self n
-
--- stream_item::ItemIndex::stream
-abbrev pub stream-item-item-index-stream : (self : ItemIndex) → Stream → Type 0
-stream-item-item-index-stream self r = r ≡ streamIn self
-
--- stream_item::ItemIndex::number
-abbrev pub stream-item-item-index-number : (self : ItemIndex) → ℕ → Type 0
-stream-item-item-index-number self r = r ≡ numberIn self
 
 -- stream_item::Entry::index
 abbrev pub stream-item-entry-index : (self : Entry) → ItemIndex → Type 0

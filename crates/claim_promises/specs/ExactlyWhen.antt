@@ -13,7 +13,7 @@ use lib.ListN.{length, getD}
 use Rattle.answer.specs.Answer.{Answer, answered, refused, pick, Read, got}
 use Rattle.answer.specs.Tables.{find, among}
 use Rattle.field.specs.Fields.{littleAt, fixedAt, signedAt}
-use Rattle.field.specs.Indices.{optionalAt}
+use Rattle.field.specs.Indices.{optionalAt, numberIn}
 use Rattle.field.specs.Runs.{bytesAfter}
 use Rattle.field_text.specs.Texts.{stringAt, countedStringAt, more, paddingAfter}
 use Rattle.field_number.specs.Numbers.{prefixes, numericAt}
@@ -24,14 +24,13 @@ use Rattle.word_attributes.specs.Bits.{bits}
 use Rattle.word_attributes.specs.Pointers.{kindOf, modeOf, toMemberOf, referenceOf, sizeOf}
 use Rattle.stream_header.specs.Header.{longest, fieldsOf, headerOf}
 use Rattle.stream_header.specs.declared.Header.{Header}
-use Rattle.stream_item.specs.Items.{numberIn}
 use Rattle.stream_item.specs.Links.{linkOf}
 use Rattle.stream_item.specs.Iterator.{iterOf, yielded, nextOf}
 use Rattle.stream_item.specs.Information.{lenOf, isEmptyOf}
-use Rattle.stream_item.specs.declared.Stream.{Stream}
-use Rattle.stream_item.specs.declared.Stream.the-variants as stream
+use Rattle.field.specs.declared.index.Stream.{Stream}
+use Rattle.field.specs.declared.index.Stream.the-variants as stream
 use Rattle.stream_item.specs.declared.Item.{Item}
-use Rattle.stream_item.specs.declared.ItemIndex.{ItemIndex}
+use Rattle.field.specs.declared.index.ItemIndex.{ItemIndex}
 use Rattle.stream_item.specs.declared.Entry.{Entry}
 use Rattle.stream_item.specs.declared.Entry.the-variants as entry
 use Rattle.stream_item.specs.declared.iter.ItemIter.{ItemIter}

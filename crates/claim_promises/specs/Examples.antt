@@ -17,9 +17,9 @@ use Rattle.word_attributes.specs.declared.PointerMode.{PointerMode}
 use Rattle.word_attributes.specs.declared.PointerMode.the-variants.{Pointer}
 use Rattle.stream_header.specs.Header.{headerOf}
 use Rattle.stream_header.specs.Examples.{four, headerE, streamE}
-use Rattle.stream_item.specs.Items.{indexIn, numberIn}
+use Rattle.field.specs.Indices.{indexIn, numberIn}
 use Rattle.stream_item.specs.Iterator.{iterOf, Next, done, yielded, nextOf}
-use Rattle.stream_item.specs.declared.Stream.the-variants.{Types}
+use Rattle.field.specs.declared.index.Stream.the-variants.{Types}
 use Rattle.stream_item.specs.declared.Entry.{Entry}
 use Rattle.stream_item.specs.declared.Entry.the-variants as entry
 use Rattle.stream_finder.specs.Finder.{createOf, findOf}

@@ -9,6 +9,8 @@ use Rattle.declare_piece.specs.declared.Piece.{Piece as Piece-of-declare-piece}
 use Rattle.declare_step.specs.declared.Around.{Around}
 use Rattle.declare_word.specs.declared.Quals.{Quals}
 use Rattle.field.specs.declared.index.IdIndex.{IdIndex}
+use Rattle.field.specs.declared.index.ItemIndex.{ItemIndex}
+use Rattle.field.specs.declared.index.Stream.{Stream}
 use Rattle.field.specs.declared.index.TypeIndex.{TypeIndex}
 use Rattle.field_text.specs.declared.RawString.{RawString}
 use Rattle.record_data.specs.declared.TypeData.{TypeData}
@@ -21,8 +23,6 @@ use Rattle.stream_finder.specs.declared.ItemFinder.{ItemFinder}
 use Rattle.stream_finder.specs.declared.Run.{Run}
 use Rattle.stream_header.specs.declared.Header.{Header}
 use Rattle.stream_item.specs.declared.Entry.{Entry}
-use Rattle.stream_item.specs.declared.ItemIndex.{ItemIndex}
-use Rattle.stream_item.specs.declared.Stream.{Stream}
 use Rattle.stream_item.specs.declared.iter.ItemIter.{ItemIter}
 use Rattle.stream_view.specs.declared.EntryView.{EntryView}
 use Rattle.word_attributes.specs.declared.FieldAttributes.{FieldAttributes}
@@ -79,6 +79,9 @@ pub record OneOutcome : Type 1 where
   pub field-fixed-u16-at : (s : List ℕ) (p : ℕ) → Once (contract.field-fixed-u16-at s p)
   pub field-fixed-u32-at : (s : List ℕ) (p : ℕ) → Once (contract.field-fixed-u32-at s p)
   pub field-fixed-u64-at : (s : List ℕ) (p : ℕ) → Once (contract.field-fixed-u64-at s p)
+  pub field-index-stream-index : (self : Stream) (n : ℕ) → Once (contract.field-index-stream-index self n)
+  pub field-index-item-index-stream : (self : ItemIndex) → Once (contract.field-index-item-index-stream self)
+  pub field-index-item-index-number : (self : ItemIndex) → Once (contract.field-index-item-index-number self)
   pub field-index-type-index-is-cross-module : (self : TypeIndex) → Once (contract.field-index-type-index-is-cross-module self)
   pub field-index-type-index-optional : (self : TypeIndex) → Once (contract.field-index-type-index-optional self)
   pub field-index-id-index-is-cross-module : (self : IdIndex) → Once (contract.field-index-id-index-is-cross-module self)
@@ -163,9 +166,6 @@ pub record OneOutcome : Type 1 where
   pub stream-index-index-all : (stream : Stream) (s : List ℕ) (t : List ℕ) → OnceLent (contract.stream-index-index-all stream s t)
   pub stream-index-index-all-by : (stream : Stream) (s : List ℕ) (t : List ℕ) (shift : ℕ) → OnceLent (contract.stream-index-index-all-by stream s t shift)
   -- stream_item
-  pub stream-item-stream-index : (self : Stream) (n : ℕ) → Once (contract.stream-item-stream-index self n)
-  pub stream-item-item-index-stream : (self : ItemIndex) → Once (contract.stream-item-item-index-stream self)
-  pub stream-item-item-index-number : (self : ItemIndex) → Once (contract.stream-item-item-index-number self)
   pub stream-item-entry-index : (self : Entry) → Once (contract.stream-item-entry-index self)
   pub stream-item-entry-len : (self : Entry) → Once (contract.stream-item-entry-len self)
   pub stream-item-entry-is-empty : (self : Entry) → Once (contract.stream-item-entry-is-empty self)

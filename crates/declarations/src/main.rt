@@ -1,12 +1,12 @@
 // Reads a TPI stream of at most 65,536 bytes from standard input and prints each of its types as a C declaration, in a room of 4,096 bytes.
 use answer::Refusal;
 use declare_type::DeclareAnswer;
+use field::index::Stream;
 use field::index::TypeIndex;
 use libc::STDIN_FILENO;
 use libc::STDOUT_FILENO;
 use stream_finder::ItemFinder;
 use stream_index::IndexAnswer;
-use stream_item::Stream;
 
 fn put(text: &[u8]) {
     io::write_all(STDOUT_FILENO, text);

@@ -6,7 +6,7 @@ use mathlib.Core.Option.{Option, none, some}
 use lib.ListN.{length, take, drop}
 use lib.Dec.{ltb}
 use Rattle.answer.specs.Answer.{Answer, answered, refused, Read, pick}
-use Rattle.answer.specs.Refusals.{named, refusals}
+use Rattle.answer.specs.Refusals.{inTable, refusals}
 use Rattle.answer.specs.Tables.{among}
 use Rattle.answer.specs.declared.Refusal.{Refusal}
 use Rattle.answer.specs.declared.Refusal.the-variants as refusal
@@ -16,7 +16,7 @@ use Rattle.word_primitive.specs.declared.PrimitiveType.{PrimitiveType}
 use Rattle.record_layout.specs.Fields.{Shown}
 use Rattle.record_layout.specs.Layouts.{recordOf, typeLeaves}
 use Rattle.record_data.specs.Said.{typeValues}
-use Rattle.stream_item.specs.declared.ItemIndex.the-variants as index
+use Rattle.field.specs.declared.index.ItemIndex.the-variants as index
 use Rattle.stream_item.specs.declared.Entry.{Entry}
 use Rattle.stream_item.specs.declared.Entry.the-variants as entry
 use Rattle.stream_finder.specs.Finder.{State, Found, findOf}
@@ -41,7 +41,7 @@ orEnded none = refusal.Ended
 orEnded (some e) = e
 
 abbrev pub unread : ℕ → List ℕ → Seen
-unread n d = nothing (orEnded (named refusals n d))
+unread n d = nothing (orEnded (inTable refusals n d))
 
 -- the leaves that have a declaration; the leaf of an argument list
 unfoldable pub declaredLeaves : List ℕ

@@ -15,8 +15,8 @@ use Rattle.record_layout.specs.Fields.{Shown, number, numeral, absent, many}
 use Rattle.record_layout.specs.Values.{nth, numberIn}
 use Rattle.stream_finder.specs.Finder.{State}
 use Rattle.declare_word.specs.declared.Quals.{Quals}
-use Rattle.declare_node.specs.declared.Extent.{Extent}
-use Rattle.declare_node.specs.declared.Extent.the-variants as extent
+use Rattle.declare_word.specs.declared.Extent.{Extent}
+use Rattle.declare_word.specs.declared.Extent.the-variants as extent
 use Rattle.declare_node.specs.declared.Node.{Node}
 use Rattle.declare_node.specs.declared.Node.the-variants as node
 use Rattle.declare_node.specs.declared.Arguments.{Arguments}

@@ -17,6 +17,7 @@ ghost use Rattle.declare_node.specs.Looked.{declaredLeaves, listLeaves, 
 ghost use Rattle.declare_node.specs.Nodes.{typeIndex, leafIn, sizedIn, sizedBy, sizeThrough, extentOf, nameIn, pointerQuals, modifierQuals, nodeIn, nodeOf, listBy, listOf, indexAt};
 ghost use Rattle.declare_node.specs.Inside.{HeldAt, HeldInside, ListInside};
 use answer::Refusal;
+use declare_word::Extent;
 use declare_word::Quals;
 use field::fixed;
 use field::fixed::Read16;
@@ -54,12 +55,6 @@ const FIRST_RECORD: u32 = 0x1000;
 
 // How many modifiers and enumerations a size is looked for through.
 const THROUGH: u32 = 32;
-
-// How many elements an array has.
-pub enum Extent {
-    Known(u64),
-    Unknown,
-}
 
 // What a type is, as far as its declaration goes.
 pub enum Node {

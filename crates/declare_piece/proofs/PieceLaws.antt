@@ -8,7 +8,7 @@ use lib.ListN.{length, take, drop, length-append, length-take, length-drop}
 use lib.Dec.{ltb, eqb}
 use borrow.Author.Tests.{lt-ltb, le-ltb, ne-eqb}
 use Rattle.word_primitive.specs.declared.PrimitiveKind.{PrimitiveKind}
-use Rattle.declare_node.specs.declared.Extent.{Extent}
+use Rattle.declare_word.specs.declared.Extent.{Extent}
 use Rattle.word_primitive.specs.declared.Indirection.{Indirection}
 use Rattle.declare_word.specs.declared.Quals.{Quals}
 use Rattle.declare_piece.specs.declared.Piece.{Piece}

@@ -5,8 +5,8 @@ use mathlib.Core.List.{List, [], _∷_, _++_}
 use lib.ListN.{take, drop}
 use lib.Dec.{ltb}
 use Rattle.answer.specs.Answer.{pick}
-use Rattle.declare_node.specs.declared.Extent.{Extent}
-use Rattle.declare_node.specs.declared.Extent.the-variants as extent
+use Rattle.declare_word.specs.declared.Extent.{Extent}
+use Rattle.declare_word.specs.declared.Extent.the-variants as extent
 use Rattle.declare_piece.specs.declared.Piece.{Piece}
 use Rattle.declare_piece.specs.declared.Piece.the-variants as piece
 use Rattle.declare_word.specs.Spellings.{quoted, kindText, byText, modeText, qualsText}

@@ -6,7 +6,7 @@ ghost use Rattle.declare_word.specs.Spellings.{kindText, byText, modeText, qual
 ghost use Rattle.declare_piece.specs.Pieces.{gap, decimal, extentText, closing, textOf};
 ghost use Rattle.declare_piece.specs.Lengths.{spacedLength, qualsLength};
 use crate::Piece;
-use declare_node::Extent;
+use declare_word::Extent;
 use declare_word::Quals;
 use word_primitive::Indirection;
 use word_primitive::PrimitiveKind;

@@ -7,7 +7,7 @@ ghost use mathlib.Core.Path.{_≡_};
 ghost use lib.ListN.{length};
 ghost use Rattle.field_put.specs.Bytes.{Lays};
 ghost use Rattle.declare_piece.specs.Pieces.{textOf};
-use declare_node::Extent;
+use declare_word::Extent;
 use declare_word::Quals;
 use word_primitive::Indirection;
 use word_primitive::PrimitiveKind;

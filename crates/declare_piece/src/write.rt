@@ -10,7 +10,7 @@ ghost use Rattle.declare_piece.specs.Pieces.{decimal, extentText, closin
 ghost use Rattle.declare_piece.specs.Lengths.{ending};
 use crate::Piece;
 use crate::count;
-use declare_node::Extent;
+use declare_word::Extent;
 use declare_word::Quals;
 use declare_word::Word;
 use word_primitive::Indirection;

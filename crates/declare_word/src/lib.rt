@@ -1,4 +1,5 @@
 // The house spellings of R-5 of document 02, each a table: indirections, modes of pointers, qualifiers; those of the kinds are in declare_kind.
+// Beside them what a declaration is spelled from and no lookup is needed for: qualifiers, and an array's extent.
 // specs/Spellings.antt has all of them as definitions, specs/Words.antt how a text stands in a word.
 ghost use Rattle.declare_word.specs.Spellings.{byText, modeText, qualsText};
 ghost use Rattle.declare_word.specs.Words.{Spells};
@@ -10,6 +11,12 @@ pub struct Quals {
     pub volatile: bool,
     pub unaligned: bool,
     pub restrict: bool,
+}
+
+// How many elements an array has.
+pub enum Extent {
+    Known(u64),
+    Unknown,
 }
 
 // A short text: the first n bytes, and spaces behind them.

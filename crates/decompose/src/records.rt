@@ -4,6 +4,7 @@ use crate::values;
 use answer::Refusal;
 use field::index::OptIdIndex;
 use field::index::OptTypeIndex;
+use field::index::Stream;
 use field_text::OptString;
 use field_text::RawString;
 use record_data::ArrayType;
@@ -30,7 +31,6 @@ use record_list::Element;
 use record_list::ListCursor;
 use record_list::StartAnswer;
 use record_list::StepAnswer;
-use stream_item::Stream;
 
 // What may be absent, as a mark and its numbers.
 

@@ -6,6 +6,10 @@ use mathlib.Core.Option.{Option, none, some}
 use Rattle.answer.specs.Answer.{Answer, Read, got, ended, pick, and-then}
 use Rattle.answer.specs.Tables.{among}
 use Rattle.field.specs.Fields.{fixedAt}
+use Rattle.field.specs.declared.index.Stream.{Stream}
+use Rattle.field.specs.declared.index.Stream.the-variants as stream
+use Rattle.field.specs.declared.index.ItemIndex.{ItemIndex}
+use Rattle.field.specs.declared.index.ItemIndex.the-variants as index
 use Rattle.field.specs.declared.index.ReadType.{ReadType}
 use Rattle.field.specs.declared.index.ReadType.the-variants as at-type
 use Rattle.field.specs.declared.index.ReadId.{ReadId}
@@ -20,6 +24,19 @@ use Rattle.field.specs.declared.index.ReadOptType.{ReadOptType}
 use Rattle.field.specs.declared.index.ReadOptType.the-variants as rtype
 use Rattle.field.specs.declared.index.ReadOptId.{ReadOptId}
 use Rattle.field.specs.declared.index.ReadOptId.the-variants as rid
+
+-- index n of a stream
+abbrev pub indexIn : Stream → ℕ → ItemIndex
+indexIn stream.Types n = index.Types (record { 0 = n })
+indexIn stream.Ids n = index.Ids (record { 0 = n })
+
+abbrev pub streamIn : ItemIndex → Stream
+streamIn (index.Types i) = stream.Types
+streamIn (index.Ids i) = stream.Ids
+
+abbrev pub numberIn : ItemIndex → ℕ
+numberIn (index.Types i) = i .0
+numberIn (index.Ids i) = i .0
 
 -- where an optional type index is none, and where an optional id index is
 abbrev pub noType : List ℕ

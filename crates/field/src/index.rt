@@ -1,8 +1,8 @@
 // Indices into the TPI stream, indices into the IPI stream and string references: three kinds of number, so that the build refuses one
-// given for another. An optional index is none at the numbers that document 01 names.
+// given for another; and the tag that says in which of the two streams an item counts. An optional index is none at the numbers that document 01 names.
 ghost use mathlib.Core.Path.{_≡_};
 ghost use lib.Dec.{leb};
-ghost use Rattle.field.specs.Indices.{saidType, saidId, saidStringRef, optionalOf, noType, noId, optionalAt, typeOption, idOption, saidOptType, saidOptId};
+ghost use Rattle.field.specs.Indices.{saidType, saidId, saidStringRef, optionalOf, noType, noId, optionalAt, typeOption, idOption, saidOptType, saidOptId, indexIn, streamIn, numberIn};
 ghost use Rattle.field.specs.Fields.{fixedAt};
 use crate::fixed;
 use crate::fixed::Read32;
@@ -15,6 +15,19 @@ pub struct IdIndex(pub u32);
 
 // A string of the database's string table.
 pub struct StringRef(pub u32);
+
+// The two streams of items: types (TPI) and ids (IPI).
+pub enum Stream {
+    Types,
+    Ids,
+}
+
+// An index that says by its type in which stream it counts: an item names its stream by it, and no caller gives or gets a bare number.
+// Types and ids share every function over items, so the stream is this tag and not two kinds of item.
+pub enum ItemIndex {
+    Types(TypeIndex),
+    Ids(IdIndex),
+}
 
 pub enum ReadType {
     Got(TypeIndex, usize),
@@ -49,6 +62,40 @@ pub enum ReadOptType {
 pub enum ReadOptId {
     Got(OptIdIndex, usize),
     Ended,
+}
+
+impl Stream {
+    // The index n of this stream.
+    pub fn index(self, n: u32) -> ItemIndex
+        ensures { λ r. ⌜ r ≡ indexIn self n ⌝ }
+    {
+        match self {
+            Stream::Types => ItemIndex::Types(TypeIndex(n)),
+            Stream::Ids => ItemIndex::Ids(IdIndex(n)),
+        }
+    }
+}
+
+impl ItemIndex {
+    // The stream that the index counts in.
+    pub fn stream(self) -> Stream
+        ensures { λ r. ⌜ r ≡ streamIn self ⌝ }
+    {
+        match self {
+            ItemIndex::Types(_) => Stream::Types,
+            ItemIndex::Ids(_) => Stream::Ids,
+        }
+    }
+
+    // The index as 01's table reports it.
+    pub fn number(self) -> u32
+        ensures { λ r. ⌜ r ≡ numberIn self ⌝ }
+    {
+        match self {
+            ItemIndex::Types(i) => i.0,
+            ItemIndex::Ids(i) => i.0,
+        }
+    }
 }
 
 impl TypeIndex {

@@ -4,13 +4,13 @@
 ghost use mathlib.Core.Path.{_≡_};
 ghost use lib.ListN.{length};
 use answer::Refusal;
+use field::index::Stream;
 use libc::STDERR_FILENO;
 use libc::STDIN_FILENO;
 use libc::STDOUT_FILENO;
 use stream_finder::ItemFinder;
 use stream_index::End;
 use stream_index::IndexAnswer;
-use stream_item::Stream;
 use stream_places::SaveAnswer;
 
 // The longest stream; its places, since a record takes four bytes at least; and the bytes of its file.

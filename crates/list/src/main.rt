@@ -1,12 +1,12 @@
 // Document 01's program: reads a TPI stream of at most 65,536 bytes from standard input and lists its records.
 use answer::Refusal;
+use field::index::Stream;
 use libc::STDIN_FILENO;
 use libc::STDOUT_FILENO;
 use stream_header::Header;
 use stream_header::HeaderAnswer;
 use stream_item::Entry;
 use stream_item::Item;
-use stream_item::Stream;
 use stream_item::iter::ItemIter;
 use stream_item::iter::IterAnswer;
 use stream_item::iter::NextAnswer;

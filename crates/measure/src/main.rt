@@ -5,6 +5,7 @@ mod sums;
 
 ghost use mathlib.Core.Path.{_≡_};
 ghost use lib.ListN.{length};
+use field::index::Stream;
 use field::index::TypeIndex;
 use libc::STDIN_FILENO;
 use libc::STDOUT_FILENO;
@@ -22,7 +23,6 @@ use stream_header::HeaderAnswer;
 use stream_index::IndexAnswer;
 use stream_item::Entry;
 use stream_item::Item;
-use stream_item::Stream;
 use stream_item::iter::ItemIter;
 use stream_item::iter::IterAnswer;
 use stream_item::iter::NextAnswer;

@@ -2,6 +2,7 @@
 // that depends on what was written: what compare/speed_write.sh counts the instructions of. The arguments are `types` or `ids`, and how many times.
 ghost use mathlib.Core.Path.{_≡_};
 ghost use lib.ListN.{length};
+use field::index::Stream;
 use libc::STDIN_FILENO;
 use libc::STDOUT_FILENO;
 use record_data::TypeAnswer;
@@ -13,7 +14,6 @@ use record_list::StartAnswer;
 use record_list::StepAnswer;
 use stream_item::Entry;
 use stream_item::Item;
-use stream_item::Stream;
 use stream_item::iter::ItemIter;
 use stream_item::iter::IterAnswer;
 use stream_item::iter::NextAnswer;

@@ -4,6 +4,7 @@
 use answer::Refusal;
 use declare_type::DeclareAnswer;
 use field::index::OptTypeIndex;
+use field::index::Stream;
 use field::index::TypeIndex;
 use libc::STDIN_FILENO;
 use libc::STDOUT_FILENO;
@@ -21,7 +22,6 @@ use stream_finder::ItemFinder;
 use stream_index::End;
 use stream_index::IndexAnswer;
 use stream_item::Entry;
-use stream_item::Stream;
 use stream_item::iter::ItemIter;
 
 fn put(text: &[u8]) {

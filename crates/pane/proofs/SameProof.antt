@@ -14,11 +14,11 @@ use Rattle.answer.specs.Tables.{find}
 use Rattle.stream_header.specs.Header.{longest, headerOf}
 use Rattle.stream_header.specs.declared.Header.{Header}
 use Rattle.field.specs.Fields.{littleAt}
-use Rattle.stream_item.specs.Items.{indexIn}
+use Rattle.field.specs.Indices.{indexIn}
 use Rattle.stream_item.specs.Links.{linkOf}
 use Rattle.stream_item.specs.Iterator.{Next, nextOf, overRecord, done}
-use Rattle.stream_item.specs.declared.Stream.the-variants.{Types, Ids}
-use Rattle.stream_item.specs.declared.ItemIndex.{ItemIndex}
+use Rattle.field.specs.declared.index.Stream.the-variants.{Types, Ids}
+use Rattle.field.specs.declared.index.ItemIndex.{ItemIndex}
 use Rattle.stream_item.specs.declared.iter.ItemIter.{ItemIter}
 use Rattle.stream_item.specs.declared.link.Hit.{Hit}
 use Rattle.stream_item.specs.declared.link.Hit.the-variants.{Landed, Missed}

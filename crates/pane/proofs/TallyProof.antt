@@ -12,11 +12,11 @@ use borrow.Author.Tests.{le-ltb}
 use Rattle.answer.specs.Answer.{Answer, answered, refused, pick, stop}
 use Rattle.stream_header.specs.Header.{headerOf, longest}
 use Rattle.stream_header.specs.declared.Header.{Header}
-use Rattle.stream_item.specs.Items.{indexIn, numberIn}
+use Rattle.field.specs.Indices.{indexIn, numberIn}
 use Rattle.stream_item.specs.Links.{linkOf}
-use Rattle.stream_item.specs.declared.Stream.{Stream}
-use Rattle.stream_item.specs.declared.Stream.the-variants as stream
-use Rattle.stream_item.specs.declared.ItemIndex.{ItemIndex}
+use Rattle.field.specs.declared.index.Stream.{Stream}
+use Rattle.field.specs.declared.index.Stream.the-variants as stream
+use Rattle.field.specs.declared.index.ItemIndex.{ItemIndex}
 use Rattle.stream_item.specs.declared.iter.ItemIter.{ItemIter}
 use Rattle.stream_item.specs.declared.link.Hit.{Hit}
 use Rattle.stream_item.specs.declared.link.Hit.the-variants.{Landed, Missed}

@@ -11,9 +11,9 @@ use borrow.Author.Tests.{eqb-true, eqb-false}
 use Rattle.answer.specs.Answer.{both}
 use Rattle.field.specs.Fields.{littleAt}
 use Rattle.stream_header.specs.Header.{headerOf, fieldsOf}
-use Rattle.stream_item.specs.Items.{indexIn}
+use Rattle.field.specs.Indices.{indexIn}
 use Rattle.stream_item.specs.Links.{linkAt, chain, linkOf}
-use Rattle.stream_item.specs.declared.Stream.the-variants.{Types}
+use Rattle.field.specs.declared.index.Stream.the-variants.{Types}
 use Rattle.stream_finder.specs.Finder.{State, state, begunBy, createBy, lookOf, findOf}
 use Rattle.stream_finder.proofs.Examples.{finderBy}
 use Rattle.stream_finder.proofs.Witnesses.{streamL, threeL, premisesL, streamX, usedX}

@@ -5,11 +5,11 @@ use lib.ListN.{getD, replicate}
 use lib.IntN.{ℤ, pos, negsuc}
 use Rattle.answer.specs.Answer.{Answer, answered, refused}
 use Rattle.stream_header.specs.declared.Header.{Header}
-use Rattle.stream_item.specs.Items.{numberIn}
+use Rattle.field.specs.Indices.{numberIn}
 use Rattle.stream_item.specs.Iterator.{Next, done, yielded}
-use Rattle.stream_item.specs.declared.Stream.the-variants.{Types}
-use Rattle.stream_item.specs.declared.ItemIndex.{ItemIndex}
-use Rattle.stream_item.specs.declared.ItemIndex.the-variants as index
+use Rattle.field.specs.declared.index.Stream.the-variants.{Types}
+use Rattle.field.specs.declared.index.ItemIndex.{ItemIndex}
+use Rattle.field.specs.declared.index.ItemIndex.the-variants as index
 use Rattle.stream_item.specs.declared.Entry.{Entry}
 use Rattle.stream_item.specs.declared.Entry.the-variants as entry
 use Rattle.stream_item.specs.declared.iter.ItemIter.{ItemIter}

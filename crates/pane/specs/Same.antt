@@ -8,9 +8,9 @@ use Rattle.answer.specs.Answer.{answered}
 use Rattle.answer.specs.Tables.{find}
 use Rattle.stream_header.specs.Header.{headerOf}
 use Rattle.stream_header.specs.declared.Header.{Header}
-use Rattle.stream_item.specs.Items.{indexIn}
+use Rattle.field.specs.Indices.{indexIn}
 use Rattle.stream_item.specs.Iterator.{nextOf}
-use Rattle.stream_item.specs.declared.Stream.the-variants.{Types, Ids}
+use Rattle.field.specs.declared.index.Stream.the-variants.{Types, Ids}
 use Rattle.stream_item.specs.declared.iter.ItemIter.{ItemIter}
 use Rattle.stream_finder.specs.Finder.{State, blockOf, distance, createBy, updateOf, after, findOf}
 use Rattle.word_primitive.specs.Kinds.{kinds, indirections}

@@ -7,8 +7,8 @@ use mathlib.Core.Path.{_≡_}
 use Rattle.answer.specs.Answer.{Answer, answered, refused}
 use Rattle.stream_header.specs.Header.{headerOf}
 use Rattle.stream_header.specs.declared.Header.{Header}
-use Rattle.stream_item.specs.Items.{indexIn}
-use Rattle.stream_item.specs.declared.Stream.{Stream}
+use Rattle.field.specs.Indices.{indexIn}
+use Rattle.field.specs.declared.index.Stream.{Stream}
 use Rattle.stream_finder.specs.Finder.{State, createBy, Found, findOf}
 use Rattle.stream_finder.specs.Demand.{Premises}
 use Rattle.stream_finder.specs.Shared.{Updated}

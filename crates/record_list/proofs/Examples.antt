@@ -15,7 +15,7 @@ use Rattle.field_number.specs.Numbers.{prefixes, numericAt}
 use Rattle.field_number.specs.Forms.{Form, shortest, formOf, numeralBy, sizedBy}
 use Rattle.record_layout.specs.Fields.{number, numeral, absent, many, readFieldBy, readFieldsBy}
 use Rattle.record_layout.specs.Layouts.{typeLeaves, idLeaves, readLeaf, readRecord, memberLeaves}
-use Rattle.stream_item.specs.declared.Stream.the-variants.{Types, Ids}
+use Rattle.field.specs.declared.index.Stream.the-variants.{Types, Ids}
 use Rattle.record_list.specs.Lists.{typeElement, idElement, methodElement, memberElement, countedBy, counted, startTypes, startIds, startOf, countedStep, methodStep, memberStep, nextMember, stepOf, elementBy, elementOf}
 
 abbrev in-its-shortest : ℕ → Form

@@ -9,8 +9,8 @@ use Rattle.answer.specs.Answer.{Answer, answered, refused, pick, stop, then, an
 use Rattle.answer.specs.Tables.{find}
 use Rattle.field.specs.Fields.{fixedAt}
 use Rattle.field_text.specs.Texts.{paddingAfter}
-use Rattle.stream_item.specs.declared.Stream.{Stream}
-use Rattle.stream_item.specs.declared.Stream.the-variants as stream
+use Rattle.field.specs.declared.index.Stream.{Stream}
+use Rattle.field.specs.declared.index.Stream.the-variants as stream
 use Rattle.record_layout.specs.Fields.{Field, id, readFields, Shown}
 use Rattle.record_layout.specs.Values.{nth, numberIn, stringIn}
 use Rattle.record_layout.specs.Layouts.{T, Layout, Table, typeLeaves, idLeaves, memberLeaves, method, readRecord}

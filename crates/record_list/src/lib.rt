@@ -15,6 +15,7 @@ use field::index;
 use field::index::IdIndex;
 use field::index::ReadId;
 use field::index::ReadType;
+use field::index::Stream;
 use field::index::TypeIndex;
 use field::run::After;
 use record_layout::LF_ARGLIST;
@@ -26,7 +27,6 @@ use record_member::Member;
 use record_member::MethodListEntry;
 use record_member::ReadMember;
 use record_member::ReadMethodEntry;
-use stream_item::Stream;
 
 // Where a list is read: plain numbers, so that a struct may hold it beside the record's bytes.
 pub struct ListCursor {

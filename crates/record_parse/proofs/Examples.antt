@@ -13,7 +13,7 @@ use Rattle.word_primitive.specs.declared.Indirection.the-variants.{Near64}
 use Rattle.word_attributes.specs.Pointers.{pointerKinds, pointerModes, kindOf, modeOf, toMemberOf}
 use Rattle.record_layout.specs.Fields.{number, absent, readFieldBy, readFieldsBy}
 use Rattle.record_layout.specs.Layouts.{typeLeaves, readLeaf, leafOf, recordOf}
-use Rattle.stream_item.specs.declared.ItemIndex.the-variants as index
+use Rattle.field.specs.declared.index.ItemIndex.the-variants as index
 use Rattle.stream_item.specs.declared.Entry.the-variants as entry
 use Rattle.record_parse.specs.Record.{primitive, type, typeBytes, typeItem, typeMarker, parseOf}
 

@@ -12,8 +12,8 @@ use Rattle.record_layout.specs.Layouts.{recordOf, typeLeaves, idLeaves}
 use Rattle.record_data.specs.Said.{typeValues}
 use Rattle.record_id.specs.Said.{idValues}
 use Rattle.stream_view.specs.Views.{shortOf}
-use Rattle.stream_item.specs.declared.ItemIndex.{ItemIndex}
-use Rattle.stream_item.specs.declared.ItemIndex.the-variants as index
+use Rattle.field.specs.declared.index.ItemIndex.{ItemIndex}
+use Rattle.field.specs.declared.index.ItemIndex.the-variants as index
 use Rattle.stream_item.specs.declared.Entry.{Entry}
 use Rattle.stream_item.specs.declared.Entry.the-variants as entry
 use Rattle.record_parse.specs.declared.ParseAnswer.{ParseAnswer}

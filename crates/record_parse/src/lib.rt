@@ -3,6 +3,7 @@
 ghost use mathlib.Core.Path.{_≡_};
 ghost use Rattle.record_parse.specs.Record.{numberedOf, typeBytes, idBytes, typeItem, typeMarker, parseOf, saidParse};
 use answer::Refusal;
+use field::index::ItemIndex;
 use field::index::TypeIndex;
 use record_data::TypeAnswer;
 use record_data::TypeData;
@@ -10,7 +11,6 @@ use record_id::IdAnswer;
 use record_id::IdData;
 use stream_header::LONGEST;
 use stream_item::Entry;
-use stream_item::ItemIndex;
 use word_primitive::PrimitiveAnswer;
 use word_primitive::PrimitiveType;
 

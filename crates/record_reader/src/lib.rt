@@ -4,11 +4,11 @@ ghost use mathlib.Core.Path.{_≡_};
 ghost use Rattle.record_list.specs.Lists.{stepOf, elementBy, elementOf};
 ghost use Rattle.record_list.specs.Said.{saidElement};
 ghost use Rattle.record_reader.specs.Reader.{Steps};
+use field::index::Stream;
 use record_list::ElementAnswer;
 use record_list::ListCursor;
 use record_list::StartAnswer;
 use record_list::StepAnswer;
-use stream_item::Stream;
 
 // A record's bytes, and where in them its list is read: one reader for all lists, by the leaf in the cursor.
 pub struct ListReader<'a> {

@@ -3,10 +3,10 @@
 use crate::lines;
 use crate::stream_lines;
 use declare_type::DeclareAnswer;
+use field::index::Stream;
 use field::index::TypeIndex;
 use stream_finder::ItemFinder;
 use stream_index::IndexAnswer;
-use stream_item::Stream;
 
 // The most bytes that are lent.
 const ROOM: usize = 70000;

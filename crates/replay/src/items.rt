@@ -2,9 +2,9 @@
 use crate::lines;
 use crate::record_lines;
 use crate::stream_lines;
+use field::index::Stream;
 use stream_item::Entry;
 use stream_item::Item;
-use stream_item::Stream;
 use stream_item::iter::ItemIter;
 use stream_item::iter::IterAnswer;
 use stream_item::iter::NextAnswer;

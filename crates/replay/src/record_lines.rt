@@ -2,6 +2,7 @@
 // program: its functions are proved safe, and what they print is tested and not proved.
 use crate::lines;
 use answer::Refusal;
+use field::index::Stream;
 use field::index::TypeIndex;
 use field_number::Size;
 use field_text::OptString;
@@ -44,7 +45,6 @@ use record_member::StaticMemberType;
 use record_member::VirtualBaseClassType;
 use record_parse::ParseAnswer;
 use stream_item::Entry;
-use stream_item::Stream;
 
 // The place and the length of a string that may be absent, as a form takes them.
 

@@ -4,6 +4,8 @@ use crate::input;
 use crate::lines;
 use crate::stream_lines;
 use field::index::IdIndex;
+use field::index::ItemIndex;
+use field::index::Stream;
 use field::index::TypeIndex;
 use field_text::OptString;
 use record_data::TypeAnswer;
@@ -12,8 +14,6 @@ use record_list::ElementAnswer;
 use record_list::StartAnswer;
 use stream_item::Entry;
 use stream_item::Item;
-use stream_item::ItemIndex;
-use stream_item::Stream;
 use stream_item::information::EmptyAnswer;
 use stream_item::information::LenAnswer;
 

@@ -7,7 +7,7 @@ use lib.ListN.{length}
 use Rattle.answer.specs.Answer.{answered}
 use Rattle.field.specs.Fields.{littleAt}
 use Rattle.stream_header.specs.Header.{longest}
-use Rattle.stream_item.specs.declared.Stream.the-variants.{Types}
+use Rattle.field.specs.declared.index.Stream.the-variants.{Types}
 use Rattle.stream_finder.specs.Finder.{State, state}
 use Rattle.stream_finder.specs.Runs.{PremisesIn, Demand3In, NotIndexedIn, SharedIn}
 use Rattle.stream_finder.proofs.DemandProof.{demand3-in, not-indexed-in}

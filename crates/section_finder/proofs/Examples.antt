@@ -5,10 +5,10 @@ use mathlib.Core.List.{[], _∷_}
 use native.Mathlib.Omega.{arith}
 use Rattle.answer.specs.Answer.{answered, refused}
 use Rattle.field.specs.Fields.{littleAt}
-use Rattle.stream_item.specs.Items.{indexIn}
+use Rattle.field.specs.Indices.{indexIn}
 use Rattle.stream_item.specs.Links.{linkOf, chain, linkAt}
 use Rattle.stream_item.specs.Iterator.{nextOf}
-use Rattle.stream_item.specs.declared.Stream.the-variants.{Types}
+use Rattle.field.specs.declared.index.Stream.the-variants.{Types}
 use Rattle.stream_finder.specs.Finder.{State, state, updateOf, lookOf, findOf}
 use Rattle.stream_finder.specs.Demand.{Walked, none, more}
 use Rattle.stream_finder.specs.Finder.{holdingIn}

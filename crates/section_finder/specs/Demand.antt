@@ -6,8 +6,8 @@ use mathlib.Core.List.{List}
 use lib.ListN.{length}
 use lib.Dec.{ltb, eqb}
 use Rattle.answer.specs.Answer.{answered}
-use Rattle.stream_item.specs.Items.{indexIn}
-use Rattle.stream_item.specs.declared.Stream.the-variants.{Types}
+use Rattle.field.specs.Indices.{indexIn}
+use Rattle.field.specs.declared.index.Stream.the-variants.{Types}
 use Rattle.stream_item.specs.declared.iter.ItemIter.{ItemIter}
 use Rattle.stream_finder.specs.Finder.{State, state, holdingIn, findOf}
 use Rattle.stream_finder.specs.Demand.{Walked, looked, numberGiven}

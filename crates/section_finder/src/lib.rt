@@ -3,12 +3,12 @@
 // one behind the last. `update`, `find_type` and `max_type_index` are those of crates/stream_finder, on the section's bytes.
 ghost use Rattle.stream_finder.specs.Finder.{Fills};
 ghost use Rattle.section_finder.specs.Finders.{createBy, createOf, IndexesBy, Indexes};
+use field::index::Stream;
 use section_item::FIRST;
 use section_item::START;
 use stream_finder::FinderAnswer;
 use stream_finder::Run;
 use stream_index::IndexAnswer;
-use stream_item::Stream;
 use stream_item::information::LenAnswer;
 use stream_item::iter::ItemIter;
 

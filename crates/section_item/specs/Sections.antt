@@ -10,7 +10,7 @@ use Rattle.answer.specs.Answer.{Answer, answered, refused, pick, stop, then}
 use Rattle.field.specs.Fields.{littleAt}
 use Rattle.stream_header.specs.Header.{longest}
 use Rattle.stream_item.specs.Iterator.{Next, done, yielded, nextOf}
-use Rattle.stream_item.specs.declared.Stream.the-variants as stream
+use Rattle.field.specs.declared.index.Stream.the-variants as stream
 use Rattle.stream_item.specs.declared.Item.{Item}
 use Rattle.stream_item.specs.declared.iter.ItemIter.{ItemIter}
 

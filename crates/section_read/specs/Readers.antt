@@ -9,9 +9,9 @@ use lib.Dec.{ltb}
 use Rattle.answer.specs.Answer.{Answer, Read, answered, refused, pick}
 use Rattle.answer.specs.Tables.{find}
 use Rattle.field.specs.Fields.{fixedAt}
-use Rattle.stream_item.specs.Items.{indexIn, numberIn}
-use Rattle.stream_item.specs.declared.Stream.{Stream}
-use Rattle.stream_item.specs.declared.Stream.the-variants.{Types, Ids}
+use Rattle.field.specs.Indices.{indexIn, numberIn}
+use Rattle.field.specs.declared.index.Stream.{Stream}
+use Rattle.field.specs.declared.index.Stream.the-variants.{Types, Ids}
 use Rattle.stream_item.specs.declared.Entry.{Entry}
 use Rattle.stream_item.specs.declared.Entry.the-variants as entry
 use Rattle.record_layout.specs.Layouts.{Layout, typeLeaves, idLeaves}

@@ -7,6 +7,8 @@ ghost use Rattle.record_parse.specs.Record.{saidParse};
 ghost use Rattle.section_read.specs.Readers.{readerOf, readerAt, tagOf, sortedOf, readOf};
 use field::fixed;
 use field::fixed::Read16;
+use field::index::ItemIndex;
+use field::index::Stream;
 use record_layout::LF_BUILDINFO;
 use record_layout::LF_FUNC_ID;
 use record_layout::LF_MFUNC_ID;
@@ -18,8 +20,6 @@ use record_list::StartAnswer;
 use record_parse::ParseAnswer;
 use stream_item::Entry;
 use stream_item::Item;
-use stream_item::ItemIndex;
-use stream_item::Stream;
 
 // The stream whose reader takes a leaf.
 fn reader(leaf: u16) -> Stream

@@ -12,13 +12,13 @@ use Rattle.answer.specs.Answer.{Answer, answered, refused, pick, stop, then}
 use Rattle.field.specs.Fields.{littleAt}
 use Rattle.stream_header.specs.Header.{longest, headerOf}
 use Rattle.stream_header.specs.declared.Header.{Header}
-use Rattle.stream_item.specs.Items.{indexIn}
+use Rattle.field.specs.Indices.{indexIn}
 use Rattle.stream_item.specs.Links.{linkAt, Walk, reached, broke, passing, linked, chain, landing, land, linkOf}
 use Rattle.stream_item.specs.Iterator.{iterOf, Next, done, yielded, overRecord, nextOf}
 use Rattle.stream_item.proofs.LinkLaws.{Bounded, chain-bounds}
 use Rattle.stream_item.proofs.NextLaws.{passed, iter-is}
-use Rattle.stream_item.specs.declared.ItemIndex.{ItemIndex}
-use Rattle.stream_item.specs.declared.Stream.the-variants.{Types}
+use Rattle.field.specs.declared.index.ItemIndex.{ItemIndex}
+use Rattle.field.specs.declared.index.Stream.the-variants.{Types}
 use Rattle.stream_item.specs.declared.iter.ItemIter.{ItemIter}
 use Rattle.stream_item.specs.declared.link.Link.{Link}
 use Rattle.stream_item.specs.declared.link.Link.the-variants.{Whole, Broken}

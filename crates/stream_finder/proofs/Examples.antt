@@ -6,11 +6,11 @@ use Rattle.answer.specs.Answer.{Answer, answered, refused}
 use Rattle.field.specs.Fields.{littleAt}
 use Rattle.stream_header.specs.Header.{headerOf}
 use Rattle.stream_header.specs.Examples.{streamE}
-use Rattle.stream_item.specs.Items.{indexIn}
+use Rattle.field.specs.Indices.{indexIn}
 use Rattle.stream_item.specs.Links.{linkAt, chain, linkOf}
 use Rattle.stream_item.specs.Iterator.{itemAt}
 use Rattle.stream_item.proofs.Examples.{cursor}
-use Rattle.stream_item.specs.declared.Stream.the-variants.{Types, Ids}
+use Rattle.field.specs.declared.index.Stream.the-variants.{Types, Ids}
 use Rattle.stream_item.specs.declared.Entry.the-variants.{Record, Marker}
 use Rattle.stream_finder.specs.Finder.{state, begunBy, createBy, Found, lookOf, createOf, updateOf, findOf, maxIndexOf}
 use Rattle.stream_finder.specs.declared.ItemFinder.{ItemFinder}

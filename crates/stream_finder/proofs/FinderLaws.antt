@@ -12,9 +12,9 @@ use borrow.Author.Tests.{le-leb, lt-leb, le-ltb, lt-ltb, eq-eqb, ne-eqb}
 use Rattle.answer.specs.Answer.{Answer, answered, refused, both, then}
 use Rattle.stream_header.specs.Header.{longest, headerOf}
 use Rattle.stream_header.specs.declared.Header.{Header}
-use Rattle.stream_item.specs.Items.{numberIn}
+use Rattle.field.specs.Indices.{numberIn}
 use Rattle.stream_item.specs.Links.{linkOf}
-use Rattle.stream_item.specs.declared.ItemIndex.{ItemIndex}
+use Rattle.field.specs.declared.index.ItemIndex.{ItemIndex}
 use Rattle.stream_item.specs.declared.Entry.the-variants as entry
 use Rattle.stream_item.specs.declared.iter.ItemIter.{ItemIter}
 use Rattle.stream_finder.specs.Finder.{State, state, blockOf, runOf, holdingIn, holding, begunIn, begunBy, createBy, due, stored, updateOf, Found, maxIndexOf, landed, lookOf, findOf, saidFinder, finderOf, tableAfter, Fills}

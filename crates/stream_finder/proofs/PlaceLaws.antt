@@ -13,15 +13,15 @@ use lib.Dec.{leb, ltb, eqb}
 use borrow.Author.Tests.{leb-true, leb-false, ltb-false, eqb-true}
 use Rattle.answer.specs.Answer.{Answer, answered, refused, pick, stop, both}
 use Rattle.stream_header.specs.Header.{longest}
-use Rattle.stream_item.specs.Items.{indexIn, numberIn}
+use Rattle.field.specs.Indices.{indexIn, numberIn}
 use Rattle.stream_item.specs.Links.{linkOf, chain, reached}
 use Rattle.stream_item.specs.Iterator.{yielded, nextOf}
 use Rattle.stream_item.proofs.LinkLaws.{chain-none, chain-pass, chain-split, more, moreHit, linkOf-split}
 use Rattle.stream_item.proofs.NextLaws.{Yields, yields}
-use Rattle.stream_item.specs.declared.Stream.{Stream}
-use Rattle.stream_item.specs.declared.Stream.the-variants.{Types, Ids}
+use Rattle.field.specs.declared.index.Stream.{Stream}
+use Rattle.field.specs.declared.index.Stream.the-variants.{Types, Ids}
 use Rattle.stream_item.specs.declared.Item.{Item}
-use Rattle.stream_item.specs.declared.ItemIndex.{ItemIndex}
+use Rattle.field.specs.declared.index.ItemIndex.{ItemIndex}
 use Rattle.stream_item.specs.declared.iter.ItemIter.{ItemIter}
 use Rattle.stream_item.specs.declared.link.Hit.{Hit}
 use Rattle.stream_item.specs.declared.link.Hit.the-variants.{Landed, Missed}

@@ -9,11 +9,11 @@ use Rattle.answer.specs.Answer.{Answer, answered, refused}
 use Rattle.field.specs.Fields.{littleAt}
 use Rattle.stream_header.specs.Header.{headerOf, fieldsOf}
 use Rattle.stream_header.specs.Examples.{four, streamE}
-use Rattle.stream_item.specs.Items.{indexIn}
+use Rattle.field.specs.Indices.{indexIn}
 use Rattle.stream_item.specs.Links.{linkAt, chain, linkOf}
 use Rattle.stream_item.specs.Iterator.{iterOf, yielded, itemAt, nextOf}
 use Rattle.stream_item.proofs.Examples.{cursor}
-use Rattle.stream_item.specs.declared.Stream.the-variants.{Types, Ids}
+use Rattle.field.specs.declared.index.Stream.the-variants.{Types, Ids}
 use Rattle.stream_item.specs.declared.iter.ItemIter.{ItemIter}
 use Rattle.stream_finder.specs.Finder.{State, state, begunBy, createBy, updateOf, after, maxIndexOf, Found, findOf}
 use Rattle.stream_finder.specs.Demand.{Walked, none, more, Premises, Demand3By, Demand3}

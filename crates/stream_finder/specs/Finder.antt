@@ -10,9 +10,9 @@ use Rattle.answer.specs.Answer.{Answer, answered, refused, pick, stop, both, th
 use Rattle.answer.specs.Refusals.{no}
 use Rattle.stream_header.specs.Header.{longest, headerOf}
 use Rattle.stream_header.specs.declared.Header.{Header}
-use Rattle.stream_item.specs.Items.{numberIn}
+use Rattle.field.specs.Indices.{numberIn}
 use Rattle.stream_item.specs.Links.{linkOf}
-use Rattle.stream_item.specs.declared.ItemIndex.{ItemIndex}
+use Rattle.field.specs.declared.index.ItemIndex.{ItemIndex}
 use Rattle.stream_item.specs.declared.Entry.{Entry}
 use Rattle.stream_item.specs.declared.Entry.the-variants as entry
 use Rattle.stream_item.specs.declared.iter.ItemIter.{ItemIter}

@@ -8,9 +8,9 @@ use lib.ListN.{length}
 use lib.Dec.{leb, ltb, eqb}
 use Rattle.answer.specs.Answer.{Answer, answered, refused}
 use Rattle.stream_header.specs.Header.{longest}
-use Rattle.stream_item.specs.Items.{indexIn}
+use Rattle.field.specs.Indices.{indexIn}
 use Rattle.stream_item.specs.Iterator.{Next, done, yielded, nextOf}
-use Rattle.stream_item.specs.declared.Stream.{Stream}
+use Rattle.field.specs.declared.index.Stream.{Stream}
 use Rattle.stream_item.specs.declared.iter.ItemIter.{ItemIter}
 use Rattle.stream_finder.specs.Finder.{State, blockOf, holdingIn, begunIn, updateOf, after, findOf}
 use Rattle.stream_finder.specs.Places.{Placed}

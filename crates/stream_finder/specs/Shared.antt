@@ -8,7 +8,7 @@ use Rattle.answer.specs.Answer.{answered}
 use Rattle.stream_header.specs.Header.{headerOf}
 use Rattle.stream_header.specs.declared.Header.{Header}
 use Rattle.stream_item.specs.Iterator.{iterOf, nextOf}
-use Rattle.stream_item.specs.declared.Stream.{Stream}
+use Rattle.field.specs.declared.index.Stream.{Stream}
 use Rattle.stream_item.specs.declared.iter.ItemIter.{ItemIter}
 use Rattle.stream_finder.specs.Finder.{State, runOf, createBy, updateOf, after}
 use Rattle.stream_finder.specs.Runs.{onward, ServesIn}

@@ -12,19 +12,19 @@
 pub mod lent;
 
 ghost use mathlib.Core.Path.{_≡_};
-ghost use Rattle.stream_item.specs.declared.ItemIndex.the-variants as index;
+ghost use Rattle.field.specs.declared.index.ItemIndex.the-variants as index;
 ghost use Prim.Native.Nat.{_%_, _^_, _≤_};
 ghost use lib.ListN.{length};
 ghost use Rattle.stream_finder.specs.Finder.{state, begunIn, createBy, createOf, updateOf, Fills, maxIndexOf, lookOf, findOf, saidFind};
 use answer::Refusal;
 use field::index::IdIndex;
+use field::index::ItemIndex;
 use field::index::TypeIndex;
 use stream_header::Header;
 use stream_header::HeaderAnswer;
 use stream_header::LONGEST;
 use stream_item::Entry;
 use stream_item::Item;
-use stream_item::ItemIndex;
 use stream_item::iter::ItemIter;
 use stream_item::link::Hit;
 

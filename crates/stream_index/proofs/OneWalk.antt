@@ -13,7 +13,7 @@ use Rattle.answer.specs.Answer.{Answer, answered}
 use Rattle.answer.specs.Refusals.{no}
 use Rattle.answer.proofs.OneOutcome.{one-refusal}
 use Rattle.answer.specs.declared.Refusal.{Refusal}
-use Rattle.stream_item.specs.declared.Stream.{Stream}
+use Rattle.field.specs.declared.index.Stream.{Stream}
 use Rattle.stream_item.specs.declared.iter.ItemIter.{ItemIter}
 use Rattle.stream_finder.specs.Finder.{State, state}
 use Rattle.stream_finder.specs.declared.ItemFinder.{ItemFinder}

@@ -13,7 +13,7 @@ use Rattle.stream_header.specs.declared.Header.{Header}
 use Rattle.stream_item.specs.Iterator.{iterOf, Next, done, yielded, nextOf}
 use Rattle.stream_item.proofs.LinkLaws.{WholeAt, whole-is}
 use Rattle.stream_item.proofs.NextLaws.{Yields, yields}
-use Rattle.stream_item.specs.declared.Stream.{Stream}
+use Rattle.field.specs.declared.index.Stream.{Stream}
 use Rattle.stream_item.specs.declared.Item.{Item}
 use Rattle.stream_item.specs.declared.iter.ItemIter.{ItemIter}
 use Rattle.stream_finder.specs.Finder.{State, state, createBy, updateOf, saidFinder, finderOf, tableAfter, Fills}

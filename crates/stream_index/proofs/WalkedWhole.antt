@@ -9,7 +9,7 @@ use lib.ListN.{length}
 use Rattle.answer.specs.Answer.{answered}
 use Rattle.stream_header.specs.Header.{longest, headerOf}
 use Rattle.stream_header.specs.declared.Header.{Header}
-use Rattle.stream_item.specs.declared.Stream.{Stream}
+use Rattle.field.specs.declared.index.Stream.{Stream}
 use Rattle.stream_item.specs.declared.iter.ItemIter.{ItemIter}
 use Rattle.stream_finder.specs.Finder.{State, state, runOf, holdingIn, holding, begunIn, updateOf, after}
 use Rattle.stream_finder.specs.Demand as demand

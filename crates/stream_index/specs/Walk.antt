@@ -5,7 +5,7 @@ use mathlib.Core.List.{List}
 use Rattle.answer.specs.Answer.{Answer, answered, refused, then}
 use Rattle.answer.specs.Refusals.{no}
 use Rattle.stream_item.specs.Iterator.{iterOf, Next, done, yielded, nextOf}
-use Rattle.stream_item.specs.declared.Stream.{Stream}
+use Rattle.field.specs.declared.index.Stream.{Stream}
 use Rattle.stream_item.specs.declared.iter.ItemIter.{ItemIter}
 use Rattle.stream_finder.specs.Finder.{State, state, createBy, updateOf}
 use Rattle.stream_index.specs.declared.TurnAnswer.{TurnAnswer}

@@ -3,9 +3,9 @@
 ghost use Rattle.stream_finder.specs.Finder.{state};
 ghost use Rattle.stream_index.specs.Walk.{turnOf, Leads, Walks, IndexesBy, Indexes};
 use answer::Refusal;
+use field::index::Stream;
 use stream_finder::FinderAnswer;
 use stream_finder::ItemFinder;
-use stream_item::Stream;
 use stream_item::iter;
 use stream_item::iter::ItemIter;
 use stream_item::iter::IterAnswer;

@@ -9,7 +9,7 @@ use Rattle.stream_header.specs.Header.{headerOf}
 use Rattle.stream_header.specs.Examples.{streamE}
 use Rattle.stream_item.specs.Iterator.{iterOf, done, yielded, itemAt, nextOf}
 use Rattle.stream_item.specs.Information.{lenOf, isEmptyOf}
-use Rattle.stream_item.specs.declared.Stream.the-variants.{Types}
+use Rattle.field.specs.declared.index.Stream.the-variants.{Types}
 use Rattle.stream_item.specs.declared.iter.ItemIter.{ItemIter}
 
 abbrev pub cursor : ℕ → ℕ → ItemIter

@@ -11,11 +11,11 @@ use Rattle.answer.specs.Answer.{Answer, answered, refused, pick, stop}
 use Rattle.field.specs.Fields.{littleAt}
 use Rattle.stream_header.specs.Header.{longest, headerOf}
 use Rattle.stream_header.specs.declared.Header.{Header}
-use Rattle.stream_item.specs.Items.{indexIn}
+use Rattle.field.specs.Indices.{indexIn}
 use Rattle.stream_item.specs.Links.{linkAt}
 use Rattle.stream_item.specs.Iterator.{iterOf, Next, done, yielded, overRecord, nextOf}
 use Rattle.stream_item.proofs.LinkLaws.{link-whole}
-use Rattle.stream_item.specs.declared.Stream.{Stream}
+use Rattle.field.specs.declared.index.Stream.{Stream}
 use Rattle.stream_item.specs.declared.Item.{Item}
 use Rattle.stream_item.specs.declared.iter.ItemIter.{ItemIter}
 use Rattle.stream_item.specs.declared.link.Link.the-variants.{Whole}

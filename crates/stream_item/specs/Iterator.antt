@@ -7,8 +7,8 @@ use Rattle.answer.specs.Answer.{Answer, answered, pick, stop, then}
 use Rattle.answer.specs.Refusals.{no}
 use Rattle.field.specs.Fields.{littleAt}
 use Rattle.stream_header.specs.Header.{longest, headerOf}
-use Rattle.stream_item.specs.Items.{indexIn}
-use Rattle.stream_item.specs.declared.Stream.{Stream}
+use Rattle.field.specs.Indices.{indexIn}
+use Rattle.field.specs.declared.index.Stream.{Stream}
 use Rattle.stream_item.specs.declared.Item.{Item}
 use Rattle.stream_item.specs.declared.iter.ItemIter.{ItemIter}
 use Rattle.stream_item.specs.declared.iter.IterAnswer.{IterAnswer}

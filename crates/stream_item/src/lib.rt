@@ -1,4 +1,4 @@
-// Items of a TPI or IPI stream: what names one, where its bytes lie, and the marker that stands for an index below the stream's minimum.
+// Items of a TPI or IPI stream: where an item's bytes lie, and the marker that stands for an index below the stream's minimum.
 // link.rt has the links that records lie in, iter.rt the iterator over them, information.rt a stream's count.
 // An item's bytes are given by the crate stream_view.
 pub mod information;
@@ -10,23 +10,9 @@ ghost use Prim.Native.Nat.{_+_, _≤_, _<_};
 ghost use lib.Dec.{eqb};
 ghost use lib.ListN.{length};
 ghost use Rattle.field.specs.Fields.{littleAt};
-ghost use Rattle.stream_item.specs.Items.{indexIn, streamIn, numberIn, indexOf, lengthOf};
+ghost use Rattle.stream_item.specs.Items.{indexOf, lengthOf};
 use field::fixed;
-use field::index::IdIndex;
-use field::index::TypeIndex;
-
-// The two streams of items: types (TPI) and ids (IPI).
-pub enum Stream {
-    Types,
-    Ids,
-}
-
-// An index that says by its type in which stream it counts: an item names its stream by it, and no caller gives or gets a bare number.
-// Types and ids share every function over items, so the stream is this tag and not two kinds of item.
-pub enum ItemIndex {
-    Types(TypeIndex),
-    Ids(IdIndex),
-}
+use field::index::ItemIndex;
 
 // A record of a stream: its index, and where its payload lies in the stream that the index names.
 pub struct Item {
@@ -39,40 +25,6 @@ pub struct Item {
 pub enum Entry {
     Record(Item),
     Marker(ItemIndex),
-}
-
-impl Stream {
-    // The index n of this stream.
-    pub fn index(self, n: u32) -> ItemIndex
-        ensures { λ r. ⌜ r ≡ indexIn self n ⌝ }
-    {
-        match self {
-            Stream::Types => ItemIndex::Types(TypeIndex(n)),
-            Stream::Ids => ItemIndex::Ids(IdIndex(n)),
-        }
-    }
-}
-
-impl ItemIndex {
-    // The stream that the index counts in.
-    pub fn stream(self) -> Stream
-        ensures { λ r. ⌜ r ≡ streamIn self ⌝ }
-    {
-        match self {
-            ItemIndex::Types(_) => Stream::Types,
-            ItemIndex::Ids(_) => Stream::Ids,
-        }
-    }
-
-    // The index as 01's table reports it.
-    pub fn number(self) -> u32
-        ensures { λ r. ⌜ r ≡ numberIn self ⌝ }
-    {
-        match self {
-            ItemIndex::Types(i) => i.0,
-            ItemIndex::Ids(i) => i.0,
-        }
-    }
 }
 
 impl Entry {

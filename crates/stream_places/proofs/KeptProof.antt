@@ -18,9 +18,9 @@ use Rattle.field_put.specs.Bytes.{put, Octets}
 use Rattle.field_put.proofs.PutLaws.{put-is, length-put}
 use Rattle.stream_header.specs.Header.{longest, empty, fieldsOf, headerOf}
 use Rattle.stream_header.specs.declared.Header.{Header}
-use Rattle.stream_item.specs.Items.{indexIn}
+use Rattle.field.specs.Indices.{indexIn}
 use Rattle.stream_item.specs.Links.{linkOf, chain, reached}
-use Rattle.stream_item.specs.declared.Stream.{Stream}
+use Rattle.field.specs.declared.index.Stream.{Stream}
 use Rattle.stream_item.proofs.LinkLaws.{Bounded, chain-bounds}
 use Rattle.stream_item.proofs.NextLaws.{passed}
 use Rattle.stream_finder.specs.Finder.{State, state, blockOf, holding, maxIndexOf, Found, findOf}

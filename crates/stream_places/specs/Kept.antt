@@ -10,8 +10,8 @@ use Rattle.answer.specs.Answer.{answered}
 use Rattle.field_put.specs.Bytes.{put, Octets}
 use Rattle.stream_header.specs.Header.{headerOf}
 use Rattle.stream_header.specs.declared.Header.{Header}
-use Rattle.stream_item.specs.Items.{indexIn}
-use Rattle.stream_item.specs.declared.Stream.{Stream}
+use Rattle.field.specs.Indices.{indexIn}
+use Rattle.field.specs.declared.index.Stream.{Stream}
 use Rattle.stream_finder.specs.Finder.{State, state, holding, findOf}
 use Rattle.stream_finder.specs.Places.{Placed}
 use Rattle.stream_finder.specs.Demand.{looked, numberGiven}

@@ -4,9 +4,9 @@ use mathlib.Core.List.{[], _∷_, map}
 use Rattle.answer.specs.Answer.{answered, refused}
 use Rattle.field.specs.Fields.{littleAt}
 use Rattle.stream_header.specs.Examples.{streamE}
-use Rattle.stream_item.specs.Items.{indexIn}
+use Rattle.field.specs.Indices.{indexIn}
 use Rattle.stream_item.specs.Iterator.{itemAt}
-use Rattle.stream_item.specs.declared.Stream.the-variants.{Types, Ids}
+use Rattle.field.specs.declared.index.Stream.the-variants.{Types, Ids}
 use Rattle.stream_item.specs.declared.Entry.the-variants.{Record, Marker}
 use Rattle.stream_view.specs.Views.{partOf, viewOf, kindAt, rawKindOf}
 

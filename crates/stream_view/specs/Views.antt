@@ -8,9 +8,10 @@ use Rattle.answer.specs.Refusals.{no}
 use Rattle.field.specs.Fields.{littleAt}
 use Rattle.field_text.specs.Texts.{Part}
 use Rattle.stream_header.specs.Header.{longest}
-use Rattle.stream_item.specs.Items.{numberIn, indexOf}
-use Rattle.stream_item.specs.declared.ItemIndex.{ItemIndex}
-use Rattle.stream_item.specs.declared.ItemIndex.the-variants as index
+use Rattle.field.specs.Indices.{numberIn}
+use Rattle.stream_item.specs.Items.{indexOf}
+use Rattle.field.specs.declared.index.ItemIndex.{ItemIndex}
+use Rattle.field.specs.declared.index.ItemIndex.the-variants as index
 use Rattle.stream_item.specs.declared.Entry.{Entry}
 use Rattle.stream_item.specs.declared.Entry.the-variants as entry
 use Rattle.stream_view.specs.declared.ViewAnswer.{ViewAnswer}

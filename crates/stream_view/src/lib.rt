@@ -4,9 +4,9 @@ ghost use Rattle.stream_view.specs.Views.{partOf, viewOf, saidView, view
 use answer::Refusal;
 use field::fixed;
 use field::fixed::Read16;
+use field::index::ItemIndex;
 use stream_header::LONGEST;
 use stream_item::Entry;
-use stream_item::ItemIndex;
 
 // The payload's place and length in the stream that the entry names.
 pub enum ViewAnswer {

@@ -8,7 +8,7 @@ use Rattle.field.specs.Bytes.{bytes}
 use Rattle.stream_header.specs.Header.{longest}
 use Rattle.stream_header.specs.declared.Header.{Header}
 use Rattle.stream_item.specs.Iterator.{done, overRecord, iterOf, nextOf}
-use Rattle.stream_item.specs.declared.Stream.{Stream}
+use Rattle.field.specs.declared.index.Stream.{Stream}
 use Rattle.stream_item.specs.declared.iter.ItemIter.{ItemIter}
 use Rattle.record_layout.specs.Layouts.{Table}
 use Rattle.write_layout.specs.Fields.{ToWrite}

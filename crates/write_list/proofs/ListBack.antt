@@ -20,7 +20,7 @@ use Rattle.record_layout.specs.Layouts.{A, T, offset, Layout, Table, memberLeav
 use Rattle.record_member.specs.Said.{leafIn}
 use Rattle.record_list.specs.Lists.{ElementValues, memberElement, methodElement, Step, stepTo, toTheEnd, afterMember, startTypes, startOf, leftAfter, memberStep, methodStep, nextMember, stepOf, elementBy, elementOf}
 use Rattle.record_list.specs.declared.ListCursor.{ListCursor}
-use Rattle.stream_item.specs.declared.Stream.the-variants as stream
+use Rattle.field.specs.declared.index.Stream.the-variants as stream
 use Rattle.write_layout.specs.Runs.{pads}
 use Rattle.write_layout.specs.Fields.{ToWrite, givenAll, Encoded, bad, fixedBytes, ofNumber, ofAbsent, and-also, writeField, writeFields}
 use Rattle.write_layout.specs.Records.{byLayout, writeLeaf, missing, filled, whole, recordBytes}

@@ -6,7 +6,7 @@ use mathlib.Core.List.{List, [], _∷_, _++_}
 use lib.ListN.{length}
 use Rattle.answer.specs.Answer.{Answer, answered, refused}
 use Rattle.field.specs.Bytes.{bytes}
-use Rattle.stream_item.specs.declared.Stream.the-variants as stream
+use Rattle.field.specs.declared.index.Stream.the-variants as stream
 use Rattle.record_layout.specs.Fields.{Shown}
 use Rattle.record_list.specs.Lists.{ElementValues, methodElement, memberElement, elementOf}
 use Rattle.write_layout.specs.Fields.{ToWrite, givenAll}

@@ -113,13 +113,28 @@ returns-27 : tie.Need-returns-27
 unfolding nameText spaces
 returns-27 c = rw (c .enum-told27 .given .1) (record { count = refl; whole = refl })
 
+returns-28 : tie.Need-returns-28
+unfolding nameText spaces
+returns-28 c = rw (c .enum-told28 .given .1) (record { count = refl; whole = refl })
+
+returns-29 : tie.Need-returns-29
+unfolding nameText spaces
+returns-29 c = rw (c .enum-told29 .given .1) (record { count = refl; whole = refl })
+
+returns-30 : tie.Need-returns-30
+unfolding nameText spaces
+returns-30 c = rw (c .enum-told30 .given .1) (record { count = refl; whole = refl })
+
+returns-31 : tie.Need-returns-31
+unfolding nameText spaces
+returns-31 c = rw (c .enum-told31 .given .1) (record { count = refl; whole = refl })
+
 pub name-of-spec : {M : Type 1} → statement M
 name-of-spec =
     tie.close (tie.spec
+    (λ c. search needs) (λ c. search needs) (λ c. search needs) (λ c. search needs) (λ c. search needs) (λ c. search needs) (λ c. search needs) (λ c. search needs)
+    (λ c. search needs) (λ c. search needs) (λ c. search needs) (λ c. search needs) (λ c. search needs) (λ c. search needs) (λ c. search needs) (λ c. search needs)
+    (λ c. search needs) (λ c. search needs) (λ c. search needs) (λ c. search needs) (λ c. search needs) (λ c. search needs) (λ c. search needs) (λ c. search needs)
     (λ c. search needs) (λ c. search needs) (λ c. search needs) (λ c. search needs) (λ c. search needs) (λ c. search needs) (λ c. search needs)
-    (λ c. search needs) (λ c. search needs) (λ c. search needs) (λ c. search needs) (λ c. search needs) (λ c. search needs) (λ c. search needs)
-    (λ c. search needs) (λ c. search needs) (λ c. search needs) (λ c. search needs) (λ c. search needs) (λ c. search needs) (λ c. search needs)
-    (λ c. search needs) (λ c. search needs) (λ c. search needs) (λ c. search needs) (λ c. search needs) (λ c. search needs)
-    returns returns-2 returns-3 returns-4 returns-5 returns-6 returns-7 returns-8 returns-9
-    returns-10 returns-11 returns-12 returns-13 returns-14 returns-15 returns-16 returns-17 returns-18
-    returns-19 returns-20 returns-21 returns-22 returns-23 returns-24 returns-25 returns-26 returns-27)
+    returns returns-2 returns-3 returns-4 returns-5 returns-6 returns-7 returns-8 returns-9 returns-10 returns-11 returns-12 returns-13 returns-14 returns-15
+    returns-16 returns-17 returns-18 returns-19 returns-20 returns-21 returns-22 returns-23 returns-24 returns-25 returns-26 returns-27 returns-28 returns-29 returns-30 returns-31)

@@ -1,6 +1,5 @@
 -- `declare_piece::write::word` meets its contract. Assumes nothing.
 use native.Mathlib.Omega.{arith}
-use Rattle.stream_finder.specs.Finder.{State}
 use Prim.Native.Nat.{_-_}
 use mathlib.Core.Path.{_≡_}
 use borrow.Author.Needs.{needs}

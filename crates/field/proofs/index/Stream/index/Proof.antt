@@ -1,7 +1,7 @@
--- `stream_item::Stream::index` meets its contract: by cases of the tag. Assumes nothing.
+-- `field::index::Stream::index` meets its contract: by cases of the tag. Assumes nothing.
 use borrow.Author.Needs.{needs}
-use Rattle.stream_item.proofs.Stream.index.Statement.{statement}
-use Rattle.stream_item.proofs.Stream.index.Tie as tie
+use Rattle.field.proofs.index.Stream.index.Statement.{statement}
+use Rattle.field.proofs.index.Stream.index.Tie as tie
 
 returns : tie.Need-returns
 returns c = rw (c .enum-told .given .1)
