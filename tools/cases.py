@@ -1,6 +1,7 @@
-"""Runs a program on cases: a name, what it is given on standard input, and what it has to answer; where it takes them, also its arguments and the files
-that they name. For tools/list_cases, tools/outline_cases, tools/declarations_cases, tools/lookup_cases and tools/obj_cases. What has to be answered is
-text, or bytes.
+"""Runs a program on cases: a name, what it is given on standard input, and what it has to answer; then what it has to say on standard error, which is
+nothing where a case does not say it; and where the program takes them, its arguments and the files that they name. For tools/list_cases,
+tools/outline_cases, tools/declarations_cases, tools/lookup_cases, tools/obj_cases and tools/measure_cases. What is given is bytes, or as text the path of
+what is opened, such as a directory. What has to be answered is text, or bytes.
 
 The program is the one that `rt check` or `rt ci` has proved and built. Each case has a folder of its own.
 """
@@ -12,16 +13,17 @@ import tempfile
 def tried(program, case):
     """What is wrong with a case, or nothing."""
     name, given, wanted, *more = case
-    words, files = more or ([], {})
+    said, words, files = (*more, *("", [], {})[len(more):])
     wanted = wanted if isinstance(wanted, bytes) else wanted.encode()
     with tempfile.TemporaryDirectory() as scratch:
         os.symlink(os.path.abspath("target"), os.path.join(scratch, "target"))
         for file, content in files.items():
             with open(os.path.join(scratch, file), "wb") as f:
                 f.write(content)
-        run = subprocess.run([os.path.abspath("tools/program"), program, *words], cwd=scratch, input=given, stdout=subprocess.PIPE, stderr=subprocess.PIPE, timeout=600)
-    if run.returncode != 0 or run.stdout != wanted:
-        return f"{program}_cases: {name}: wanted\n{wanted[:1000]}\n  and got, with status {run.returncode},\n{run.stdout[:1000]}\n{run.stderr[:1000]}"
+        opened = {"stdin": os.open(given, os.O_RDONLY)} if isinstance(given, str) else {"input": given}
+        run = subprocess.run([os.path.abspath("tools/program"), program, *words], cwd=scratch, stdout=subprocess.PIPE, stderr=subprocess.PIPE, timeout=600, **opened)
+    if run.returncode != 0 or run.stdout != wanted or run.stderr != said.encode():
+        return f"{program}_cases: {name}: wanted\n{wanted[:1000]}\n{said[:1000]}\n  and got, with status {run.returncode},\n{run.stdout[:1000]}\n{run.stderr[:1000]}"
     return ""
 
 

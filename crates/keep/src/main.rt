@@ -77,11 +77,24 @@ fn keep(s: &[u8], t: &mut [u32], file: &mut [u8]) {
     }
 }
 
+// Whether standard input is at its end. Where it is not, since a read failed, that is said.
+fn at_end() -> bool {
+    let mut spare = [0u8; 1];
+    if libc::read(STDIN_FILENO, &mut spare) == 0 {
+        return true;
+    }
+    io::write_all(STDERR_FILENO, b"keep: standard input cannot be read\n");
+    false
+}
+
 fn main() {
     let mut stream = buffer();
     let n = io::read_full(STDIN_FILENO, &mut stream);
     if LONGEST < n {
         put_refused(Refusal::TooLong);
+        return;
+    }
+    if !at_end() {
         return;
     }
     let mut t = [0u32; PLACES];

@@ -1,6 +1,7 @@
 // Document 01's program: reads a TPI stream of at most 65,536 bytes from standard input and lists its records.
 use answer::Refusal;
 use field::index::Stream;
+use libc::STDERR_FILENO;
 use libc::STDIN_FILENO;
 use libc::STDOUT_FILENO;
 use stream_header::Header;
@@ -112,6 +113,16 @@ fn list(s: &[u8]) {
     }
 }
 
+// Whether standard input is at its end. Where it is not, since a read failed, that is said.
+fn at_end() -> bool {
+    let mut spare = [0u8; 1];
+    if libc::read(STDIN_FILENO, &mut spare) == 0 {
+        return true;
+    }
+    io::write_all(STDERR_FILENO, b"list: standard input cannot be read\n");
+    false
+}
+
 fn main() {
     let mut stream = [0u8; 65537];
     let n = io::read_full(STDIN_FILENO, &mut stream);
@@ -119,5 +130,7 @@ fn main() {
         put(b"refused 16\n");
         return;
     }
-    list(&stream[..n]);
+    if at_end() {
+        list(&stream[..n]);
+    }
 }
