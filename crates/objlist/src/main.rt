@@ -1,6 +1,7 @@
 // Lists the records of an object file's `.debug$T` section, as `list` does those of a type stream: R-6 of document 02. It reads a section of at
 // most 65,536 bytes from standard input.
 use answer::Refusal;
+use libc::STDERR_FILENO;
 use libc::STDIN_FILENO;
 use libc::STDOUT_FILENO;
 use stream_item::Entry;
@@ -97,6 +98,16 @@ fn list(s: &[u8]) {
     }
 }
 
+// Whether standard input is at its end. Where it is not, since a read failed, that is said.
+fn at_end() -> bool {
+    let mut spare = [0u8; 1];
+    if libc::read(STDIN_FILENO, &mut spare) == 0 {
+        return true;
+    }
+    io::write_all(STDERR_FILENO, b"objlist: standard input cannot be read\n");
+    false
+}
+
 fn main() {
     let mut section = [0u8; 65537];
     let n = io::read_full(STDIN_FILENO, &mut section);
@@ -104,5 +115,7 @@ fn main() {
         put(b"refused 16\n");
         return;
     }
-    list(&section[..n]);
+    if at_end() {
+        list(&section[..n]);
+    }
 }
