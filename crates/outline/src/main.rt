@@ -1,11 +1,13 @@
 // An outline of a type stream, as a generator of bindings would read one: each class, structure and interface that the stream defines, with
 // its size, and under it its data members, with their offsets and types. A type stands by its name, or by its index where it has none.
-// It reads at most 65,536 bytes from standard input, as `list` does. What is refused is said where it stands, by its number and name.
+// It reads at most 65,536 bytes from standard input, as `list` does. What is refused is said on the standard error by its number and name, a record
+// behind its index.
 use answer::Refusal;
 use declare_type::DeclareAnswer;
 use field::index::OptTypeIndex;
 use field::index::Stream;
 use field::index::TypeIndex;
+use libc::STDERR_FILENO;
 use libc::STDIN_FILENO;
 use libc::STDOUT_FILENO;
 use record_data::ClassType;
@@ -37,24 +39,36 @@ fn put_index(t: TypeIndex) {
     put_number(t.0 as u64);
 }
 
-fn put_first(text: &[u8], n: usize) {
+fn say(text: &[u8]) {
+    io::write_all(STDERR_FILENO, text);
+}
+
+fn say_first(text: &[u8], n: usize) {
     if n <= text.len() {
-        put(&text[0..n]);
+        say(&text[0..n]);
     }
 }
 
 // A refusal's name.
-fn put_name_of(e: Refusal) {
+fn say_name_of(e: Refusal) {
     let name = answer_name::name_of(e);
-    put_first(&name.bytes, name.n);
+    say_first(&name.bytes, name.n);
 }
 
-fn put_refused(e: Refusal) {
-    put(b"refused ");
-    put_number(e.number() as u64);
-    put(b" ");
-    put_name_of(e);
-    put(b"\n");
+fn say_refused(e: Refusal) {
+    say(b"refused ");
+    io::print_decimal(STDERR_FILENO, e.number() as u64);
+    say(b" ");
+    say_name_of(e);
+    say(b"\n");
+}
+
+// A refusal of the record of an index.
+fn say_refused_at(index: u32, e: Refusal) {
+    say(b"#");
+    io::print_decimal(STDERR_FILENO, index as u64);
+    say(b" ");
+    say_refused(e);
 }
 
 // A record's bytes in the type stream; the id stream is not at hand.
@@ -98,10 +112,17 @@ fn put_member(tpi: &[u8], places: &[u32], f: ItemFinder, fields: &[u8], m: Membe
     put(b"\n");
 }
 
-// What comes after an element: the next one of this list, or the list's end, and where it goes on from there, if it does.
+// What comes after the last element of a record: the list goes on in another one, or is over, or is refused.
+enum Rest {
+    In(TypeIndex),
+    Nothing,
+    Refused(Refusal),
+}
+
+// What comes after an element: the next one of this record, or its end.
 enum Onward {
     To(ListCursor),
-    Over(OptTypeIndex),
+    Over(Rest),
 }
 
 fn put_element(
@@ -118,40 +139,30 @@ fn put_element(
                 put_member(tpi, places, f, fields, d);
                 Onward::To(behind)
             }
-            Member::Continuation(t) => Onward::Over(OptTypeIndex::Some(t)),
+            Member::Continuation(t) => Onward::Over(Rest::In(t)),
             _ => Onward::To(behind),
         },
         _ => Onward::To(behind),
     }
 }
 
-// A list ends by 15, "no such element"; any other refusal is said under its structure.
-fn put_list_end(e: Refusal) -> OptTypeIndex {
+// A list ends by 15, "no such element"; any other refusal is one.
+fn list_end(e: Refusal) -> Rest {
     match e {
-        Refusal::NoSuchElement => OptTypeIndex::None,
-        _ => {
-            put(b"    ");
-            put_refused(e);
-            OptTypeIndex::None
-        }
+        Refusal::NoSuchElement => Rest::Nothing,
+        _ => Rest::Refused(e),
     }
 }
 
 fn step(tpi: &[u8], places: &[u32], f: ItemFinder, fields: &[u8], c: ListCursor) -> Onward {
     match record_list::step(fields, c) {
         StepAnswer::Answered(e, behind) => put_element(tpi, places, f, fields, e, behind),
-        StepAnswer::Refused(e) => Onward::Over(put_list_end(e)),
+        StepAnswer::Refused(e) => Onward::Over(list_end(e)),
     }
 }
 
 // The members of one record, and where the list goes on. Each member takes two bytes at least, so that 65,536 bytes end before the turns do.
-fn put_members(
-    tpi: &[u8],
-    places: &[u32],
-    f: ItemFinder,
-    fields: &[u8],
-    from: ListCursor,
-) -> OptTypeIndex {
+fn put_members(tpi: &[u8], places: &[u32], f: ItemFinder, fields: &[u8], from: ListCursor) -> Rest {
     let mut c = from;
     let mut turns: u32 = 65536;
     while 0 < turns {
@@ -165,20 +176,32 @@ fn put_members(
             }
         }
     }
-    OptTypeIndex::None
+    Rest::Nothing
 }
 
-fn put_list(tpi: &[u8], places: &[u32], f: ItemFinder, fields: &[u8]) -> OptTypeIndex {
+fn put_list(tpi: &[u8], places: &[u32], f: ItemFinder, fields: &[u8]) -> Rest {
     match record_list::start(Stream::Types, fields) {
         StartAnswer::Answered(c) => put_members(tpi, places, f, fields, c),
-        StartAnswer::Refused(e) => put_list_end(e),
+        StartAnswer::Refused(e) => list_end(e),
     }
 }
 
-fn put_part(tpi: &[u8], places: &[u32], f: ItemFinder, t: TypeIndex) -> OptTypeIndex {
+fn put_found(tpi: &[u8], places: &[u32], f: ItemFinder, t: TypeIndex) -> Rest {
     match stream_finder::find_type(tpi, f, places, t) {
         FindAnswer::Found(entry, _) => put_list(tpi, places, f, bytes_of(tpi, entry)),
-        FindAnswer::Refused(e) => put_list_end(e),
+        FindAnswer::Refused(e) => list_end(e),
+    }
+}
+
+// The part of a list that the record of an index has, and where the list goes on.
+fn put_part(tpi: &[u8], places: &[u32], f: ItemFinder, t: TypeIndex) -> OptTypeIndex {
+    match put_found(tpi, places, f, t) {
+        Rest::In(rest) => OptTypeIndex::Some(rest),
+        Rest::Nothing => OptTypeIndex::None,
+        Rest::Refused(e) => {
+            say_refused_at(t.0, e);
+            OptTypeIndex::None
+        }
     }
 }
 
@@ -226,15 +249,12 @@ fn put_class(tpi: &[u8], places: &[u32], f: ItemFinder, record: &[u8], c: ClassT
 }
 
 // A record that is refused is said by its index; a leaf that document 01 does not have is passed over.
-fn put_unread(entry: Entry, e: Refusal) {
+fn say_unread(entry: Entry, e: Refusal) {
     match e {
         Refusal::LeafUnknown(_) => {}
         _ => {
             let index = entry.index();
-            put(b"#");
-            put_number(index.number() as u64);
-            put(b" ");
-            put_refused(e);
+            say_refused_at(index.number(), e);
         }
     }
 }
@@ -245,7 +265,7 @@ fn put_record(tpi: &[u8], places: &[u32], f: ItemFinder, entry: Entry) {
             TypeData::Class(c) => put_class(tpi, places, f, bytes_of(tpi, entry), c),
             _ => {}
         },
-        ParseAnswer::Refused(e) => put_unread(entry, e),
+        ParseAnswer::Refused(e) => say_unread(entry, e),
         _ => {}
     }
 }
@@ -277,10 +297,10 @@ fn outline(tpi: &[u8], places: &[u32], f: ItemFinder, c: ItemIter) {
 }
 
 // Why the walk ended, where that is not the stream's end.
-fn put_end(end: End) {
+fn say_end(end: End) {
     match end {
         End::Done => {}
-        End::Refused(e) => put_refused(e),
+        End::Refused(e) => say_refused(e),
     }
 }
 
@@ -290,10 +310,20 @@ fn run(tpi: &[u8], places: &mut [u32; 2048]) {
         IndexAnswer::Answered(tour) => {
             let end = tour.end;
             outline(tpi, places, tour.finder, tour.cursor);
-            put_end(end);
+            say_end(end);
         }
-        IndexAnswer::Refused(e) => put_refused(e),
+        IndexAnswer::Refused(e) => say_refused(e),
     }
+}
+
+// Whether standard input is at its end. Where it is not, since a read failed, that is said.
+fn at_end() -> bool {
+    let mut spare = [0u8; 1];
+    if libc::read(STDIN_FILENO, &mut spare) == 0 {
+        return true;
+    }
+    io::write_all(STDERR_FILENO, b"outline: standard input cannot be read\n");
+    false
 }
 
 // One byte more than a stream may have is read, so that a longer one is told.
@@ -302,8 +332,10 @@ fn main() {
     let mut places = [0u32; 2048];
     let n = io::read_full(STDIN_FILENO, &mut stream);
     if 65536 < n {
-        put_refused(Refusal::TooLong);
+        say_refused(Refusal::TooLong);
         return;
     }
-    run(&stream[..n], &mut places);
+    if at_end() {
+        run(&stream[..n], &mut places);
+    }
 }
