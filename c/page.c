@@ -1,5 +1,5 @@
-/* Pages through a raw type or id stream of any size: maps the file, walks it, fills a finder for each shift, looks every index up once, and prints the
- * links passed beside the formula of document 02's R-14.
+/* Pages through a raw type or id stream of any size: maps the file, or reads what cannot be mapped, such as a pipe; walks it, fills a finder for each
+ * shift, looks every index up once, and prints the links passed beside the formula of document 02's R-14.
  *
  *     page STREAM
  *
@@ -41,6 +41,27 @@ static void *array(size_t n, size_t size)
     return p;
 }
 
+/* All bytes up to the end of what is no regular file. 0, or -1 where a read fails. */
+static int slurp(int file, struct stream *s)
+{
+    static uint8_t *bytes;
+    size_t room = 65536;
+    ssize_t got;
+    bytes = array(room, 1);
+    while ((got = read(file, bytes + s->length, room - s->length)) > 0) {
+        s->length += (size_t)got;
+        if (s->length == room) {
+            uint8_t *longer = array(2 * room, 1);
+            memcpy(longer, bytes, room);
+            free(bytes);
+            bytes = longer;
+            room *= 2;
+        }
+    }
+    s->bytes = bytes;
+    return got < 0 ? -1 : 0;
+}
+
 static int map(const char *path, struct stream *s)
 {
     static const uint8_t none[1];
@@ -48,6 +69,8 @@ static int map(const char *path, struct stream *s)
     int file = open(path, O_RDONLY);
     if (file < 0 || fstat(file, &about) != 0)
         return -1;
+    if (!S_ISREG(about.st_mode))
+        return slurp(file, s) != 0 ? -1 : close(file);
     s->length = (size_t)about.st_size;
     s->bytes = none;
     if (s->length > 0) {
