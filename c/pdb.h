@@ -45,13 +45,14 @@ enum {
 };
 uint32_t pdb_header(const uint8_t *s, size_t s_len, uint64_t out[PDB_HEADER_OUT]);
 
-/* The record at the cursor (at, index), and the cursor behind it. A fresh cursor is (PDB_HEADER_SIZE, PDB_HEADER_MINIMUM). */
+/* The record at the cursor (at, index), and the cursor behind it. A fresh cursor is what pdb_header gave: (out[PDB_HEADER_SIZE],
+ * out[PDB_HEADER_MINIMUM]). */
 enum { PDB_NEXT_IS_ITEM = 2, PDB_NEXT_INDEX, PDB_NEXT_PLACE, PDB_NEXT_LENGTH, PDB_NEXT_AT, PDB_NEXT_NEXT_INDEX, PDB_NEXT_OUT };
 uint32_t pdb_next(const uint8_t *s, size_t s_len, size_t at, uint32_t index, uint64_t out[PDB_NEXT_OUT]);
 
 /* A finder is four numbers of the caller's and a table: the stream's minimum and maximum, the places held, the shift (a block is 2^shift records, shift 0
- * to 6, 3 as a rule), and one uint32_t a block. It starts with none held; where the stream counts a record it is updated by the fresh cursor, then by
- * each that pdb_next gave. An update whose index is no multiple of 2^shift above the minimum changes nothing, and can be left out. */
+ * to 6, 3 as a rule), and one uint32_t a block and one more. It starts with none held; where the stream counts a record it is updated by the fresh
+ * cursor, then by each that pdb_next gave. An update whose index is no multiple of 2^shift above the minimum changes nothing, and can be left out. */
 enum { PDB_UPDATE_HELD = 2, PDB_UPDATE_OUT };
 uint32_t pdb_update(uint32_t *table, size_t table_len, uint32_t minimum, uint32_t maximum, size_t held, uint32_t shift, size_t at, uint32_t index,
                     uint64_t out[PDB_UPDATE_OUT]);
