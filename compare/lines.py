@@ -20,7 +20,7 @@ MOST = 262144
 
 def words_of(line):
     """The words of a line, without its comment."""
-    words = line.replace("\t", " ").rstrip("\r").split(" ")
+    words = line.replace("\t", " ").split(" ")
     words = [word for word in words if word]
     comment = [k for k, word in enumerate(words) if word[0] == "#"]
     return words[:comment[0]] if comment else words
@@ -37,14 +37,16 @@ def composed(text):
     """The stream of a text, and of each bad line its number and what it is refused by."""
     stream, bad, begun = b"", [], False
     for number, line in enumerate(text.split("\n"), 1):
+        line, carriage, behind = line.partition("\r")
         words = words_of(line)
-        if not words:
-            continue
         try:
-            stream += record(words, MOST - len(stream)) if begun else writing.header(words, MOST)
+            made = b"" if not words else record(words, MOST - len(stream)) if begun else writing.header(words, MOST)
+            if carriage and behind:
+                raise Refused(17)
+            stream += made
         except Refused as e:
             bad.append((number, e.args[0]))
-        begun = True
+        begun = begun or words != []
     return b"" if bad else stream, bad
 
 
@@ -66,11 +68,11 @@ def record_line(data):
 
 
 def decomposed(s):
-    """The text of a stream. A record with a refused element is one `refused` here; `decompose` prints the elements before it."""
-    if not s or len(s) > MOST:
-        return "refused 16\n" if s else ""
-    if refused_header(s):
-        return f"refused {refused_header(s)}\n"
+    """The text of a stream, and what it is refused by, or 0. A record with a refused element is one `refused` here; `decompose` prints the elements before
+    it."""
+    wrong = 0 if not s else 16 if len(s) > MOST else refused_header(s)
+    if not s or wrong:
+        return "", wrong
     lines, p = [" ".join(map(str, struct.unpack_from("<5I2H2I" + "iI" * 3, s)))], struct.unpack_from("<I", s, 4)[0]
     while p < len(s):
         length = int.from_bytes(s[p:p + 2], "little")
@@ -80,15 +82,18 @@ def decomposed(s):
             break
         lines.append(record_line(s[p + 2:p + 2 + length]))
         p += 2 + length
-    return "".join(line + "\n" for line in lines)
+    return "".join(line + "\n" for line in lines), wrong
 
 
 def main():
     if sys.argv[1:] == ["decompose"]:
-        sys.stdout.write(decomposed(sys.stdin.buffer.read()))
-        return 0
+        text, wrong = decomposed(sys.stdin.buffer.read())
+        sys.stdout.write(text)
+        if wrong:
+            print(f"refused {wrong}", file=sys.stderr)
+        return 1 if wrong else 0
     if sys.argv[1:] == ["compose"]:
-        stream, bad = composed(sys.stdin.read())
+        stream, bad = composed(sys.stdin.buffer.read().decode("latin-1"))
         sys.stdout.buffer.write(stream)
         for number, refusal in bad:
             print(f"line {number} refused {refusal}", file=sys.stderr)

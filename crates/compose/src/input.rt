@@ -101,6 +101,11 @@ pub fn ends_values(code: u16) -> bool {
     code == 35 || code == 10 || code == 13 || code == END
 }
 
+// Whether the line ends by this byte.
+fn ends_line(code: u16) -> bool {
+    code == 10 || code == END
+}
+
 // Past the blanks.
 pub fn blanks(buffer: &mut [u8; 65536], from: Input) -> Input {
     let mut input = from;
@@ -133,22 +138,43 @@ pub fn word_end(buffer: &mut [u8; 65536], from: Input) -> Input {
     input
 }
 
+// Past the end of a line, and whether each CR that was passed stood at the end.
+pub struct Behind {
+    pub good: bool,
+    pub input: Input,
+}
+
+// Whether it is still so at the byte behind this one: a CR before another byte than LF is no end of a line.
+fn still(good: bool, carriage: bool) -> bool {
+    if carriage {
+        return false;
+    }
+    good
+}
+
 // Past the end of the line.
-pub fn line_end(buffer: &mut [u8; 65536], from: Input) -> Input {
+pub fn line_end(buffer: &mut [u8; 65536], from: Input) -> Behind {
     let mut input = from;
+    let mut good = true;
+    let mut carriage = false;
     let mut turns = TURNS;
     while 0 < turns {
         turns -= 1;
         let seen = peek(buffer, input);
         input = past(seen.input);
-        if seen.code == 10 {
-            return input;
+        if ends_line(seen.code) {
+            return Behind {
+                good: good,
+                input: input,
+            };
         }
-        if seen.code == END {
-            return input;
-        }
+        good = still(good, carriage);
+        carriage = seen.code == 13;
     }
-    input
+    Behind {
+        good: false,
+        input: input,
+    }
 }
 
 // A word's first bytes are in the lent array; it has `len` of them there. What is left of a longer word is still in the input.

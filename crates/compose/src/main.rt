@@ -9,6 +9,7 @@ mod values;
 use answer::Refusal;
 use input::Input;
 use libc::STDERR_FILENO;
+use libc::STDIN_FILENO;
 use libc::STDOUT_FILENO;
 use records::Line;
 use write_pieces::WriteAnswer;
@@ -61,16 +62,33 @@ fn number(p: Progress) -> u64 {
     p.lines
 }
 
+// Behind a bad line, which is named.
+fn bad(p: Progress, begun: bool, e: Refusal, behind: Input) -> Progress {
+    put_bad(number(p), e);
+    Progress {
+        lines: number(p),
+        begun: begun,
+        good: false,
+        at: p.at,
+        over: false,
+        input: behind,
+    }
+}
+
 // Behind a line that was passed over.
 fn passed(buffer: &mut [u8; 65536], p: Progress, from: Input) -> Progress {
     let behind = input::line_end(buffer, from);
+    if !behind.good {
+        return bad(p, p.begun, Refusal::WouldNotReadBack, behind.input);
+    }
+    let next = behind.input;
     Progress {
         lines: number(p),
         begun: p.begun,
         good: p.good,
         at: p.at,
         over: false,
-        input: behind,
+        input: next,
     }
 }
 
@@ -78,26 +96,22 @@ fn passed(buffer: &mut [u8; 65536], p: Progress, from: Input) -> Progress {
 fn taken(buffer: &mut [u8; 65536], p: Progress, l: Line) -> Progress {
     let a = l.answer;
     let behind = input::line_end(buffer, l.input);
+    let next = behind.input;
     match a {
-        WriteAnswer::Written(at) => Progress {
-            lines: number(p),
-            begun: true,
-            good: p.good,
-            at: at,
-            over: false,
-            input: behind,
-        },
-        WriteAnswer::Refused(e) => {
-            put_bad(number(p), e);
+        WriteAnswer::Written(at) => {
+            if !behind.good {
+                return bad(p, true, Refusal::WouldNotReadBack, next);
+            }
             Progress {
                 lines: number(p),
                 begun: true,
-                good: false,
-                at: p.at,
+                good: p.good,
+                at: at,
                 over: false,
-                input: behind,
+                input: next,
             }
         }
+        WriteAnswer::Refused(e) => bad(p, true, e, next),
     }
 }
 
@@ -144,6 +158,16 @@ fn put_stream(out: &[u8; 262144], n: usize) {
     }
 }
 
+// Whether standard input is at its end. Where it is not, since a read failed, that is said.
+fn at_end() -> bool {
+    let mut spare = [0u8; 1];
+    if libc::read(STDIN_FILENO, &mut spare) == 0 {
+        return true;
+    }
+    io::write_all(STDERR_FILENO, b"compose: standard input cannot be read\n");
+    false
+}
+
 fn compose(buffer: &mut [u8; 65536], text: &mut [u8; 70000], out: &mut [u8; 262144]) {
     let mut p = Progress {
         lines: 0,
@@ -164,6 +188,9 @@ fn compose(buffer: &mut [u8; 65536], text: &mut [u8; 70000], out: &mut [u8; 2621
         if p.over {
             break;
         }
+    }
+    if !at_end() {
+        return;
     }
     if p.good {
         put_stream(out, p.at);

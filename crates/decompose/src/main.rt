@@ -1,6 +1,7 @@
 // Prints a type or id stream as the lines of text that `compose` makes it from: document 02, R-1. Standard input has the stream, of at most 262,144 bytes;
-// standard output gets the header's fields, and a record to a line, as docs/TEXT.md says. What a reader refuses stands in its place as `refused` and the
-// number, which `compose` takes for no line. A stream of no bytes has no lines.
+// standard output gets the header's fields, and a record to a line, as docs/TEXT.md says. A record or an element that a reader refuses stands in its place
+// as `refused` and the number, which `compose` takes for no line. A header or a walk that is refused is said so on the standard error; the text of such a
+// walk ends in that line too. A stream of no bytes has no lines.
 mod records;
 mod values;
 
@@ -9,6 +10,7 @@ ghost use lib.ListN.{length};
 use answer::Refusal;
 use field::fixed::Read32;
 use field::index::Stream;
+use libc::STDERR_FILENO;
 use libc::STDIN_FILENO;
 use stream_header::Header;
 use stream_header::HeaderAnswer;
@@ -29,9 +31,11 @@ fn buffer() -> [u8; 262145]
     [0u8; 262145]
 }
 
+// A stream that is refused.
 fn refused(e: Refusal) {
-    values::put_refused(e);
-    values::put(b"\n");
+    io::write_all(STDERR_FILENO, b"refused ");
+    io::print_decimal(STDERR_FILENO, e.number() as u64);
+    io::write_all(STDERR_FILENO, b"\n");
 }
 
 // A record's line.
@@ -60,6 +64,8 @@ fn turn(s: &[u8], c: ItemIter) -> Onward {
         }
         NextAnswer::Done => Onward::Over,
         NextAnswer::Refused(e) => {
+            values::put_refused(e);
+            values::put(b"\n");
             refused(e);
             Onward::Over
         }
@@ -160,11 +166,24 @@ fn decompose(s: &[u8]) {
     }
 }
 
+// Whether standard input is at its end. Where it is not, since a read failed, that is said.
+fn at_end() -> bool {
+    let mut spare = [0u8; 1];
+    if libc::read(STDIN_FILENO, &mut spare) == 0 {
+        return true;
+    }
+    io::write_all(STDERR_FILENO, b"decompose: standard input cannot be read\n");
+    false
+}
+
 fn main() {
     let mut stream = buffer();
     let n = io::read_full(STDIN_FILENO, &mut stream);
     if LONGEST < n {
         refused(Refusal::TooLong);
+        return;
+    }
+    if !at_end() {
         return;
     }
     if 0 < n {

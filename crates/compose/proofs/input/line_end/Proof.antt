@@ -5,13 +5,13 @@ use Rattle.compose.proofs.input.line_end.Statement.{statement}
 use Rattle.compose.proofs.input.line_end.Tie as tie
 
 abbrev Inv-loop : tie.InvT-loop
-Inv-loop buffer₀ input₀ turns₀ buffer input turns = Unit {0}
+Inv-loop buffer₀ input₀ good₀ carriage₀ turns₀ buffer input good carriage turns = Unit {0}
 
 abbrev μ-loop : tie.MeasureT-loop
-μ-loop buffer₀ input₀ turns₀ buffer input turns = turns
+μ-loop buffer₀ input₀ good₀ carriage₀ turns₀ buffer input good carriage turns = turns
 
 pub line-end-spec : {M : Type 1} → statement M
 line-end-spec =
     tie.close (tie.spec
-    Inv-loop μ-loop (λ c. search needs) (λ c. search needs) (λ c κs. search needs) (λ c κs. search needs) (λ c. search needs)
-    (λ c. search needs) (λ c. search needs) (λ c. search needs) (λ c. search needs))
+    Inv-loop μ-loop (λ c. search needs) (λ c. search needs) (λ c κs. search needs) (λ c κs. search needs) (λ c κs. search needs)
+    (λ c. search needs) (λ c κs. search needs) (λ c. search needs) (λ c. search needs) (λ c. search needs))
