@@ -1,12 +1,13 @@
 // Does one operation of the reader many times on the stream that stands on standard input, and prints a checksum that depends on every
 // answer: what compare/speed.sh counts the instructions of. The arguments are the operation's name and how many times; for `load`, the fourth is the places
-// file.
+// file. An operation that is none of these, and a stream of more than 262,144 bytes, is refused on the standard error.
 mod sums;
 
 ghost use mathlib.Core.Path.{_≡_};
 ghost use lib.ListN.{length};
 use field::index::Stream;
 use field::index::TypeIndex;
+use libc::STDERR_FILENO;
 use libc::STDIN_FILENO;
 use libc::STDOUT_FILENO;
 use record_data::TypeData;
@@ -30,7 +31,7 @@ use stream_view::RawKindAnswer;
 use sums::add;
 use word_primitive::PrimitiveAnswer;
 
-// The operations, by the letters that their names start with; parseids and primitives have one of their own. Any other is `elements`.
+// The operations, by the letters that their names start with; parseids and primitives have one of their own.
 const HEADER: u8 = b'h';
 
 const WALK: u8 = b'w';
@@ -47,6 +48,11 @@ const LOAD: u8 = b'l';
 
 const PRIMITIVES: u8 = b't';
 
+const ELEMENTS: u8 = b'e';
+
+// A word that is no operation.
+const NONE: u8 = 0;
+
 // The longest stream, and the places that its finder holds at most: a record takes four bytes or more.
 const LONGEST: usize = 262144;
 
@@ -55,10 +61,11 @@ const PLACES: usize = 8192;
 // The bytes of a file with so many places.
 const FILE: usize = 32796;
 
-fn buffer() -> [u8; LONGEST]
-    ensures { λ r. ⌜ 262144 ≡ length r ⌝ }
+// One byte more than the longest stream, to tell that there is one.
+fn buffer() -> [u8; 262145]
+    ensures { λ r. ⌜ 262145 ≡ length r ⌝ }
 {
-    [0u8; LONGEST]
+    [0u8; 262145]
 }
 
 // Each operation, once ---------------------------------------------------------------------------------------------------------
@@ -394,17 +401,53 @@ fn run(op: u8, times: u64, at: usize, stream: &mut [u8], t: &mut [u32; PLACES]) 
     repeat(op, times, at, stream, t)
 }
 
-fn operation(word: &[u8; 16], n: usize) -> u8 {
-    let first = word[0];
-    if first == PARSE {
-        if n == 8 {
-            return IDS;
-        }
-        if n == 10 {
-            return PRIMITIVES;
-        }
+// Whether the n letters of a word are those of a name.
+fn spells(word: &[u8; 16], n: usize, name: &[u8]) -> bool {
+    if n != name.len() {
+        return false;
     }
-    first
+    let mut i: usize = 0;
+    while i < name.len() {
+        if 16 <= i {
+            return false;
+        }
+        if word[i] != name[i] {
+            return false;
+        }
+        i += 1;
+    }
+    true
+}
+
+fn operation(word: &[u8; 16], n: usize) -> u8 {
+    if spells(word, n, b"header") {
+        return HEADER;
+    }
+    if spells(word, n, b"walk") {
+        return WALK;
+    }
+    if spells(word, n, b"index") {
+        return INDEX;
+    }
+    if spells(word, n, b"find") {
+        return FIND;
+    }
+    if spells(word, n, b"parse") {
+        return PARSE;
+    }
+    if spells(word, n, b"elements") {
+        return ELEMENTS;
+    }
+    if spells(word, n, b"parseids") {
+        return IDS;
+    }
+    if spells(word, n, b"load") {
+        return LOAD;
+    }
+    if spells(word, n, b"primitives") {
+        return PRIMITIVES;
+    }
+    NONE
 }
 
 // Argument i as a number, 0 where there is none.
@@ -437,16 +480,44 @@ fn ten_times(value: u64, digit: u8) -> u64 {
     add(10 * value, sums::wide8(digit - b'0'))
 }
 
-fn main() {
-    let mut word = [0u8; 16];
-    let a = os::arg(1, &mut word);
-    let op = operation(&word, a);
+// Whether standard input is at its end. Where it is not, since a read failed, that is said.
+fn at_end() -> bool {
+    let mut spare = [0u8; 1];
+    if libc::read(STDIN_FILENO, &mut spare) == 0 {
+        return true;
+    }
+    io::write_all(STDERR_FILENO, b"measure: standard input cannot be read\n");
+    false
+}
+
+fn measure(op: u8) {
     let times = number(2);
     let at = number(3) as usize;
     let mut stream = buffer();
     let n = io::read_full(STDIN_FILENO, &mut stream);
+    if LONGEST < n {
+        io::write_all(STDERR_FILENO, b"refused 16 too long\n");
+        return;
+    }
+    if !at_end() {
+        return;
+    }
     let mut t = [0u32; PLACES];
     let sum = run(op, times, at, &mut stream[0..n], &mut t);
     io::print_decimal(STDOUT_FILENO, sum);
     io::write_all(STDOUT_FILENO, b"\n");
+}
+
+fn main() {
+    let mut word = [0u8; 16];
+    let a = os::arg(1, &mut word);
+    let op = operation(&word, a);
+    if op == NONE {
+        io::write_all(
+            STDERR_FILENO,
+            b"measure: the operation is header, walk, index, load, find, parse, elements, parseids or primitives\n",
+        );
+        return;
+    }
+    measure(op);
 }

@@ -1,8 +1,10 @@
 // Reads every record of the stream that stands on standard input, with every element of its lists, and writes it again, many times, and prints a checksum
 // that depends on what was written: what compare/speed_write.sh counts the instructions of. The arguments are `types` or `ids`, and how many times.
+// Another first word, and a stream of more than 262,144 bytes, is refused on the standard error.
 ghost use mathlib.Core.Path.{_≡_};
 ghost use lib.ListN.{length};
 use field::index::Stream;
+use libc::STDERR_FILENO;
 use libc::STDIN_FILENO;
 use libc::STDOUT_FILENO;
 use record_data::TypeAnswer;
@@ -24,10 +26,11 @@ const LONGEST: usize = 262144;
 
 const ROWS: usize = 9000;
 
-fn buffer() -> [u8; LONGEST]
-    ensures { λ r. ⌜ 262144 ≡ length r ⌝ }
+// One byte more than the longest stream, to tell that there is one.
+fn buffer() -> [u8; 262145]
+    ensures { λ r. ⌜ 262145 ≡ length r ⌝ }
 {
-    [0u8; LONGEST]
+    [0u8; 262145]
 }
 
 fn add(a: u64, b: u64) -> u64 {
@@ -237,17 +240,35 @@ fn ten_times(value: u64, digit: u8) -> u64 {
     add(10 * value, wide(digit - b'0'))
 }
 
-fn main() {
-    let mut word = [0u8; 16];
-    let a = os::arg(1, &mut word);
+// Whether standard input is at its end. Where it is not, since a read failed, that is said.
+fn at_end() -> bool {
+    let mut spare = [0u8; 1];
+    if libc::read(STDIN_FILENO, &mut spare) == 0 {
+        return true;
+    }
+    io::write_all(
+        STDERR_FILENO,
+        b"measure_write: standard input cannot be read\n",
+    );
+    false
+}
+
+fn measure(ids: bool) {
     let mut digits = [0u8; 16];
     let b = os::arg(2, &mut digits);
     let mut stream = buffer();
     let n = io::read_full(STDIN_FILENO, &mut stream);
+    if LONGEST < n {
+        io::write_all(STDERR_FILENO, b"refused 16 too long\n");
+        return;
+    }
+    if !at_end() {
+        return;
+    }
     let mut rows = [[0u64; 8]; 9000];
     let mut out = [0u8; 262144];
     let sum = repeat(
-        a == 3,
+        ids,
         numeral(&digits, b),
         &mut stream[0..n],
         &mut rows,
@@ -255,4 +276,33 @@ fn main() {
     );
     io::print_decimal(STDOUT_FILENO, sum);
     io::write_all(STDOUT_FILENO, b"\n");
+}
+
+// Whether the word is `types`, or `ids`.
+fn is_types(word: &[u8; 16], n: usize) -> bool {
+    n == 5
+        && word[0] == b't'
+        && word[1] == b'y'
+        && word[2] == b'p'
+        && word[3] == b'e'
+        && word[4] == b's'
+}
+
+fn is_ids(word: &[u8; 16], n: usize) -> bool {
+    n == 3 && word[0] == b'i' && word[1] == b'd' && word[2] == b's'
+}
+
+fn main() {
+    let mut word = [0u8; 16];
+    let n = os::arg(1, &mut word);
+    if is_types(&word, n) {
+        return measure(false);
+    }
+    if is_ids(&word, n) {
+        return measure(true);
+    }
+    io::write_all(
+        STDERR_FILENO,
+        b"measure_write: the stream is of types or ids\n",
+    );
 }
