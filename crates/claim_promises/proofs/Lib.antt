@@ -18,4 +18,3 @@ pub mod Idle
 pub mod Examples
 pub mod OneOutcome
 pub mod SectionsProof
-pub mod Demands

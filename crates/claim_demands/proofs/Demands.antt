@@ -17,16 +17,17 @@ use Rattle.section_read.proofs.TakenProof.{each-taken}
 use Rattle.section_stream.proofs.MadeProof.{stream-made}
 use Rattle.pane.proofs.TallyProof.{tally-holds}
 use Rattle.pane.proofs.SameProof.{same}
 use Rattle.claim_promises.proofs.Demand1.{demand1}
 use Rattle.claim_promises.proofs.ExactlyWhen.{exactly-when}
 use Rattle.claim_promises.proofs.PlacesWhen.{places-when}
 use Rattle.claim_promises.proofs.WritesWhen.{writes-when}
 use Rattle.claim_promises.proofs.SectionsProof.{sections-refuse, sections-when}
 use Rattle.claim_promises.proofs.DeclareRefuses.{declare-when}
 use Rattle.claim_promises.proofs.Digits.{lengths-shown}
 use Rattle.claim_promises.proofs.Examples.{examples-hold}
 use Rattle.claim_promises.proofs.OneOutcome.{one-outcome}
-use Rattle.claim_promises.specs.Demands.{Demands}
+use Rattle.claim_demands.proofs.Tied.{tied}
+use Rattle.claim_demands.specs.Demands.{Demands}
 
 pub demands : Demands
 demands = record {
@@ -66,5 +67,6 @@ demands = record {
   sections = sections-refuse;
   given-sections = sections-when;
   shown = examples-hold;
+  tied = tied;
   one = one-outcome;
 }

@@ -1,5 +1,5 @@
--- What is promised, in one place: the customer's three demands, what document 02 asks of them, document 01's examples, and that every contract
--- admits one outcome.
+-- What is promised, in one place: the customer's three demands, what document 02 asks of them, document 01's examples, that every public function meets
+-- its contract, and that every contract admits one outcome. A file that is named without its crate stands in crates/claim_promises/specs.
 -- `demands : Demands` (proofs/Demands.antt) is its proof.
 use mathlib.Core.Path.{_≡_}
 use mathlib.Core.List.{map}
@@ -21,17 +21,18 @@ use Rattle.section_read.specs.Readers.{EachTaken}
 use Rattle.section_stream.specs.Made.{StreamMade}
 use Rattle.pane.specs.Tally.{Tally}
 use Rattle.pane.specs.Same.{Same}
 use Rattle.claim_promises.specs.Demand1.{Demand1}
 use Rattle.claim_promises.specs.ExactlyWhen.{ExactlyWhen}
 use Rattle.claim_promises.specs.PlacesWhen.{PlacesWhen}
 use Rattle.claim_promises.specs.WritesWhen.{WritesWhen}
 use Rattle.claim_promises.specs.Sections.{SectionsRefuse, SectionsWhen}
 use Rattle.claim_promises.specs.DeclareWhen.{DeclareWhen}
 use Rattle.claim_promises.specs.Digits.{LengthsShown}
 use Rattle.claim_promises.specs.Examples.{examples, asked, given as answers}
 use Rattle.claim_promises.specs.OneOutcome.{OneOutcome}
+use Rattle.claim_demands.specs.Tied.{Tied}
 
-pub record Demands : Type 1 where
+pub record Demands : Type 2 where
   -- "Every byte string and every number is answered or refused by document 01's table. A refusal gives nothing but its number and named detail,
   -- and all lent memory stays unchanged." Demand1.antt
   pub first : Demand1
@@ -102,5 +103,7 @@ pub record Demands : Type 1 where
   pub given-sections : SectionsWhen
   -- "P marks those proved, together as one statement over their list": Examples.antt
   pub shown : map asked examples ≡ map answers examples
+  -- every public function meets its contract, and the contract is a definition that the theorems name: Tied.antt, over crates/claim_promises/specs/Contracts.antt
+  pub tied : Tied
   -- "For each, show that the contract admits one outcome": OneOutcome.antt
   pub one : OneOutcome

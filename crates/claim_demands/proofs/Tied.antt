@@ -1,0 +1,332 @@
+-- Each public function is tied to its contract: the clauses are that contract by `refl`, and the function's theorem says the rest. Assumes nothing.
+-- Written by tools/ties.
+use mathlib.Core.Path.{refl}
+use Rattle.answer.proofs.Refusal.details.Met as answer-refusal-details
+use Rattle.answer.proofs.Refusal.number.Met as answer-refusal-number
+use Rattle.answer_name.proofs.name_of.Met as answer-name-name-of
+use Rattle.declare_kind.proofs.kind.Met as declare-kind-kind
+use Rattle.declare_kind.proofs.size.Met as declare-kind-size
+use Rattle.declare_node.proofs.index_at.Met as declare-node-index-at
+use Rattle.declare_node.proofs.list_of.Met as declare-node-list-of
+use Rattle.declare_node.proofs.node_of.Met as declare-node-node-of
+use Rattle.declare_piece.proofs.len.Met as declare-piece-len
+use Rattle.declare_piece.proofs.put.Met as declare-piece-put
+use Rattle.declare_step.proofs.start.Met as declare-step-start
+use Rattle.declare_step.proofs.step_of.Met as declare-step-step-of
+use Rattle.declare_type.proofs.declare.Met as declare-type-declare
+use Rattle.declare_walk.proofs.declarator.Met as declare-walk-declarator
+use Rattle.declare_word.proofs.by.Met as declare-word-by
+use Rattle.declare_word.proofs.mode.Met as declare-word-mode
+use Rattle.declare_word.proofs.qualifiers.Met as declare-word-qualifiers
+use Rattle.field.proofs.fixed.u16_at.Met as field-fixed-u16-at
+use Rattle.field.proofs.fixed.u32_at.Met as field-fixed-u32-at
+use Rattle.field.proofs.fixed.u64_at.Met as field-fixed-u64-at
+use Rattle.field.proofs.fixed.u8_at.Met as field-fixed-u8-at
+use Rattle.field.proofs.index.IdIndex.is_cross_module.Met as field-index-id-index-is-cross-module
+use Rattle.field.proofs.index.IdIndex.optional.Met as field-index-id-index-optional
+use Rattle.field.proofs.index.ItemIndex.number.Met as field-index-item-index-number
+use Rattle.field.proofs.index.ItemIndex.stream.Met as field-index-item-index-stream
+use Rattle.field.proofs.index.Stream.index.Met as field-index-stream-index
+use Rattle.field.proofs.index.TypeIndex.is_cross_module.Met as field-index-type-index-is-cross-module
+use Rattle.field.proofs.index.TypeIndex.optional.Met as field-index-type-index-optional
+use Rattle.field.proofs.index.id_at.Met as field-index-id-at
+use Rattle.field.proofs.index.optional_id_at.Met as field-index-optional-id-at
+use Rattle.field.proofs.index.optional_type_at.Met as field-index-optional-type-at
+use Rattle.field.proofs.index.string_ref_at.Met as field-index-string-ref-at
+use Rattle.field.proofs.index.type_at.Met as field-index-type-at
+use Rattle.field.proofs.run.after_bytes.Met as field-run-after-bytes
+use Rattle.field.proofs.run.bytes_at.Met as field-run-bytes-at
+use Rattle.field_number.proofs.number_at.Met as field-number-number-at
+use Rattle.field_number.proofs.size_at.Met as field-number-size-at
+use Rattle.field_put.proofs.put16.Met as field-put-put16
+use Rattle.field_put.proofs.put32.Met as field-put-put32
+use Rattle.field_put.proofs.put8.Met as field-put-put8
+use Rattle.field_put.proofs.put_all.Met as field-put-put-all
+use Rattle.field_text.proofs.RawString.bytes.Met as field-text-raw-string-bytes
+use Rattle.field_text.proofs.after_padding.Met as field-text-after-padding
+use Rattle.field_text.proofs.string_at.Met as field-text-string-at
+use Rattle.field_text.proofs.string_of.Met as field-text-string-of
+use Rattle.pane.proofs.pdb_find.Met as pane-pdb-find
+use Rattle.pane.proofs.pdb_header.Met as pane-pdb-header
+use Rattle.pane.proofs.pdb_next.Met as pane-pdb-next
+use Rattle.pane.proofs.pdb_primitive.Met as pane-pdb-primitive
+use Rattle.pane.proofs.pdb_update.Met as pane-pdb-update
+use Rattle.record_data.proofs.TypeData.name.Met as record-data-type-data-name
+use Rattle.record_data.proofs.type_data.Met as record-data-type-data
+use Rattle.record_id.proofs.id_data.Met as record-id-id-data
+use Rattle.record_list.proofs.element_from.Met as record-list-element-from
+use Rattle.record_list.proofs.start.Met as record-list-start
+use Rattle.record_list.proofs.step.Met as record-list-step
+use Rattle.record_member.proofs.Member.name.Met as record-member-member-name
+use Rattle.record_member.proofs.member_at.Met as record-member-member-at
+use Rattle.record_member.proofs.method_entry_at.Met as record-member-method-entry-at
+use Rattle.record_parse.proofs.parse.Met as record-parse-parse
+use Rattle.record_reader.proofs.ListReader.element.Met as record-reader-list-reader-element
+use Rattle.record_reader.proofs.ListReader.new.Met as record-reader-list-reader-new
+use Rattle.record_reader.proofs.ListReader.step.Met as record-reader-list-reader-step
+use Rattle.record_reader.proofs.nth.Met as record-reader-nth
+use Rattle.record_reader.proofs.step_of.Met as record-reader-step-of
+use Rattle.section_finder.proofs.create.Met as section-finder-create
+use Rattle.section_finder.proofs.create_by.Met as section-finder-create-by
+use Rattle.section_finder.proofs.index_all.Met as section-finder-index-all
+use Rattle.section_finder.proofs.index_all_by.Met as section-finder-index-all-by
+use Rattle.section_item.proofs.iter.Met as section-item-iter
+use Rattle.section_item.proofs.len.Met as section-item-len
+use Rattle.section_read.proofs.parse.Met as section-read-parse
+use Rattle.section_read.proofs.start.Met as section-read-start
+use Rattle.section_stream.proofs.to_stream.Met as section-stream-to-stream
+use Rattle.stream_finder.proofs.ItemFinder.max_id_index.Met as stream-finder-item-finder-max-id-index
+use Rattle.stream_finder.proofs.ItemFinder.max_type_index.Met as stream-finder-item-finder-max-type-index
+use Rattle.stream_finder.proofs.ItemFinder.update.Met as stream-finder-lent-item-finder-update
+use Rattle.stream_finder.proofs.begin.Met as stream-finder-begin
+use Rattle.stream_finder.proofs.create.Met as stream-finder-create
+use Rattle.stream_finder.proofs.create_by.Met as stream-finder-create-by
+use Rattle.stream_finder.proofs.find_id.Met as stream-finder-find-id
+use Rattle.stream_finder.proofs.find_type.Met as stream-finder-find-type
+use Rattle.stream_finder.proofs.lent.update_local.Met as stream-finder-lent-update-local
+use Rattle.stream_finder.proofs.update.Met as stream-finder-update
+use Rattle.stream_header.proofs.Header.count.Met as stream-header-header-count
+use Rattle.stream_header.proofs.Header.parse.Met as stream-header-header-parse
+use Rattle.stream_index.proofs.index_all.Met as stream-index-index-all
+use Rattle.stream_index.proofs.index_all_by.Met as stream-index-index-all-by
+use Rattle.stream_index.proofs.index_on.Met as stream-index-index-on
+use Rattle.stream_index.proofs.turn.Met as stream-index-turn
+use Rattle.stream_item.proofs.Entry.index.Met as stream-item-entry-index
+use Rattle.stream_item.proofs.Entry.is_empty.Met as stream-item-entry-is-empty
+use Rattle.stream_item.proofs.Entry.len.Met as stream-item-entry-len
+use Rattle.stream_item.proofs.information.is_empty.Met as stream-item-information-is-empty
+use Rattle.stream_item.proofs.information.len.Met as stream-item-information-len
+use Rattle.stream_item.proofs.iter.iter.Met as stream-item-iter-iter
+use Rattle.stream_item.proofs.iter.next.Met as stream-item-iter-next
+use Rattle.stream_item.proofs.link.link_of.Met as stream-item-link-link-of
+use Rattle.stream_places.proofs.load.Met as stream-places-load
+use Rattle.stream_places.proofs.save.Met as stream-places-save
+use Rattle.stream_places.proofs.trailer.Trailer.parse.Met as stream-places-trailer-trailer-parse
+use Rattle.stream_view.proofs.bytes_of.Met as stream-view-bytes-of
+use Rattle.stream_view.proofs.raw_kind.Met as stream-view-raw-kind
+use Rattle.stream_view.proofs.view.Met as stream-view-view
+use Rattle.stream_view.proofs.why.Met as stream-view-why
+use Rattle.word_attributes.proofs.FieldAttributes.access.Met as word-attributes-field-attributes-access
+use Rattle.word_attributes.proofs.FieldAttributes.is_intro_virtual.Met as word-attributes-field-attributes-is-intro-virtual
+use Rattle.word_attributes.proofs.FieldAttributes.is_pure_virtual.Met as word-attributes-field-attributes-is-pure-virtual
+use Rattle.word_attributes.proofs.FieldAttributes.is_static.Met as word-attributes-field-attributes-is-static
+use Rattle.word_attributes.proofs.FieldAttributes.is_virtual.Met as word-attributes-field-attributes-is-virtual
+use Rattle.word_attributes.proofs.FieldAttributes.method_properties.Met as word-attributes-field-attributes-method-properties
+use Rattle.word_attributes.proofs.FunctionAttributes.calling_convention.Met as word-attributes-function-attributes-calling-convention
+use Rattle.word_attributes.proofs.FunctionAttributes.cxx_return_udt.Met as word-attributes-function-attributes-cxx-return-udt
+use Rattle.word_attributes.proofs.FunctionAttributes.is_constructor.Met as word-attributes-function-attributes-is-constructor
+use Rattle.word_attributes.proofs.FunctionAttributes.is_constructor_with_virtual_bases.Met as word-attributes-function-attributes-is-constructor-with-virtual-bases
+use Rattle.word_attributes.proofs.ModifierFlags.constant.Met as word-attributes-modifier-flags-constant
+use Rattle.word_attributes.proofs.ModifierFlags.unaligned.Met as word-attributes-modifier-flags-unaligned
+use Rattle.word_attributes.proofs.ModifierFlags.volatile.Met as word-attributes-modifier-flags-volatile
+use Rattle.word_attributes.proofs.PointerAttributes.is_const.Met as word-attributes-pointer-attributes-is-const
+use Rattle.word_attributes.proofs.PointerAttributes.is_flat_32.Met as word-attributes-pointer-attributes-is-flat-32
+use Rattle.word_attributes.proofs.PointerAttributes.is_mocom.Met as word-attributes-pointer-attributes-is-mocom
+use Rattle.word_attributes.proofs.PointerAttributes.is_reference.Met as word-attributes-pointer-attributes-is-reference
+use Rattle.word_attributes.proofs.PointerAttributes.is_restrict.Met as word-attributes-pointer-attributes-is-restrict
+use Rattle.word_attributes.proofs.PointerAttributes.is_unaligned.Met as word-attributes-pointer-attributes-is-unaligned
+use Rattle.word_attributes.proofs.PointerAttributes.is_volatile.Met as word-attributes-pointer-attributes-is-volatile
+use Rattle.word_attributes.proofs.PointerAttributes.pointer_kind.Met as word-attributes-pointer-attributes-pointer-kind
+use Rattle.word_attributes.proofs.PointerAttributes.pointer_mode.Met as word-attributes-pointer-attributes-pointer-mode
+use Rattle.word_attributes.proofs.PointerAttributes.pointer_to_member.Met as word-attributes-pointer-attributes-pointer-to-member
+use Rattle.word_attributes.proofs.PointerAttributes.size.Met as word-attributes-pointer-attributes-size
+use Rattle.word_attributes.proofs.TypeProperties.constructors.Met as word-attributes-type-properties-constructors
+use Rattle.word_attributes.proofs.TypeProperties.contains_nested_types.Met as word-attributes-type-properties-contains-nested-types
+use Rattle.word_attributes.proofs.TypeProperties.forward_reference.Met as word-attributes-type-properties-forward-reference
+use Rattle.word_attributes.proofs.TypeProperties.has_unique_name.Met as word-attributes-type-properties-has-unique-name
+use Rattle.word_attributes.proofs.TypeProperties.hfa.Met as word-attributes-type-properties-hfa
+use Rattle.word_attributes.proofs.TypeProperties.intrinsic_type.Met as word-attributes-type-properties-intrinsic-type
+use Rattle.word_attributes.proofs.TypeProperties.is_nested_type.Met as word-attributes-type-properties-is-nested-type
+use Rattle.word_attributes.proofs.TypeProperties.mocom.Met as word-attributes-type-properties-mocom
+use Rattle.word_attributes.proofs.TypeProperties.overloaded_assignment.Met as word-attributes-type-properties-overloaded-assignment
+use Rattle.word_attributes.proofs.TypeProperties.overloaded_casting.Met as word-attributes-type-properties-overloaded-casting
+use Rattle.word_attributes.proofs.TypeProperties.overloaded_operators.Met as word-attributes-type-properties-overloaded-operators
+use Rattle.word_attributes.proofs.TypeProperties.packed.Met as word-attributes-type-properties-packed
+use Rattle.word_attributes.proofs.TypeProperties.scoped_definition.Met as word-attributes-type-properties-scoped-definition
+use Rattle.word_attributes.proofs.TypeProperties.sealed.Met as word-attributes-type-properties-sealed
+use Rattle.word_primitive.proofs.primitive.Met as word-primitive-primitive
+use Rattle.write_fit.proofs.gap.Met as write-fit-gap
+use Rattle.write_fit.proofs.half.Met as write-fit-half
+use Rattle.write_fit.proofs.natural.Met as write-fit-natural
+use Rattle.write_fit.proofs.text.Met as write-fit-text
+use Rattle.write_fit.proofs.types.Met as write-fit-types
+use Rattle.write_fit.proofs.word.Met as write-fit-word
+use Rattle.write_header.proofs.write_header.Met as write-header-write-header
+use Rattle.write_id.proofs.write_id.Met as write-id-write-id
+use Rattle.write_list.proofs.write_field_list.Met as write-list-write-field-list
+use Rattle.write_list.proofs.write_method_list.Met as write-list-write-method-list
+use Rattle.write_pieces.proofs.held_sum.Met as write-pieces-held-sum
+use Rattle.write_pieces.proofs.measured.Met as write-pieces-measured
+use Rattle.write_pieces.proofs.write_filled.Met as write-pieces-write-filled
+use Rattle.write_pieces.proofs.write_plain.Met as write-pieces-write-plain
+use Rattle.write_pieces.proofs.write_record.Met as write-pieces-write-record
+use Rattle.write_row.proofs.of_member.Met as write-row-of-member
+use Rattle.write_row.proofs.of_method.Met as write-row-of-method
+use Rattle.write_type.proofs.write_type.Met as write-type-write-type
+use Rattle.claim_demands.specs.Tied.{Tied}
+
+pub tied : Tied
+tied = record {
+  answer-refusal-number = record { says = λ M 𝓤 H A mem run. refl; meets = λ M. answer-refusal-number.met };
+  answer-refusal-details = record { says = λ M 𝓤 H A mem run. refl; meets = λ M. answer-refusal-details.met };
+  answer-name-name-of = record { says = λ M 𝓤 H A mem run. refl; meets = λ M. answer-name-name-of.met };
+  declare-kind-kind = record { says = λ M 𝓤 H A mem run. refl; meets = λ M. declare-kind-kind.met };
+  declare-kind-size = record { says = λ M 𝓤 H A mem run. refl; meets = λ M. declare-kind-size.met };
+  declare-node-node-of = record { says = λ M 𝓤 H A mem run. refl; meets = λ M. declare-node-node-of.met };
+  declare-node-list-of = record { says = λ M 𝓤 H A mem run. refl; meets = λ M. declare-node-list-of.met };
+  declare-node-index-at = record { says = λ M 𝓤 H A mem run. refl; meets = λ M. declare-node-index-at.met };
+  declare-piece-len = record { says = λ M 𝓤 H A mem run. refl; meets = λ M. declare-piece-len.met };
+  declare-piece-put = record { says = λ M 𝓤 H A mem run. refl; meets = λ M. declare-piece-put.met };
+  declare-step-start = record { says = λ M 𝓤 H A mem run. refl; meets = λ M. declare-step-start.met };
+  declare-step-step-of = record { says = λ M 𝓤 H A mem run. refl; meets = λ M. declare-step-step-of.met };
+  declare-type-declare = record { says = λ M 𝓤 H A mem run. refl; meets = λ M. declare-type-declare.met };
+  declare-walk-declarator = record { says = λ M 𝓤 H A mem run. refl; meets = λ M. declare-walk-declarator.met };
+  declare-word-by = record { says = λ M 𝓤 H A mem run. refl; meets = λ M. declare-word-by.met };
+  declare-word-mode = record { says = λ M 𝓤 H A mem run. refl; meets = λ M. declare-word-mode.met };
+  declare-word-qualifiers = record { says = λ M 𝓤 H A mem run. refl; meets = λ M. declare-word-qualifiers.met };
+  field-fixed-u8-at = record { says = λ M 𝓤 H A mem run. refl; meets = λ M. field-fixed-u8-at.met };
+  field-fixed-u16-at = record { says = λ M 𝓤 H A mem run. refl; meets = λ M. field-fixed-u16-at.met };
+  field-fixed-u32-at = record { says = λ M 𝓤 H A mem run. refl; meets = λ M. field-fixed-u32-at.met };
+  field-fixed-u64-at = record { says = λ M 𝓤 H A mem run. refl; meets = λ M. field-fixed-u64-at.met };
+  field-index-stream-index = record { says = λ M 𝓤 H A mem run. refl; meets = λ M. field-index-stream-index.met };
+  field-index-item-index-stream = record { says = λ M 𝓤 H A mem run. refl; meets = λ M. field-index-item-index-stream.met };
+  field-index-item-index-number = record { says = λ M 𝓤 H A mem run. refl; meets = λ M. field-index-item-index-number.met };
+  field-index-type-index-is-cross-module = record { says = λ M 𝓤 H A mem run. refl; meets = λ M. field-index-type-index-is-cross-module.met };
+  field-index-type-index-optional = record { says = λ M 𝓤 H A mem run. refl; meets = λ M. field-index-type-index-optional.met };
+  field-index-id-index-is-cross-module = record { says = λ M 𝓤 H A mem run. refl; meets = λ M. field-index-id-index-is-cross-module.met };
+  field-index-id-index-optional = record { says = λ M 𝓤 H A mem run. refl; meets = λ M. field-index-id-index-optional.met };
+  field-index-type-at = record { says = λ M 𝓤 H A mem run. refl; meets = λ M. field-index-type-at.met };
+  field-index-id-at = record { says = λ M 𝓤 H A mem run. refl; meets = λ M. field-index-id-at.met };
+  field-index-string-ref-at = record { says = λ M 𝓤 H A mem run. refl; meets = λ M. field-index-string-ref-at.met };
+  field-index-optional-type-at = record { says = λ M 𝓤 H A mem run. refl; meets = λ M. field-index-optional-type-at.met };
+  field-index-optional-id-at = record { says = λ M 𝓤 H A mem run. refl; meets = λ M. field-index-optional-id-at.met };
+  field-run-after-bytes = record { says = λ M 𝓤 H A mem run. refl; meets = λ M. field-run-after-bytes.met };
+  field-run-bytes-at = record { says = λ M 𝓤 H A mem run. refl; meets = λ M. field-run-bytes-at.met };
+  field-number-number-at = record { says = λ M 𝓤 H A mem run. refl; meets = λ M. field-number-number-at.met };
+  field-number-size-at = record { says = λ M 𝓤 H A mem run. refl; meets = λ M. field-number-size-at.met };
+  field-put-put8 = record { says = λ M 𝓤 H A mem run. refl; meets = λ M. field-put-put8.met };
+  field-put-put16 = record { says = λ M 𝓤 H A mem run. refl; meets = λ M. field-put-put16.met };
+  field-put-put32 = record { says = λ M 𝓤 H A mem run. refl; meets = λ M. field-put-put32.met };
+  field-put-put-all = record { says = λ M 𝓤 H A mem run. refl; meets = λ M. field-put-put-all.met };
+  field-text-string-at = record { says = λ M 𝓤 H A mem run. refl; meets = λ M. field-text-string-at.met };
+  field-text-raw-string-bytes = record { says = λ M 𝓤 H A mem run. refl; meets = λ M. field-text-raw-string-bytes.met };
+  field-text-string-of = record { says = λ M 𝓤 H A mem run. refl; meets = λ M. field-text-string-of.met };
+  field-text-after-padding = record { says = λ M 𝓤 H A mem run. refl; meets = λ M. field-text-after-padding.met };
+  pane-pdb-header = record { says = λ M 𝓤 H A mem run. refl; meets = λ M. pane-pdb-header.met };
+  pane-pdb-next = record { says = λ M 𝓤 H A mem run. refl; meets = λ M. pane-pdb-next.met };
+  pane-pdb-update = record { says = λ M 𝓤 H A mem run. refl; meets = λ M. pane-pdb-update.met };
+  pane-pdb-find = record { says = λ M 𝓤 H A mem run. refl; meets = λ M. pane-pdb-find.met };
+  pane-pdb-primitive = record { says = λ M 𝓤 H A mem run. refl; meets = λ M. pane-pdb-primitive.met };
+  record-data-type-data-name = record { says = λ M 𝓤 H A mem run. refl; meets = λ M. record-data-type-data-name.met };
+  record-data-type-data = record { says = λ M 𝓤 H A mem run. refl; meets = λ M. record-data-type-data.met };
+  record-id-id-data = record { says = λ M 𝓤 H A mem run. refl; meets = λ M. record-id-id-data.met };
+  record-list-start = record { says = λ M 𝓤 H A mem run. refl; meets = λ M. record-list-start.met };
+  record-list-step = record { says = λ M 𝓤 H A mem run. refl; meets = λ M. record-list-step.met };
+  record-list-element-from = record { says = λ M 𝓤 H A mem run. refl; meets = λ M. record-list-element-from.met };
+  record-member-member-name = record { says = λ M 𝓤 H A mem run. refl; meets = λ M. record-member-member-name.met };
+  record-member-member-at = record { says = λ M 𝓤 H A mem run. refl; meets = λ M. record-member-member-at.met };
+  record-member-method-entry-at = record { says = λ M 𝓤 H A mem run. refl; meets = λ M. record-member-method-entry-at.met };
+  record-parse-parse = record { says = λ M 𝓤 H A mem run. refl; meets = λ M. record-parse-parse.met };
+  record-reader-list-reader-new = record { says = λ M 𝓤 H A mem run. refl; meets = λ M. record-reader-list-reader-new.met };
+  record-reader-list-reader-element = record { says = λ M 𝓤 H A mem run. refl; meets = λ M. record-reader-list-reader-element.met };
+  record-reader-list-reader-step = record { says = λ M 𝓤 H A mem run. refl; meets = λ M. record-reader-list-reader-step.met };
+  record-reader-step-of = record { says = λ M 𝓤 H A mem run. refl; meets = λ M. record-reader-step-of.met };
+  record-reader-nth = record { says = λ M 𝓤 H A mem run. refl; meets = λ M. record-reader-nth.met };
+  section-finder-create = record { says = λ M 𝓤 H A mem run. refl; meets = λ M. section-finder-create.met };
+  section-finder-create-by = record { says = λ M 𝓤 H A mem run. refl; meets = λ M. section-finder-create-by.met };
+  section-finder-index-all = record { says = λ M 𝓤 H A mem run. refl; meets = λ M. section-finder-index-all.met };
+  section-finder-index-all-by = record { says = λ M 𝓤 H A mem run. refl; meets = λ M. section-finder-index-all-by.met };
+  section-item-iter = record { says = λ M 𝓤 H A mem run. refl; meets = λ M. section-item-iter.met };
+  section-item-len = record { says = λ M 𝓤 H A mem run. refl; meets = λ M. section-item-len.met };
+  section-read-parse = record { says = λ M 𝓤 H A mem run. refl; meets = λ M. section-read-parse.met };
+  section-read-start = record { says = λ M 𝓤 H A mem run. refl; meets = λ M. section-read-start.met };
+  section-stream-to-stream = record { says = λ M 𝓤 H A mem run. refl; meets = λ M. section-stream-to-stream.met };
+  stream-finder-create = record { says = λ M 𝓤 H A mem run. refl; meets = λ M. stream-finder-create.met };
+  stream-finder-create-by = record { says = λ M 𝓤 H A mem run. refl; meets = λ M. stream-finder-create-by.met };
+  stream-finder-begin = record { says = λ M 𝓤 H A mem run. refl; meets = λ M. stream-finder-begin.met };
+  stream-finder-update = record { says = λ M 𝓤 H A mem run. refl; meets = λ M. stream-finder-update.met };
+  stream-finder-item-finder-max-type-index = record { says = λ M 𝓤 H A mem run. refl; meets = λ M. stream-finder-item-finder-max-type-index.met };
+  stream-finder-item-finder-max-id-index = record { says = λ M 𝓤 H A mem run. refl; meets = λ M. stream-finder-item-finder-max-id-index.met };
+  stream-finder-find-type = record { says = λ M 𝓤 H A mem run. refl; meets = λ M. stream-finder-find-type.met };
+  stream-finder-find-id = record { says = λ M 𝓤 H A mem run. refl; meets = λ M. stream-finder-find-id.met };
+  stream-finder-lent-item-finder-update = record { says = λ M 𝓤 H A mem run. refl; meets = λ M. stream-finder-lent-item-finder-update.met };
+  stream-finder-lent-update-local = record { says = λ M 𝓤 H A mem run. refl; meets = λ M. stream-finder-lent-update-local.met };
+  stream-header-header-parse = record { says = λ M 𝓤 H A mem run. refl; meets = λ M. stream-header-header-parse.met };
+  stream-header-header-count = record { says = λ M 𝓤 H A mem run. refl; meets = λ M. stream-header-header-count.met };
+  stream-index-turn = record { says = λ M 𝓤 H A mem run. refl; meets = λ M. stream-index-turn.met };
+  stream-index-index-on = record { says = λ M 𝓤 H A mem run. refl; meets = λ M. stream-index-index-on.met };
+  stream-index-index-all = record { says = λ M 𝓤 H A mem run. refl; meets = λ M. stream-index-index-all.met };
+  stream-index-index-all-by = record { says = λ M 𝓤 H A mem run. refl; meets = λ M. stream-index-index-all-by.met };
+  stream-item-entry-index = record { says = λ M 𝓤 H A mem run. refl; meets = λ M. stream-item-entry-index.met };
+  stream-item-entry-len = record { says = λ M 𝓤 H A mem run. refl; meets = λ M. stream-item-entry-len.met };
+  stream-item-entry-is-empty = record { says = λ M 𝓤 H A mem run. refl; meets = λ M. stream-item-entry-is-empty.met };
+  stream-item-information-len = record { says = λ M 𝓤 H A mem run. refl; meets = λ M. stream-item-information-len.met };
+  stream-item-information-is-empty = record { says = λ M 𝓤 H A mem run. refl; meets = λ M. stream-item-information-is-empty.met };
+  stream-item-iter-iter = record { says = λ M 𝓤 H A mem run. refl; meets = λ M. stream-item-iter-iter.met };
+  stream-item-iter-next = record { says = λ M 𝓤 H A mem run. refl; meets = λ M. stream-item-iter-next.met };
+  stream-item-link-link-of = record { says = λ M 𝓤 H A mem run. refl; meets = λ M. stream-item-link-link-of.met };
+  stream-places-load = record { says = λ M 𝓤 H A mem run. refl; meets = λ M. stream-places-load.met };
+  stream-places-save = record { says = λ M 𝓤 H A mem run. refl; meets = λ M. stream-places-save.met };
+  stream-places-trailer-trailer-parse = record { says = λ M 𝓤 H A mem run. refl; meets = λ M. stream-places-trailer-trailer-parse.met };
+  stream-view-bytes-of = record { says = λ M 𝓤 H A mem run. refl; meets = λ M. stream-view-bytes-of.met };
+  stream-view-view = record { says = λ M 𝓤 H A mem run. refl; meets = λ M. stream-view-view.met };
+  stream-view-why = record { says = λ M 𝓤 H A mem run. refl; meets = λ M. stream-view-why.met };
+  stream-view-raw-kind = record { says = λ M 𝓤 H A mem run. refl; meets = λ M. stream-view-raw-kind.met };
+  word-attributes-type-properties-packed = record { says = λ M 𝓤 H A mem run. refl; meets = λ M. word-attributes-type-properties-packed.met };
+  word-attributes-type-properties-constructors = record { says = λ M 𝓤 H A mem run. refl; meets = λ M. word-attributes-type-properties-constructors.met };
+  word-attributes-type-properties-overloaded-operators = record { says = λ M 𝓤 H A mem run. refl; meets = λ M. word-attributes-type-properties-overloaded-operators.met };
+  word-attributes-type-properties-is-nested-type = record { says = λ M 𝓤 H A mem run. refl; meets = λ M. word-attributes-type-properties-is-nested-type.met };
+  word-attributes-type-properties-contains-nested-types = record { says = λ M 𝓤 H A mem run. refl; meets = λ M. word-attributes-type-properties-contains-nested-types.met };
+  word-attributes-type-properties-overloaded-assignment = record { says = λ M 𝓤 H A mem run. refl; meets = λ M. word-attributes-type-properties-overloaded-assignment.met };
+  word-attributes-type-properties-overloaded-casting = record { says = λ M 𝓤 H A mem run. refl; meets = λ M. word-attributes-type-properties-overloaded-casting.met };
+  word-attributes-type-properties-forward-reference = record { says = λ M 𝓤 H A mem run. refl; meets = λ M. word-attributes-type-properties-forward-reference.met };
+  word-attributes-type-properties-scoped-definition = record { says = λ M 𝓤 H A mem run. refl; meets = λ M. word-attributes-type-properties-scoped-definition.met };
+  word-attributes-type-properties-has-unique-name = record { says = λ M 𝓤 H A mem run. refl; meets = λ M. word-attributes-type-properties-has-unique-name.met };
+  word-attributes-type-properties-sealed = record { says = λ M 𝓤 H A mem run. refl; meets = λ M. word-attributes-type-properties-sealed.met };
+  word-attributes-type-properties-intrinsic-type = record { says = λ M 𝓤 H A mem run. refl; meets = λ M. word-attributes-type-properties-intrinsic-type.met };
+  word-attributes-type-properties-hfa = record { says = λ M 𝓤 H A mem run. refl; meets = λ M. word-attributes-type-properties-hfa.met };
+  word-attributes-type-properties-mocom = record { says = λ M 𝓤 H A mem run. refl; meets = λ M. word-attributes-type-properties-mocom.met };
+  word-attributes-field-attributes-access = record { says = λ M 𝓤 H A mem run. refl; meets = λ M. word-attributes-field-attributes-access.met };
+  word-attributes-field-attributes-method-properties = record { says = λ M 𝓤 H A mem run. refl; meets = λ M. word-attributes-field-attributes-method-properties.met };
+  word-attributes-field-attributes-is-static = record { says = λ M 𝓤 H A mem run. refl; meets = λ M. word-attributes-field-attributes-is-static.met };
+  word-attributes-field-attributes-is-virtual = record { says = λ M 𝓤 H A mem run. refl; meets = λ M. word-attributes-field-attributes-is-virtual.met };
+  word-attributes-field-attributes-is-pure-virtual = record { says = λ M 𝓤 H A mem run. refl; meets = λ M. word-attributes-field-attributes-is-pure-virtual.met };
+  word-attributes-field-attributes-is-intro-virtual = record { says = λ M 𝓤 H A mem run. refl; meets = λ M. word-attributes-field-attributes-is-intro-virtual.met };
+  word-attributes-function-attributes-calling-convention = record { says = λ M 𝓤 H A mem run. refl; meets = λ M. word-attributes-function-attributes-calling-convention.met };
+  word-attributes-function-attributes-cxx-return-udt = record { says = λ M 𝓤 H A mem run. refl; meets = λ M. word-attributes-function-attributes-cxx-return-udt.met };
+  word-attributes-function-attributes-is-constructor = record { says = λ M 𝓤 H A mem run. refl; meets = λ M. word-attributes-function-attributes-is-constructor.met };
+  word-attributes-function-attributes-is-constructor-with-virtual-bases = record { says = λ M 𝓤 H A mem run. refl; meets = λ M. word-attributes-function-attributes-is-constructor-with-virtual-bases.met };
+  word-attributes-modifier-flags-constant = record { says = λ M 𝓤 H A mem run. refl; meets = λ M. word-attributes-modifier-flags-constant.met };
+  word-attributes-modifier-flags-volatile = record { says = λ M 𝓤 H A mem run. refl; meets = λ M. word-attributes-modifier-flags-volatile.met };
+  word-attributes-modifier-flags-unaligned = record { says = λ M 𝓤 H A mem run. refl; meets = λ M. word-attributes-modifier-flags-unaligned.met };
+  word-attributes-pointer-attributes-pointer-kind = record { says = λ M 𝓤 H A mem run. refl; meets = λ M. word-attributes-pointer-attributes-pointer-kind.met };
+  word-attributes-pointer-attributes-pointer-mode = record { says = λ M 𝓤 H A mem run. refl; meets = λ M. word-attributes-pointer-attributes-pointer-mode.met };
+  word-attributes-pointer-attributes-pointer-to-member = record { says = λ M 𝓤 H A mem run. refl; meets = λ M. word-attributes-pointer-attributes-pointer-to-member.met };
+  word-attributes-pointer-attributes-is-flat-32 = record { says = λ M 𝓤 H A mem run. refl; meets = λ M. word-attributes-pointer-attributes-is-flat-32.met };
+  word-attributes-pointer-attributes-is-volatile = record { says = λ M 𝓤 H A mem run. refl; meets = λ M. word-attributes-pointer-attributes-is-volatile.met };
+  word-attributes-pointer-attributes-is-const = record { says = λ M 𝓤 H A mem run. refl; meets = λ M. word-attributes-pointer-attributes-is-const.met };
+  word-attributes-pointer-attributes-is-unaligned = record { says = λ M 𝓤 H A mem run. refl; meets = λ M. word-attributes-pointer-attributes-is-unaligned.met };
+  word-attributes-pointer-attributes-is-restrict = record { says = λ M 𝓤 H A mem run. refl; meets = λ M. word-attributes-pointer-attributes-is-restrict.met };
+  word-attributes-pointer-attributes-is-reference = record { says = λ M 𝓤 H A mem run. refl; meets = λ M. word-attributes-pointer-attributes-is-reference.met };
+  word-attributes-pointer-attributes-size = record { says = λ M 𝓤 H A mem run. refl; meets = λ M. word-attributes-pointer-attributes-size.met };
+  word-attributes-pointer-attributes-is-mocom = record { says = λ M 𝓤 H A mem run. refl; meets = λ M. word-attributes-pointer-attributes-is-mocom.met };
+  word-primitive-primitive = record { says = λ M 𝓤 H A mem run. refl; meets = λ M. word-primitive-primitive.met };
+  write-fit-half = record { says = λ M 𝓤 H A mem run. refl; meets = λ M. write-fit-half.met };
+  write-fit-word = record { says = λ M 𝓤 H A mem run. refl; meets = λ M. write-fit-word.met };
+  write-fit-natural = record { says = λ M 𝓤 H A mem run. refl; meets = λ M. write-fit-natural.met };
+  write-fit-text = record { says = λ M 𝓤 H A mem run. refl; meets = λ M. write-fit-text.met };
+  write-fit-gap = record { says = λ M 𝓤 H A mem run. refl; meets = λ M. write-fit-gap.met };
+  write-fit-types = record { says = λ M 𝓤 H A mem run. refl; meets = λ M. write-fit-types.met };
+  write-header-write-header = record { says = λ M 𝓤 H A mem run. refl; meets = λ M. write-header-write-header.met };
+  write-id-write-id = record { says = λ M 𝓤 H A mem run. refl; meets = λ M. write-id-write-id.met };
+  write-list-write-field-list = record { says = λ M 𝓤 H A mem run. refl; meets = λ M. write-list-write-field-list.met };
+  write-list-write-method-list = record { says = λ M 𝓤 H A mem run. refl; meets = λ M. write-list-write-method-list.met };
+  write-pieces-held-sum = record { says = λ M 𝓤 H A mem run. refl; meets = λ M. write-pieces-held-sum.met };
+  write-pieces-measured = record { says = λ M 𝓤 H A mem run. refl; meets = λ M. write-pieces-measured.met };
+  write-pieces-write-plain = record { says = λ M 𝓤 H A mem run. refl; meets = λ M. write-pieces-write-plain.met };
+  write-pieces-write-filled = record { says = λ M 𝓤 H A mem run. refl; meets = λ M. write-pieces-write-filled.met };
+  write-pieces-write-record = record { says = λ M 𝓤 H A mem run. refl; meets = λ M. write-pieces-write-record.met };
+  write-row-of-member = record { says = λ M 𝓤 H A mem run. refl; meets = λ M. write-row-of-member.met };
+  write-row-of-method = record { says = λ M 𝓤 H A mem run. refl; meets = λ M. write-row-of-method.met };
+  write-type-write-type = record { says = λ M 𝓤 H A mem run. refl; meets = λ M. write-type-write-type.met };
+}

@@ -1,0 +1,655 @@
+-- Each public function is tied to its contract: the clauses of its source are the definition of Contracts.antt, and its routine meets them. A field
+-- for each, named as that definition. Written by tools/ties.
+use denote.Ref.{now}
+use Rattle.answer.proofs.Refusal.details as answer-refusal-details-source
+use Rattle.answer.proofs.Refusal.details.Symbol as answer-refusal-details-code
+use Rattle.answer.proofs.Refusal.number as answer-refusal-number-source
+use Rattle.answer.proofs.Refusal.number.Symbol as answer-refusal-number-code
+use Rattle.answer_name.proofs.name_of as answer-name-name-of-source
+use Rattle.answer_name.proofs.name_of.Symbol as answer-name-name-of-code
+use Rattle.declare_kind.proofs.kind as declare-kind-kind-source
+use Rattle.declare_kind.proofs.kind.Symbol as declare-kind-kind-code
+use Rattle.declare_kind.proofs.size as declare-kind-size-source
+use Rattle.declare_kind.proofs.size.Symbol as declare-kind-size-code
+use Rattle.declare_node.proofs.index_at as declare-node-index-at-source
+use Rattle.declare_node.proofs.index_at.Symbol as declare-node-index-at-code
+use Rattle.declare_node.proofs.list_of as declare-node-list-of-source
+use Rattle.declare_node.proofs.list_of.Symbol as declare-node-list-of-code
+use Rattle.declare_node.proofs.node_of as declare-node-node-of-source
+use Rattle.declare_node.proofs.node_of.Symbol as declare-node-node-of-code
+use Rattle.declare_piece.proofs.len as declare-piece-len-source
+use Rattle.declare_piece.proofs.len.Symbol as declare-piece-len-code
+use Rattle.declare_piece.proofs.put as declare-piece-put-source
+use Rattle.declare_piece.proofs.put.Symbol as declare-piece-put-code
+use Rattle.declare_step.proofs.start as declare-step-start-source
+use Rattle.declare_step.proofs.start.Symbol as declare-step-start-code
+use Rattle.declare_step.proofs.step_of as declare-step-step-of-source
+use Rattle.declare_step.proofs.step_of.Symbol as declare-step-step-of-code
+use Rattle.declare_type.proofs.declare as declare-type-declare-source
+use Rattle.declare_type.proofs.declare.Symbol as declare-type-declare-code
+use Rattle.declare_walk.proofs.declarator as declare-walk-declarator-source
+use Rattle.declare_walk.proofs.declarator.Symbol as declare-walk-declarator-code
+use Rattle.declare_word.proofs.by as declare-word-by-source
+use Rattle.declare_word.proofs.by.Symbol as declare-word-by-code
+use Rattle.declare_word.proofs.mode as declare-word-mode-source
+use Rattle.declare_word.proofs.mode.Symbol as declare-word-mode-code
+use Rattle.declare_word.proofs.qualifiers as declare-word-qualifiers-source
+use Rattle.declare_word.proofs.qualifiers.Symbol as declare-word-qualifiers-code
+use Rattle.field.proofs.fixed.u16_at as field-fixed-u16-at-source
+use Rattle.field.proofs.fixed.u16_at.Symbol as field-fixed-u16-at-code
+use Rattle.field.proofs.fixed.u32_at as field-fixed-u32-at-source
+use Rattle.field.proofs.fixed.u32_at.Symbol as field-fixed-u32-at-code
+use Rattle.field.proofs.fixed.u64_at as field-fixed-u64-at-source
+use Rattle.field.proofs.fixed.u64_at.Symbol as field-fixed-u64-at-code
+use Rattle.field.proofs.fixed.u8_at as field-fixed-u8-at-source
+use Rattle.field.proofs.fixed.u8_at.Symbol as field-fixed-u8-at-code
+use Rattle.field.proofs.index.IdIndex.is_cross_module as field-index-id-index-is-cross-module-source
+use Rattle.field.proofs.index.IdIndex.is_cross_module.Symbol as field-index-id-index-is-cross-module-code
+use Rattle.field.proofs.index.IdIndex.optional as field-index-id-index-optional-source
+use Rattle.field.proofs.index.IdIndex.optional.Symbol as field-index-id-index-optional-code
+use Rattle.field.proofs.index.ItemIndex.number as field-index-item-index-number-source
+use Rattle.field.proofs.index.ItemIndex.number.Symbol as field-index-item-index-number-code
+use Rattle.field.proofs.index.ItemIndex.stream as field-index-item-index-stream-source
+use Rattle.field.proofs.index.ItemIndex.stream.Symbol as field-index-item-index-stream-code
+use Rattle.field.proofs.index.Stream.index as field-index-stream-index-source
+use Rattle.field.proofs.index.Stream.index.Symbol as field-index-stream-index-code
+use Rattle.field.proofs.index.TypeIndex.is_cross_module as field-index-type-index-is-cross-module-source
+use Rattle.field.proofs.index.TypeIndex.is_cross_module.Symbol as field-index-type-index-is-cross-module-code
+use Rattle.field.proofs.index.TypeIndex.optional as field-index-type-index-optional-source
+use Rattle.field.proofs.index.TypeIndex.optional.Symbol as field-index-type-index-optional-code
+use Rattle.field.proofs.index.id_at as field-index-id-at-source
+use Rattle.field.proofs.index.id_at.Symbol as field-index-id-at-code
+use Rattle.field.proofs.index.optional_id_at as field-index-optional-id-at-source
+use Rattle.field.proofs.index.optional_id_at.Symbol as field-index-optional-id-at-code
+use Rattle.field.proofs.index.optional_type_at as field-index-optional-type-at-source
+use Rattle.field.proofs.index.optional_type_at.Symbol as field-index-optional-type-at-code
+use Rattle.field.proofs.index.string_ref_at as field-index-string-ref-at-source
+use Rattle.field.proofs.index.string_ref_at.Symbol as field-index-string-ref-at-code
+use Rattle.field.proofs.index.type_at as field-index-type-at-source
+use Rattle.field.proofs.index.type_at.Symbol as field-index-type-at-code
+use Rattle.field.proofs.run.after_bytes as field-run-after-bytes-source
+use Rattle.field.proofs.run.after_bytes.Symbol as field-run-after-bytes-code
+use Rattle.field.proofs.run.bytes_at as field-run-bytes-at-source
+use Rattle.field.proofs.run.bytes_at.Symbol as field-run-bytes-at-code
+use Rattle.field_number.proofs.number_at as field-number-number-at-source
+use Rattle.field_number.proofs.number_at.Symbol as field-number-number-at-code
+use Rattle.field_number.proofs.size_at as field-number-size-at-source
+use Rattle.field_number.proofs.size_at.Symbol as field-number-size-at-code
+use Rattle.field_put.proofs.put16 as field-put-put16-source
+use Rattle.field_put.proofs.put16.Symbol as field-put-put16-code
+use Rattle.field_put.proofs.put32 as field-put-put32-source
+use Rattle.field_put.proofs.put32.Symbol as field-put-put32-code
+use Rattle.field_put.proofs.put8 as field-put-put8-source
+use Rattle.field_put.proofs.put8.Symbol as field-put-put8-code
+use Rattle.field_put.proofs.put_all as field-put-put-all-source
+use Rattle.field_put.proofs.put_all.Symbol as field-put-put-all-code
+use Rattle.field_text.proofs.RawString.bytes as field-text-raw-string-bytes-source
+use Rattle.field_text.proofs.RawString.bytes.Symbol as field-text-raw-string-bytes-code
+use Rattle.field_text.proofs.after_padding as field-text-after-padding-source
+use Rattle.field_text.proofs.after_padding.Symbol as field-text-after-padding-code
+use Rattle.field_text.proofs.string_at as field-text-string-at-source
+use Rattle.field_text.proofs.string_at.Symbol as field-text-string-at-code
+use Rattle.field_text.proofs.string_of as field-text-string-of-source
+use Rattle.field_text.proofs.string_of.Symbol as field-text-string-of-code
+use Rattle.pane.proofs.pdb_find as pane-pdb-find-source
+use Rattle.pane.proofs.pdb_find.Symbol as pane-pdb-find-code
+use Rattle.pane.proofs.pdb_header as pane-pdb-header-source
+use Rattle.pane.proofs.pdb_header.Symbol as pane-pdb-header-code
+use Rattle.pane.proofs.pdb_next as pane-pdb-next-source
+use Rattle.pane.proofs.pdb_next.Symbol as pane-pdb-next-code
+use Rattle.pane.proofs.pdb_primitive as pane-pdb-primitive-source
+use Rattle.pane.proofs.pdb_primitive.Symbol as pane-pdb-primitive-code
+use Rattle.pane.proofs.pdb_update as pane-pdb-update-source
+use Rattle.pane.proofs.pdb_update.Symbol as pane-pdb-update-code
+use Rattle.record_data.proofs.TypeData.name as record-data-type-data-name-source
+use Rattle.record_data.proofs.TypeData.name.Symbol as record-data-type-data-name-code
+use Rattle.record_data.proofs.type_data as record-data-type-data-source
+use Rattle.record_data.proofs.type_data.Symbol as record-data-type-data-code
+use Rattle.record_id.proofs.id_data as record-id-id-data-source
+use Rattle.record_id.proofs.id_data.Symbol as record-id-id-data-code
+use Rattle.record_list.proofs.element_from as record-list-element-from-source
+use Rattle.record_list.proofs.element_from.Symbol as record-list-element-from-code
+use Rattle.record_list.proofs.start as record-list-start-source
+use Rattle.record_list.proofs.start.Symbol as record-list-start-code
+use Rattle.record_list.proofs.step as record-list-step-source
+use Rattle.record_list.proofs.step.Symbol as record-list-step-code
+use Rattle.record_member.proofs.Member.name as record-member-member-name-source
+use Rattle.record_member.proofs.Member.name.Symbol as record-member-member-name-code
+use Rattle.record_member.proofs.member_at as record-member-member-at-source
+use Rattle.record_member.proofs.member_at.Symbol as record-member-member-at-code
+use Rattle.record_member.proofs.method_entry_at as record-member-method-entry-at-source
+use Rattle.record_member.proofs.method_entry_at.Symbol as record-member-method-entry-at-code
+use Rattle.record_parse.proofs.parse as record-parse-parse-source
+use Rattle.record_parse.proofs.parse.Symbol as record-parse-parse-code
+use Rattle.record_reader.proofs.ListReader.element as record-reader-list-reader-element-source
+use Rattle.record_reader.proofs.ListReader.element.Symbol as record-reader-list-reader-element-code
+use Rattle.record_reader.proofs.ListReader.new as record-reader-list-reader-new-source
+use Rattle.record_reader.proofs.ListReader.new.Symbol as record-reader-list-reader-new-code
+use Rattle.record_reader.proofs.ListReader.step as record-reader-list-reader-step-source
+use Rattle.record_reader.proofs.ListReader.step.Symbol as record-reader-list-reader-step-code
+use Rattle.record_reader.proofs.nth as record-reader-nth-source
+use Rattle.record_reader.proofs.nth.Symbol as record-reader-nth-code
+use Rattle.record_reader.proofs.step_of as record-reader-step-of-source
+use Rattle.record_reader.proofs.step_of.Symbol as record-reader-step-of-code
+use Rattle.section_finder.proofs.create as section-finder-create-source
+use Rattle.section_finder.proofs.create.Symbol as section-finder-create-code
+use Rattle.section_finder.proofs.create_by as section-finder-create-by-source
+use Rattle.section_finder.proofs.create_by.Symbol as section-finder-create-by-code
+use Rattle.section_finder.proofs.index_all as section-finder-index-all-source
+use Rattle.section_finder.proofs.index_all.Symbol as section-finder-index-all-code
+use Rattle.section_finder.proofs.index_all_by as section-finder-index-all-by-source
+use Rattle.section_finder.proofs.index_all_by.Symbol as section-finder-index-all-by-code
+use Rattle.section_item.proofs.iter as section-item-iter-source
+use Rattle.section_item.proofs.iter.Symbol as section-item-iter-code
+use Rattle.section_item.proofs.len as section-item-len-source
+use Rattle.section_item.proofs.len.Symbol as section-item-len-code
+use Rattle.section_read.proofs.parse as section-read-parse-source
+use Rattle.section_read.proofs.parse.Symbol as section-read-parse-code
+use Rattle.section_read.proofs.start as section-read-start-source
+use Rattle.section_read.proofs.start.Symbol as section-read-start-code
+use Rattle.section_stream.proofs.to_stream as section-stream-to-stream-source
+use Rattle.section_stream.proofs.to_stream.Symbol as section-stream-to-stream-code
+use Rattle.stream_finder.proofs.ItemFinder.max_id_index as stream-finder-item-finder-max-id-index-source
+use Rattle.stream_finder.proofs.ItemFinder.max_id_index.Symbol as stream-finder-item-finder-max-id-index-code
+use Rattle.stream_finder.proofs.ItemFinder.max_type_index as stream-finder-item-finder-max-type-index-source
+use Rattle.stream_finder.proofs.ItemFinder.max_type_index.Symbol as stream-finder-item-finder-max-type-index-code
+use Rattle.stream_finder.proofs.ItemFinder.update as stream-finder-lent-item-finder-update-source
+use Rattle.stream_finder.proofs.ItemFinder.update.Symbol as stream-finder-lent-item-finder-update-code
+use Rattle.stream_finder.proofs.begin as stream-finder-begin-source
+use Rattle.stream_finder.proofs.begin.Symbol as stream-finder-begin-code
+use Rattle.stream_finder.proofs.create as stream-finder-create-source
+use Rattle.stream_finder.proofs.create.Symbol as stream-finder-create-code
+use Rattle.stream_finder.proofs.create_by as stream-finder-create-by-source
+use Rattle.stream_finder.proofs.create_by.Symbol as stream-finder-create-by-code
+use Rattle.stream_finder.proofs.find_id as stream-finder-find-id-source
+use Rattle.stream_finder.proofs.find_id.Symbol as stream-finder-find-id-code
+use Rattle.stream_finder.proofs.find_type as stream-finder-find-type-source
+use Rattle.stream_finder.proofs.find_type.Symbol as stream-finder-find-type-code
+use Rattle.stream_finder.proofs.lent.update_local as stream-finder-lent-update-local-source
+use Rattle.stream_finder.proofs.lent.update_local.Symbol as stream-finder-lent-update-local-code
+use Rattle.stream_finder.proofs.update as stream-finder-update-source
+use Rattle.stream_finder.proofs.update.Symbol as stream-finder-update-code
+use Rattle.stream_header.proofs.Header.count as stream-header-header-count-source
+use Rattle.stream_header.proofs.Header.count.Symbol as stream-header-header-count-code
+use Rattle.stream_header.proofs.Header.parse as stream-header-header-parse-source
+use Rattle.stream_header.proofs.Header.parse.Symbol as stream-header-header-parse-code
+use Rattle.stream_index.proofs.index_all as stream-index-index-all-source
+use Rattle.stream_index.proofs.index_all.Symbol as stream-index-index-all-code
+use Rattle.stream_index.proofs.index_all_by as stream-index-index-all-by-source
+use Rattle.stream_index.proofs.index_all_by.Symbol as stream-index-index-all-by-code
+use Rattle.stream_index.proofs.index_on as stream-index-index-on-source
+use Rattle.stream_index.proofs.index_on.Symbol as stream-index-index-on-code
+use Rattle.stream_index.proofs.turn as stream-index-turn-source
+use Rattle.stream_index.proofs.turn.Symbol as stream-index-turn-code
+use Rattle.stream_item.proofs.Entry.index as stream-item-entry-index-source
+use Rattle.stream_item.proofs.Entry.index.Symbol as stream-item-entry-index-code
+use Rattle.stream_item.proofs.Entry.is_empty as stream-item-entry-is-empty-source
+use Rattle.stream_item.proofs.Entry.is_empty.Symbol as stream-item-entry-is-empty-code
+use Rattle.stream_item.proofs.Entry.len as stream-item-entry-len-source
+use Rattle.stream_item.proofs.Entry.len.Symbol as stream-item-entry-len-code
+use Rattle.stream_item.proofs.information.is_empty as stream-item-information-is-empty-source
+use Rattle.stream_item.proofs.information.is_empty.Symbol as stream-item-information-is-empty-code
+use Rattle.stream_item.proofs.information.len as stream-item-information-len-source
+use Rattle.stream_item.proofs.information.len.Symbol as stream-item-information-len-code
+use Rattle.stream_item.proofs.iter.iter as stream-item-iter-iter-source
+use Rattle.stream_item.proofs.iter.iter.Symbol as stream-item-iter-iter-code
+use Rattle.stream_item.proofs.iter.next as stream-item-iter-next-source
+use Rattle.stream_item.proofs.iter.next.Symbol as stream-item-iter-next-code
+use Rattle.stream_item.proofs.link.link_of as stream-item-link-link-of-source
+use Rattle.stream_item.proofs.link.link_of.Symbol as stream-item-link-link-of-code
+use Rattle.stream_places.proofs.load as stream-places-load-source
+use Rattle.stream_places.proofs.load.Symbol as stream-places-load-code
+use Rattle.stream_places.proofs.save as stream-places-save-source
+use Rattle.stream_places.proofs.save.Symbol as stream-places-save-code
+use Rattle.stream_places.proofs.trailer.Trailer.parse as stream-places-trailer-trailer-parse-source
+use Rattle.stream_places.proofs.trailer.Trailer.parse.Symbol as stream-places-trailer-trailer-parse-code
+use Rattle.stream_view.proofs.bytes_of as stream-view-bytes-of-source
+use Rattle.stream_view.proofs.bytes_of.Symbol as stream-view-bytes-of-code
+use Rattle.stream_view.proofs.raw_kind as stream-view-raw-kind-source
+use Rattle.stream_view.proofs.raw_kind.Symbol as stream-view-raw-kind-code
+use Rattle.stream_view.proofs.view as stream-view-view-source
+use Rattle.stream_view.proofs.view.Symbol as stream-view-view-code
+use Rattle.stream_view.proofs.why as stream-view-why-source
+use Rattle.stream_view.proofs.why.Symbol as stream-view-why-code
+use Rattle.word_attributes.proofs.FieldAttributes.access as word-attributes-field-attributes-access-source
+use Rattle.word_attributes.proofs.FieldAttributes.access.Symbol as word-attributes-field-attributes-access-code
+use Rattle.word_attributes.proofs.FieldAttributes.is_intro_virtual as word-attributes-field-attributes-is-intro-virtual-source
+use Rattle.word_attributes.proofs.FieldAttributes.is_intro_virtual.Symbol as word-attributes-field-attributes-is-intro-virtual-code
+use Rattle.word_attributes.proofs.FieldAttributes.is_pure_virtual as word-attributes-field-attributes-is-pure-virtual-source
+use Rattle.word_attributes.proofs.FieldAttributes.is_pure_virtual.Symbol as word-attributes-field-attributes-is-pure-virtual-code
+use Rattle.word_attributes.proofs.FieldAttributes.is_static as word-attributes-field-attributes-is-static-source
+use Rattle.word_attributes.proofs.FieldAttributes.is_static.Symbol as word-attributes-field-attributes-is-static-code
+use Rattle.word_attributes.proofs.FieldAttributes.is_virtual as word-attributes-field-attributes-is-virtual-source
+use Rattle.word_attributes.proofs.FieldAttributes.is_virtual.Symbol as word-attributes-field-attributes-is-virtual-code
+use Rattle.word_attributes.proofs.FieldAttributes.method_properties as word-attributes-field-attributes-method-properties-source
+use Rattle.word_attributes.proofs.FieldAttributes.method_properties.Symbol as word-attributes-field-attributes-method-properties-code
+use Rattle.word_attributes.proofs.FunctionAttributes.calling_convention as word-attributes-function-attributes-calling-convention-source
+use Rattle.word_attributes.proofs.FunctionAttributes.calling_convention.Symbol as word-attributes-function-attributes-calling-convention-code
+use Rattle.word_attributes.proofs.FunctionAttributes.cxx_return_udt as word-attributes-function-attributes-cxx-return-udt-source
+use Rattle.word_attributes.proofs.FunctionAttributes.cxx_return_udt.Symbol as word-attributes-function-attributes-cxx-return-udt-code
+use Rattle.word_attributes.proofs.FunctionAttributes.is_constructor as word-attributes-function-attributes-is-constructor-source
+use Rattle.word_attributes.proofs.FunctionAttributes.is_constructor.Symbol as word-attributes-function-attributes-is-constructor-code
+use Rattle.word_attributes.proofs.FunctionAttributes.is_constructor_with_virtual_bases as word-attributes-function-attributes-is-constructor-with-virtual-bases-source
+use Rattle.word_attributes.proofs.FunctionAttributes.is_constructor_with_virtual_bases.Symbol as word-attributes-function-attributes-is-constructor-with-virtual-bases-code
+use Rattle.word_attributes.proofs.ModifierFlags.constant as word-attributes-modifier-flags-constant-source
+use Rattle.word_attributes.proofs.ModifierFlags.constant.Symbol as word-attributes-modifier-flags-constant-code
+use Rattle.word_attributes.proofs.ModifierFlags.unaligned as word-attributes-modifier-flags-unaligned-source
+use Rattle.word_attributes.proofs.ModifierFlags.unaligned.Symbol as word-attributes-modifier-flags-unaligned-code
+use Rattle.word_attributes.proofs.ModifierFlags.volatile as word-attributes-modifier-flags-volatile-source
+use Rattle.word_attributes.proofs.ModifierFlags.volatile.Symbol as word-attributes-modifier-flags-volatile-code
+use Rattle.word_attributes.proofs.PointerAttributes.is_const as word-attributes-pointer-attributes-is-const-source
+use Rattle.word_attributes.proofs.PointerAttributes.is_const.Symbol as word-attributes-pointer-attributes-is-const-code
+use Rattle.word_attributes.proofs.PointerAttributes.is_flat_32 as word-attributes-pointer-attributes-is-flat-32-source
+use Rattle.word_attributes.proofs.PointerAttributes.is_flat_32.Symbol as word-attributes-pointer-attributes-is-flat-32-code
+use Rattle.word_attributes.proofs.PointerAttributes.is_mocom as word-attributes-pointer-attributes-is-mocom-source
+use Rattle.word_attributes.proofs.PointerAttributes.is_mocom.Symbol as word-attributes-pointer-attributes-is-mocom-code
+use Rattle.word_attributes.proofs.PointerAttributes.is_reference as word-attributes-pointer-attributes-is-reference-source
+use Rattle.word_attributes.proofs.PointerAttributes.is_reference.Symbol as word-attributes-pointer-attributes-is-reference-code
+use Rattle.word_attributes.proofs.PointerAttributes.is_restrict as word-attributes-pointer-attributes-is-restrict-source
+use Rattle.word_attributes.proofs.PointerAttributes.is_restrict.Symbol as word-attributes-pointer-attributes-is-restrict-code
+use Rattle.word_attributes.proofs.PointerAttributes.is_unaligned as word-attributes-pointer-attributes-is-unaligned-source
+use Rattle.word_attributes.proofs.PointerAttributes.is_unaligned.Symbol as word-attributes-pointer-attributes-is-unaligned-code
+use Rattle.word_attributes.proofs.PointerAttributes.is_volatile as word-attributes-pointer-attributes-is-volatile-source
+use Rattle.word_attributes.proofs.PointerAttributes.is_volatile.Symbol as word-attributes-pointer-attributes-is-volatile-code
+use Rattle.word_attributes.proofs.PointerAttributes.pointer_kind as word-attributes-pointer-attributes-pointer-kind-source
+use Rattle.word_attributes.proofs.PointerAttributes.pointer_kind.Symbol as word-attributes-pointer-attributes-pointer-kind-code
+use Rattle.word_attributes.proofs.PointerAttributes.pointer_mode as word-attributes-pointer-attributes-pointer-mode-source
+use Rattle.word_attributes.proofs.PointerAttributes.pointer_mode.Symbol as word-attributes-pointer-attributes-pointer-mode-code
+use Rattle.word_attributes.proofs.PointerAttributes.pointer_to_member as word-attributes-pointer-attributes-pointer-to-member-source
+use Rattle.word_attributes.proofs.PointerAttributes.pointer_to_member.Symbol as word-attributes-pointer-attributes-pointer-to-member-code
+use Rattle.word_attributes.proofs.PointerAttributes.size as word-attributes-pointer-attributes-size-source
+use Rattle.word_attributes.proofs.PointerAttributes.size.Symbol as word-attributes-pointer-attributes-size-code
+use Rattle.word_attributes.proofs.TypeProperties.constructors as word-attributes-type-properties-constructors-source
+use Rattle.word_attributes.proofs.TypeProperties.constructors.Symbol as word-attributes-type-properties-constructors-code
+use Rattle.word_attributes.proofs.TypeProperties.contains_nested_types as word-attributes-type-properties-contains-nested-types-source
+use Rattle.word_attributes.proofs.TypeProperties.contains_nested_types.Symbol as word-attributes-type-properties-contains-nested-types-code
+use Rattle.word_attributes.proofs.TypeProperties.forward_reference as word-attributes-type-properties-forward-reference-source
+use Rattle.word_attributes.proofs.TypeProperties.forward_reference.Symbol as word-attributes-type-properties-forward-reference-code
+use Rattle.word_attributes.proofs.TypeProperties.has_unique_name as word-attributes-type-properties-has-unique-name-source
+use Rattle.word_attributes.proofs.TypeProperties.has_unique_name.Symbol as word-attributes-type-properties-has-unique-name-code
+use Rattle.word_attributes.proofs.TypeProperties.hfa as word-attributes-type-properties-hfa-source
+use Rattle.word_attributes.proofs.TypeProperties.hfa.Symbol as word-attributes-type-properties-hfa-code
+use Rattle.word_attributes.proofs.TypeProperties.intrinsic_type as word-attributes-type-properties-intrinsic-type-source
+use Rattle.word_attributes.proofs.TypeProperties.intrinsic_type.Symbol as word-attributes-type-properties-intrinsic-type-code
+use Rattle.word_attributes.proofs.TypeProperties.is_nested_type as word-attributes-type-properties-is-nested-type-source
+use Rattle.word_attributes.proofs.TypeProperties.is_nested_type.Symbol as word-attributes-type-properties-is-nested-type-code
+use Rattle.word_attributes.proofs.TypeProperties.mocom as word-attributes-type-properties-mocom-source
+use Rattle.word_attributes.proofs.TypeProperties.mocom.Symbol as word-attributes-type-properties-mocom-code
+use Rattle.word_attributes.proofs.TypeProperties.overloaded_assignment as word-attributes-type-properties-overloaded-assignment-source
+use Rattle.word_attributes.proofs.TypeProperties.overloaded_assignment.Symbol as word-attributes-type-properties-overloaded-assignment-code
+use Rattle.word_attributes.proofs.TypeProperties.overloaded_casting as word-attributes-type-properties-overloaded-casting-source
+use Rattle.word_attributes.proofs.TypeProperties.overloaded_casting.Symbol as word-attributes-type-properties-overloaded-casting-code
+use Rattle.word_attributes.proofs.TypeProperties.overloaded_operators as word-attributes-type-properties-overloaded-operators-source
+use Rattle.word_attributes.proofs.TypeProperties.overloaded_operators.Symbol as word-attributes-type-properties-overloaded-operators-code
+use Rattle.word_attributes.proofs.TypeProperties.packed as word-attributes-type-properties-packed-source
+use Rattle.word_attributes.proofs.TypeProperties.packed.Symbol as word-attributes-type-properties-packed-code
+use Rattle.word_attributes.proofs.TypeProperties.scoped_definition as word-attributes-type-properties-scoped-definition-source
+use Rattle.word_attributes.proofs.TypeProperties.scoped_definition.Symbol as word-attributes-type-properties-scoped-definition-code
+use Rattle.word_attributes.proofs.TypeProperties.sealed as word-attributes-type-properties-sealed-source
+use Rattle.word_attributes.proofs.TypeProperties.sealed.Symbol as word-attributes-type-properties-sealed-code
+use Rattle.word_primitive.proofs.primitive as word-primitive-primitive-source
+use Rattle.word_primitive.proofs.primitive.Symbol as word-primitive-primitive-code
+use Rattle.write_fit.proofs.gap as write-fit-gap-source
+use Rattle.write_fit.proofs.gap.Symbol as write-fit-gap-code
+use Rattle.write_fit.proofs.half as write-fit-half-source
+use Rattle.write_fit.proofs.half.Symbol as write-fit-half-code
+use Rattle.write_fit.proofs.natural as write-fit-natural-source
+use Rattle.write_fit.proofs.natural.Symbol as write-fit-natural-code
+use Rattle.write_fit.proofs.text as write-fit-text-source
+use Rattle.write_fit.proofs.text.Symbol as write-fit-text-code
+use Rattle.write_fit.proofs.types as write-fit-types-source
+use Rattle.write_fit.proofs.types.Symbol as write-fit-types-code
+use Rattle.write_fit.proofs.word as write-fit-word-source
+use Rattle.write_fit.proofs.word.Symbol as write-fit-word-code
+use Rattle.write_header.proofs.write_header as write-header-write-header-source
+use Rattle.write_header.proofs.write_header.Symbol as write-header-write-header-code
+use Rattle.write_id.proofs.write_id as write-id-write-id-source
+use Rattle.write_id.proofs.write_id.Symbol as write-id-write-id-code
+use Rattle.write_list.proofs.write_field_list as write-list-write-field-list-source
+use Rattle.write_list.proofs.write_field_list.Symbol as write-list-write-field-list-code
+use Rattle.write_list.proofs.write_method_list as write-list-write-method-list-source
+use Rattle.write_list.proofs.write_method_list.Symbol as write-list-write-method-list-code
+use Rattle.write_pieces.proofs.held_sum as write-pieces-held-sum-source
+use Rattle.write_pieces.proofs.held_sum.Symbol as write-pieces-held-sum-code
+use Rattle.write_pieces.proofs.measured as write-pieces-measured-source
+use Rattle.write_pieces.proofs.measured.Symbol as write-pieces-measured-code
+use Rattle.write_pieces.proofs.write_filled as write-pieces-write-filled-source
+use Rattle.write_pieces.proofs.write_filled.Symbol as write-pieces-write-filled-code
+use Rattle.write_pieces.proofs.write_plain as write-pieces-write-plain-source
+use Rattle.write_pieces.proofs.write_plain.Symbol as write-pieces-write-plain-code
+use Rattle.write_pieces.proofs.write_record as write-pieces-write-record-source
+use Rattle.write_pieces.proofs.write_record.Symbol as write-pieces-write-record-code
+use Rattle.write_row.proofs.of_member as write-row-of-member-source
+use Rattle.write_row.proofs.of_member.Symbol as write-row-of-member-code
+use Rattle.write_row.proofs.of_method as write-row-of-method-source
+use Rattle.write_row.proofs.of_method.Symbol as write-row-of-method-code
+use Rattle.write_type.proofs.write_type as write-type-write-type-source
+use Rattle.write_type.proofs.write_type.Symbol as write-type-write-type-code
+use Rattle.claim_demands.specs.Tie.{Tie}
+use Rattle.claim_promises.specs.Contracts as contract
+
+pub record Tied : Type 2 where
+  -- answer::Refusal::number
+  pub answer-refusal-number : Tie answer-refusal-number-source.ended (λ M. answer-refusal-number-source.clauses) answer-refusal-number-code.routine (λ κs a r e. contract.answer-refusal-number (a .0) r)
+  -- answer::Refusal::details
+  pub answer-refusal-details : Tie answer-refusal-details-source.ended (λ M. answer-refusal-details-source.clauses) answer-refusal-details-code.routine (λ κs a r e. contract.answer-refusal-details (a .0) r)
+  -- answer_name::name_of
+  pub answer-name-name-of : Tie answer-name-name-of-source.ended (λ M. answer-name-name-of-source.clauses) answer-name-name-of-code.routine (λ κs a r e. contract.answer-name-name-of (a .0) r)
+  -- declare_kind::kind
+  pub declare-kind-kind : Tie declare-kind-kind-source.ended (λ M. declare-kind-kind-source.clauses) declare-kind-kind-code.routine (λ κs a r e. contract.declare-kind-kind (a .0) r)
+  -- declare_kind::size
+  pub declare-kind-size : Tie declare-kind-size-source.ended (λ M. declare-kind-size-source.clauses) declare-kind-size-code.routine (λ κs a r e. contract.declare-kind-size (a .0) (a .1 .0) r)
+  -- declare_node::node_of
+  pub declare-node-node-of : Tie declare-node-node-of-source.ended (λ M. declare-node-node-of-source.clauses) declare-node-node-of-code.routine (λ κs a r e. contract.declare-node-node-of (now (a .0)) (a .1 .0) (now (a .1 .1 .0)) (a .1 .1 .1 .0) r)
+  -- declare_node::list_of
+  pub declare-node-list-of : Tie declare-node-list-of-source.ended (λ M. declare-node-list-of-source.clauses) declare-node-list-of-code.routine (λ κs a r e. contract.declare-node-list-of (now (a .0)) (a .1 .0) (now (a .1 .1 .0)) (a .1 .1 .1 .0) r)
+  -- declare_node::index_at
+  pub declare-node-index-at : Tie declare-node-index-at-source.ended (λ M. declare-node-index-at-source.clauses) declare-node-index-at-code.routine (λ κs a r e. contract.declare-node-index-at (now (a .0)) (a .1 .0) r)
+  -- declare_piece::len
+  pub declare-piece-len : Tie declare-piece-len-source.ended (λ M. declare-piece-len-source.clauses) declare-piece-len-code.routine (λ κs a r e. contract.declare-piece-len (now (a .0)) (a .1 .0) r)
+  -- declare_piece::put
+  pub declare-piece-put : Tie declare-piece-put-source.ended (λ M. declare-piece-put-source.clauses) declare-piece-put-code.routine (λ κs a r e. contract.declare-piece-put (now (a .0)) (a .1 .0) (now (a .1 .1 .0)) (a .1 .1 .1 .0) r (now (e .1 .1 .0)))
+  -- declare_step::start
+  pub declare-step-start : Tie declare-step-start-source.ended (λ M. declare-step-start-source.clauses) declare-step-start-code.routine (λ κs a r e. contract.declare-step-start r)
+  -- declare_step::step_of
+  pub declare-step-step-of : Tie declare-step-step-of-source.ended (λ M. declare-step-step-of-source.clauses) declare-step-step-of-code.routine (λ κs a r e. contract.declare-step-step-of (now (a .0)) (a .1 .0) (now (a .1 .1 .0)) (a .1 .1 .1 .0) (a .1 .1 .1 .1 .0) r)
+  -- declare_type::declare
+  pub declare-type-declare : Tie declare-type-declare-source.ended (λ M. declare-type-declare-source.clauses) declare-type-declare-code.routine (λ κs a r e. contract.declare-type-declare (now (a .0)) (a .1 .0) (now (a .1 .1 .0)) (a .1 .1 .1 .0) (now (a .1 .1 .1 .1 .0)) r (now (e .1 .1 .1 .1 .0)))
+  -- declare_walk::declarator
+  pub declare-walk-declarator : Tie declare-walk-declarator-source.ended (λ M. declare-walk-declarator-source.clauses) declare-walk-declarator-code.routine (λ κs a r e. contract.declare-walk-declarator (now (a .0)) (a .1 .0) (now (a .1 .1 .0)) (a .1 .1 .1 .0) (a .1 .1 .1 .1 .0) (a .1 .1 .1 .1 .1 .0) (a .1 .1 .1 .1 .1 .1 .0) r)
+  -- declare_word::by
+  pub declare-word-by : Tie declare-word-by-source.ended (λ M. declare-word-by-source.clauses) declare-word-by-code.routine (λ κs a r e. contract.declare-word-by (a .0) r)
+  -- declare_word::mode
+  pub declare-word-mode : Tie declare-word-mode-source.ended (λ M. declare-word-mode-source.clauses) declare-word-mode-code.routine (λ κs a r e. contract.declare-word-mode (a .0) r)
+  -- declare_word::qualifiers
+  pub declare-word-qualifiers : Tie declare-word-qualifiers-source.ended (λ M. declare-word-qualifiers-source.clauses) declare-word-qualifiers-code.routine (λ κs a r e. contract.declare-word-qualifiers (a .0) r)
+  -- field::fixed::u8_at
+  pub field-fixed-u8-at : Tie field-fixed-u8-at-source.ended (λ M. field-fixed-u8-at-source.clauses) field-fixed-u8-at-code.routine (λ κs a r e. contract.field-fixed-u8-at (now (a .0)) (a .1 .0) r)
+  -- field::fixed::u16_at
+  pub field-fixed-u16-at : Tie field-fixed-u16-at-source.ended (λ M. field-fixed-u16-at-source.clauses) field-fixed-u16-at-code.routine (λ κs a r e. contract.field-fixed-u16-at (now (a .0)) (a .1 .0) r)
+  -- field::fixed::u32_at
+  pub field-fixed-u32-at : Tie field-fixed-u32-at-source.ended (λ M. field-fixed-u32-at-source.clauses) field-fixed-u32-at-code.routine (λ κs a r e. contract.field-fixed-u32-at (now (a .0)) (a .1 .0) r)
+  -- field::fixed::u64_at
+  pub field-fixed-u64-at : Tie field-fixed-u64-at-source.ended (λ M. field-fixed-u64-at-source.clauses) field-fixed-u64-at-code.routine (λ κs a r e. contract.field-fixed-u64-at (now (a .0)) (a .1 .0) r)
+  -- field::index::Stream::index
+  pub field-index-stream-index : Tie field-index-stream-index-source.ended (λ M. field-index-stream-index-source.clauses) field-index-stream-index-code.routine (λ κs a r e. contract.field-index-stream-index (a .0) (a .1 .0) r)
+  -- field::index::ItemIndex::stream
+  pub field-index-item-index-stream : Tie field-index-item-index-stream-source.ended (λ M. field-index-item-index-stream-source.clauses) field-index-item-index-stream-code.routine (λ κs a r e. contract.field-index-item-index-stream (a .0) r)
+  -- field::index::ItemIndex::number
+  pub field-index-item-index-number : Tie field-index-item-index-number-source.ended (λ M. field-index-item-index-number-source.clauses) field-index-item-index-number-code.routine (λ κs a r e. contract.field-index-item-index-number (a .0) r)
+  -- field::index::TypeIndex::is_cross_module
+  pub field-index-type-index-is-cross-module : Tie field-index-type-index-is-cross-module-source.ended (λ M. field-index-type-index-is-cross-module-source.clauses) field-index-type-index-is-cross-module-code.routine (λ κs a r e. contract.field-index-type-index-is-cross-module (a .0) r)
+  -- field::index::TypeIndex::optional
+  pub field-index-type-index-optional : Tie field-index-type-index-optional-source.ended (λ M. field-index-type-index-optional-source.clauses) field-index-type-index-optional-code.routine (λ κs a r e. contract.field-index-type-index-optional (a .0) r)
+  -- field::index::IdIndex::is_cross_module
+  pub field-index-id-index-is-cross-module : Tie field-index-id-index-is-cross-module-source.ended (λ M. field-index-id-index-is-cross-module-source.clauses) field-index-id-index-is-cross-module-code.routine (λ κs a r e. contract.field-index-id-index-is-cross-module (a .0) r)
+  -- field::index::IdIndex::optional
+  pub field-index-id-index-optional : Tie field-index-id-index-optional-source.ended (λ M. field-index-id-index-optional-source.clauses) field-index-id-index-optional-code.routine (λ κs a r e. contract.field-index-id-index-optional (a .0) r)
+  -- field::index::type_at
+  pub field-index-type-at : Tie field-index-type-at-source.ended (λ M. field-index-type-at-source.clauses) field-index-type-at-code.routine (λ κs a r e. contract.field-index-type-at (now (a .0)) (a .1 .0) r)
+  -- field::index::id_at
+  pub field-index-id-at : Tie field-index-id-at-source.ended (λ M. field-index-id-at-source.clauses) field-index-id-at-code.routine (λ κs a r e. contract.field-index-id-at (now (a .0)) (a .1 .0) r)
+  -- field::index::string_ref_at
+  pub field-index-string-ref-at : Tie field-index-string-ref-at-source.ended (λ M. field-index-string-ref-at-source.clauses) field-index-string-ref-at-code.routine (λ κs a r e. contract.field-index-string-ref-at (now (a .0)) (a .1 .0) r)
+  -- field::index::optional_type_at
+  pub field-index-optional-type-at : Tie field-index-optional-type-at-source.ended (λ M. field-index-optional-type-at-source.clauses) field-index-optional-type-at-code.routine (λ κs a r e. contract.field-index-optional-type-at (now (a .0)) (a .1 .0) r)
+  -- field::index::optional_id_at
+  pub field-index-optional-id-at : Tie field-index-optional-id-at-source.ended (λ M. field-index-optional-id-at-source.clauses) field-index-optional-id-at-code.routine (λ κs a r e. contract.field-index-optional-id-at (now (a .0)) (a .1 .0) r)
+  -- field::run::after_bytes
+  pub field-run-after-bytes : Tie field-run-after-bytes-source.ended (λ M. field-run-after-bytes-source.clauses) field-run-after-bytes-code.routine (λ κs a r e. contract.field-run-after-bytes (now (a .0)) (a .1 .0) (a .1 .1 .0) r)
+  -- field::run::bytes_at
+  pub field-run-bytes-at : Tie field-run-bytes-at-source.ended (λ M. field-run-bytes-at-source.clauses) field-run-bytes-at-code.routine (λ κs a r e. contract.field-run-bytes-at (now (a .0)) (a .1 .0) (a .1 .1 .0) (now r))
+  -- field_number::number_at
+  pub field-number-number-at : Tie field-number-number-at-source.ended (λ M. field-number-number-at-source.clauses) field-number-number-at-code.routine (λ κs a r e. contract.field-number-number-at (now (a .0)) (a .1 .0) r)
+  -- field_number::size_at
+  pub field-number-size-at : Tie field-number-size-at-source.ended (λ M. field-number-size-at-source.clauses) field-number-size-at-code.routine (λ κs a r e. contract.field-number-size-at (now (a .0)) (a .1 .0) r)
+  -- field_put::put8
+  pub field-put-put8 : Tie field-put-put8-source.ended (λ M. field-put-put8-source.clauses) field-put-put8-code.routine (λ κs a r e. contract.field-put-put8 (now (a .0)) (a .1 .0) (a .1 .1 .0) r (now (e .0)))
+  -- field_put::put16
+  pub field-put-put16 : Tie field-put-put16-source.ended (λ M. field-put-put16-source.clauses) field-put-put16-code.routine (λ κs a r e. contract.field-put-put16 (now (a .0)) (a .1 .0) (a .1 .1 .0) r (now (e .0)))
+  -- field_put::put32
+  pub field-put-put32 : Tie field-put-put32-source.ended (λ M. field-put-put32-source.clauses) field-put-put32-code.routine (λ κs a r e. contract.field-put-put32 (now (a .0)) (a .1 .0) (a .1 .1 .0) r (now (e .0)))
+  -- field_put::put_all
+  pub field-put-put-all : Tie field-put-put-all-source.ended (λ M. field-put-put-all-source.clauses) field-put-put-all-code.routine (λ κs a r e. contract.field-put-put-all (now (a .0)) (a .1 .0) (now (a .1 .1 .0)) r (now (e .0)))
+  -- field_text::string_at
+  pub field-text-string-at : Tie field-text-string-at-source.ended (λ M. field-text-string-at-source.clauses) field-text-string-at-code.routine (λ κs a r e. contract.field-text-string-at (now (a .0)) (a .1 .0) r)
+  -- field_text::RawString::bytes
+  pub field-text-raw-string-bytes : Tie field-text-raw-string-bytes-source.ended (λ M. field-text-raw-string-bytes-source.clauses) field-text-raw-string-bytes-code.routine (λ κs a r e. contract.field-text-raw-string-bytes (a .0) (now (a .1 .0)) (now r))
+  -- field_text::string_of
+  pub field-text-string-of : Tie field-text-string-of-source.ended (λ M. field-text-string-of-source.clauses) field-text-string-of-code.routine (λ κs a r e. contract.field-text-string-of (a .0) (now (a .1 .0)) (a .1 .1 .0) r)
+  -- field_text::after_padding
+  pub field-text-after-padding : Tie field-text-after-padding-source.ended (λ M. field-text-after-padding-source.clauses) field-text-after-padding-code.routine (λ κs a r e. contract.field-text-after-padding (now (a .0)) (a .1 .0) r)
+  -- pane::pdb_header
+  pub pane-pdb-header : Tie pane-pdb-header-source.ended (λ M. pane-pdb-header-source.clauses) pane-pdb-header-code.routine (λ κs a r e. contract.pane-pdb-header (now (a .0)) r (now (e .1 .0)))
+  -- pane::pdb_next
+  pub pane-pdb-next : Tie pane-pdb-next-source.ended (λ M. pane-pdb-next-source.clauses) pane-pdb-next-code.routine (λ κs a r e. contract.pane-pdb-next (now (a .0)) (a .1 .0) (a .1 .1 .0) r (now (e .1 .1 .1 .0)))
+  -- pane::pdb_update
+  pub pane-pdb-update : Tie pane-pdb-update-source.ended (λ M. pane-pdb-update-source.clauses) pane-pdb-update-code.routine (λ κs a r e. contract.pane-pdb-update (now (a .0)) (a .1 .0) (a .1 .1 .0) (a .1 .1 .1 .0) (a .1 .1 .1 .1 .0) (a .1 .1 .1 .1 .1 .0) (a .1 .1 .1 .1 .1 .1 .0) r (now (e .0)) (now (e .1 .1 .1 .1 .1 .1 .1 .0)))
+  -- pane::pdb_find
+  pub pane-pdb-find : Tie pane-pdb-find-source.ended (λ M. pane-pdb-find-source.clauses) pane-pdb-find-code.routine (λ κs a r e. contract.pane-pdb-find (now (a .0)) (now (a .1 .0)) (a .1 .1 .0) (a .1 .1 .1 .0) (a .1 .1 .1 .1 .0) (a .1 .1 .1 .1 .1 .0) (a .1 .1 .1 .1 .1 .1 .0) r (now (e .1 .1 .1 .1 .1 .1 .1 .0)))
+  -- pane::pdb_primitive
+  pub pane-pdb-primitive : Tie pane-pdb-primitive-source.ended (λ M. pane-pdb-primitive-source.clauses) pane-pdb-primitive-code.routine (λ κs a r e. contract.pane-pdb-primitive (a .0) r (now (e .1 .0)))
+  -- record_data::TypeData::name
+  pub record-data-type-data-name : Tie record-data-type-data-name-source.ended (λ M. record-data-type-data-name-source.clauses) record-data-type-data-name-code.routine (λ κs a r e. contract.record-data-type-data-name (a .0) r)
+  -- record_data::type_data
+  pub record-data-type-data : Tie record-data-type-data-source.ended (λ M. record-data-type-data-source.clauses) record-data-type-data-code.routine (λ κs a r e. contract.record-data-type-data (now (a .0)) r)
+  -- record_id::id_data
+  pub record-id-id-data : Tie record-id-id-data-source.ended (λ M. record-id-id-data-source.clauses) record-id-id-data-code.routine (λ κs a r e. contract.record-id-id-data (now (a .0)) r)
+  -- record_list::start
+  pub record-list-start : Tie record-list-start-source.ended (λ M. record-list-start-source.clauses) record-list-start-code.routine (λ κs a r e. contract.record-list-start (a .0) (now (a .1 .0)) r)
+  -- record_list::step
+  pub record-list-step : Tie record-list-step-source.ended (λ M. record-list-step-source.clauses) record-list-step-code.routine (λ κs a r e. contract.record-list-step (now (a .0)) (a .1 .0) r)
+  -- record_list::element_from
+  pub record-list-element-from : Tie record-list-element-from-source.ended (λ M. record-list-element-from-source.clauses) record-list-element-from-code.routine (λ κs a r e. contract.record-list-element-from (now (a .0)) (a .1 .0) (a .1 .1 .0) r)
+  -- record_member::Member::name
+  pub record-member-member-name : Tie record-member-member-name-source.ended (λ M. record-member-member-name-source.clauses) record-member-member-name-code.routine (λ κs a r e. contract.record-member-member-name (a .0) r)
+  -- record_member::member_at
+  pub record-member-member-at : Tie record-member-member-at-source.ended (λ M. record-member-member-at-source.clauses) record-member-member-at-code.routine (λ κs a r e. contract.record-member-member-at (now (a .0)) (a .1 .0) r)
+  -- record_member::method_entry_at
+  pub record-member-method-entry-at : Tie record-member-method-entry-at-source.ended (λ M. record-member-method-entry-at-source.clauses) record-member-method-entry-at-code.routine (λ κs a r e. contract.record-member-method-entry-at (now (a .0)) (a .1 .0) r)
+  -- record_parse::parse
+  pub record-parse-parse : Tie record-parse-parse-source.ended (λ M. record-parse-parse-source.clauses) record-parse-parse-code.routine (λ κs a r e. contract.record-parse-parse (now (a .0)) (now (a .1 .0)) (a .1 .1 .0) r)
+  -- record_reader::ListReader::new
+  pub record-reader-list-reader-new : Tie record-reader-list-reader-new-source.ended (λ M. record-reader-list-reader-new-source.clauses) record-reader-list-reader-new-code.routine (λ κs a r e. contract.record-reader-list-reader-new (a .0) (a .1 .0) r)
+  -- record_reader::ListReader::element
+  pub record-reader-list-reader-element : Tie record-reader-list-reader-element-source.ended (λ M. record-reader-list-reader-element-source.clauses) record-reader-list-reader-element-code.routine (λ κs a r e. contract.record-reader-list-reader-element (a .0) (a .1 .0) r)
+  -- record_reader::ListReader::step
+  pub record-reader-list-reader-step : Tie record-reader-list-reader-step-source.ended (λ M. record-reader-list-reader-step-source.clauses) record-reader-list-reader-step-code.routine (λ κs a r e. contract.record-reader-list-reader-step (now (a .0)) r (now (e .0)))
+  -- record_reader::step_of
+  pub record-reader-step-of : Tie record-reader-step-of-source.ended (λ M. record-reader-step-of-source.clauses) record-reader-step-of-code.routine (λ κs a r e. contract.record-reader-step-of (now (a .0)) (a .1 .0) r)
+  -- record_reader::nth
+  pub record-reader-nth : Tie record-reader-nth-source.ended (λ M. record-reader-nth-source.clauses) record-reader-nth-code.routine (λ κs a r e. contract.record-reader-nth (a .0) (now (a .1 .0)) (a .1 .1 .0) r)
+  -- section_finder::create
+  pub section-finder-create : Tie section-finder-create-source.ended (λ M. section-finder-create-source.clauses) section-finder-create-code.routine (λ κs a r e. contract.section-finder-create (now (a .0)) (now (a .1 .0)) r (now (e .1 .0)))
+  -- section_finder::create_by
+  pub section-finder-create-by : Tie section-finder-create-by-source.ended (λ M. section-finder-create-by-source.clauses) section-finder-create-by-code.routine (λ κs a r e. contract.section-finder-create-by (now (a .0)) (now (a .1 .0)) (a .1 .1 .0) r (now (e .1 .0)))
+  -- section_finder::index_all
+  pub section-finder-index-all : Tie section-finder-index-all-source.ended (λ M. section-finder-index-all-source.clauses) section-finder-index-all-code.routine (λ κs a r e. contract.section-finder-index-all (now (a .0)) (now (a .1 .0)) r (now (e .1 .0)))
+  -- section_finder::index_all_by
+  pub section-finder-index-all-by : Tie section-finder-index-all-by-source.ended (λ M. section-finder-index-all-by-source.clauses) section-finder-index-all-by-code.routine (λ κs a r e. contract.section-finder-index-all-by (now (a .0)) (now (a .1 .0)) (a .1 .1 .0) r (now (e .1 .0)))
+  -- section_item::iter
+  pub section-item-iter : Tie section-item-iter-source.ended (λ M. section-item-iter-source.clauses) section-item-iter-code.routine (λ κs a r e. contract.section-item-iter (now (a .0)) r)
+  -- section_item::len
+  pub section-item-len : Tie section-item-len-source.ended (λ M. section-item-len-source.clauses) section-item-len-code.routine (λ κs a r e. contract.section-item-len (now (a .0)) r)
+  -- section_read::parse
+  pub section-read-parse : Tie section-read-parse-source.ended (λ M. section-read-parse-source.clauses) section-read-parse-code.routine (λ κs a r e. contract.section-read-parse (now (a .0)) (a .1 .0) r)
+  -- section_read::start
+  pub section-read-start : Tie section-read-start-source.ended (λ M. section-read-start-source.clauses) section-read-start-code.routine (λ κs a r e. contract.section-read-start (now (a .0)) r)
+  -- section_stream::to_stream
+  pub section-stream-to-stream : Tie section-stream-to-stream-source.ended (λ M. section-stream-to-stream-source.clauses) section-stream-to-stream-code.routine (λ κs a r e. contract.section-stream-to-stream (now (a .0)) (now (a .1 .0)) r (now (e .1 .0)))
+  -- stream_finder::create
+  pub stream-finder-create : Tie stream-finder-create-source.ended (λ M. stream-finder-create-source.clauses) stream-finder-create-code.routine (λ κs a r e. contract.stream-finder-create (now (a .0)) (now (a .1 .0)) r (now (e .1 .0)))
+  -- stream_finder::create_by
+  pub stream-finder-create-by : Tie stream-finder-create-by-source.ended (λ M. stream-finder-create-by-source.clauses) stream-finder-create-by-code.routine (λ κs a r e. contract.stream-finder-create-by (now (a .0)) (now (a .1 .0)) (a .1 .1 .0) r (now (e .1 .0)))
+  -- stream_finder::begin
+  pub stream-finder-begin : Tie stream-finder-begin-source.ended (λ M. stream-finder-begin-source.clauses) stream-finder-begin-code.routine (λ κs a r e. contract.stream-finder-begin (now (a .0)) (a .1 .0) (a .1 .1 .0) r (now (e .0)))
+  -- stream_finder::update
+  pub stream-finder-update : Tie stream-finder-update-source.ended (λ M. stream-finder-update-source.clauses) stream-finder-update-code.routine (λ κs a r e. contract.stream-finder-update (a .0) (now (a .1 .0)) (a .1 .1 .0) r (now (e .1 .0)))
+  -- stream_finder::ItemFinder::max_type_index
+  pub stream-finder-item-finder-max-type-index : Tie stream-finder-item-finder-max-type-index-source.ended (λ M. stream-finder-item-finder-max-type-index-source.clauses) stream-finder-item-finder-max-type-index-code.routine (λ κs a r e. contract.stream-finder-item-finder-max-type-index (a .0) r)
+  -- stream_finder::ItemFinder::max_id_index
+  pub stream-finder-item-finder-max-id-index : Tie stream-finder-item-finder-max-id-index-source.ended (λ M. stream-finder-item-finder-max-id-index-source.clauses) stream-finder-item-finder-max-id-index-code.routine (λ κs a r e. contract.stream-finder-item-finder-max-id-index (a .0) r)
+  -- stream_finder::find_type
+  pub stream-finder-find-type : Tie stream-finder-find-type-source.ended (λ M. stream-finder-find-type-source.clauses) stream-finder-find-type-code.routine (λ κs a r e. contract.stream-finder-find-type (now (a .0)) (a .1 .0) (now (a .1 .1 .0)) (a .1 .1 .1 .0) r)
+  -- stream_finder::find_id
+  pub stream-finder-find-id : Tie stream-finder-find-id-source.ended (λ M. stream-finder-find-id-source.clauses) stream-finder-find-id-code.routine (λ κs a r e. contract.stream-finder-find-id (now (a .0)) (a .1 .0) (now (a .1 .1 .0)) (a .1 .1 .1 .0) r)
+  -- stream_finder::lent::ItemFinder::update
+  pub stream-finder-lent-item-finder-update : Tie stream-finder-lent-item-finder-update-source.ended (λ M. stream-finder-lent-item-finder-update-source.clauses) stream-finder-lent-item-finder-update-code.routine (λ κs a r e. contract.stream-finder-lent-item-finder-update (now (a .0)) (now (a .1 .0)) (a .1 .1 .0) r (now (e .0)) (now (e .1 .0)))
+  -- stream_finder::lent::update_local
+  pub stream-finder-lent-update-local : Tie stream-finder-lent-update-local-source.ended (λ M. stream-finder-lent-update-local-source.clauses) stream-finder-lent-update-local-code.routine (λ κs a r e. contract.stream-finder-lent-update-local (a .0) (now (a .1 .0)) (a .1 .1 .0) r (now (e .1 .0)))
+  -- stream_header::Header::parse
+  pub stream-header-header-parse : Tie stream-header-header-parse-source.ended (λ M. stream-header-header-parse-source.clauses) stream-header-header-parse-code.routine (λ κs a r e. contract.stream-header-header-parse (now (a .0)) r)
+  -- stream_header::Header::count
+  pub stream-header-header-count : Tie stream-header-header-count-source.ended (λ M. stream-header-header-count-source.clauses) stream-header-header-count-code.routine (λ κs a r e. contract.stream-header-header-count (a .0) r)
+  -- stream_index::turn
+  pub stream-index-turn : Tie stream-index-turn-source.ended (λ M. stream-index-turn-source.clauses) stream-index-turn-code.routine (λ κs a r e. contract.stream-index-turn (now (a .0)) (a .1 .0) (now (a .1 .1 .0)) (a .1 .1 .1 .0) r (now (e .1 .1 .0)))
+  -- stream_index::index_on
+  pub stream-index-index-on : Tie stream-index-index-on-source.ended (λ M. stream-index-index-on-source.clauses) stream-index-index-on-code.routine (λ κs a r e. contract.stream-index-index-on (now (a .0)) (a .1 .0) (now (a .1 .1 .0)) (a .1 .1 .1 .0) r (now (e .1 .1 .0)))
+  -- stream_index::index_all
+  pub stream-index-index-all : Tie stream-index-index-all-source.ended (λ M. stream-index-index-all-source.clauses) stream-index-index-all-code.routine (λ κs a r e. contract.stream-index-index-all (a .0) (now (a .1 .0)) (now (a .1 .1 .0)) r (now (e .1 .1 .0)))
+  -- stream_index::index_all_by
+  pub stream-index-index-all-by : Tie stream-index-index-all-by-source.ended (λ M. stream-index-index-all-by-source.clauses) stream-index-index-all-by-code.routine (λ κs a r e. contract.stream-index-index-all-by (a .0) (now (a .1 .0)) (now (a .1 .1 .0)) (a .1 .1 .1 .0) r (now (e .1 .1 .0)))
+  -- stream_item::Entry::index
+  pub stream-item-entry-index : Tie stream-item-entry-index-source.ended (λ M. stream-item-entry-index-source.clauses) stream-item-entry-index-code.routine (λ κs a r e. contract.stream-item-entry-index (a .0) r)
+  -- stream_item::Entry::len
+  pub stream-item-entry-len : Tie stream-item-entry-len-source.ended (λ M. stream-item-entry-len-source.clauses) stream-item-entry-len-code.routine (λ κs a r e. contract.stream-item-entry-len (a .0) r)
+  -- stream_item::Entry::is_empty
+  pub stream-item-entry-is-empty : Tie stream-item-entry-is-empty-source.ended (λ M. stream-item-entry-is-empty-source.clauses) stream-item-entry-is-empty-code.routine (λ κs a r e. contract.stream-item-entry-is-empty (a .0) r)
+  -- stream_item::information::len
+  pub stream-item-information-len : Tie stream-item-information-len-source.ended (λ M. stream-item-information-len-source.clauses) stream-item-information-len-code.routine (λ κs a r e. contract.stream-item-information-len (now (a .0)) r)
+  -- stream_item::information::is_empty
+  pub stream-item-information-is-empty : Tie stream-item-information-is-empty-source.ended (λ M. stream-item-information-is-empty-source.clauses) stream-item-information-is-empty-code.routine (λ κs a r e. contract.stream-item-information-is-empty (now (a .0)) r)
+  -- stream_item::iter::iter
+  pub stream-item-iter-iter : Tie stream-item-iter-iter-source.ended (λ M. stream-item-iter-iter-source.clauses) stream-item-iter-iter-code.routine (λ κs a r e. contract.stream-item-iter-iter (a .0) (now (a .1 .0)) r)
+  -- stream_item::iter::next
+  pub stream-item-iter-next : Tie stream-item-iter-next-source.ended (λ M. stream-item-iter-next-source.clauses) stream-item-iter-next-code.routine (λ κs a r e. contract.stream-item-iter-next (now (a .0)) (a .1 .0) r)
+  -- stream_item::link::link_of
+  pub stream-item-link-link-of : Tie stream-item-link-link-of-source.ended (λ M. stream-item-link-link-of-source.clauses) stream-item-link-link-of-code.routine (λ κs a r e. contract.stream-item-link-link-of (now (a .0)) (a .1 .0) (a .1 .1 .0) r)
+  -- stream_places::load
+  pub stream-places-load : Tie stream-places-load-source.ended (λ M. stream-places-load-source.clauses) stream-places-load-code.routine (λ κs a r e. contract.stream-places-load (now (a .0)) (now (a .1 .0)) (now (a .1 .1 .0)) r (now (e .1 .1 .0)))
+  -- stream_places::save
+  pub stream-places-save : Tie stream-places-save-source.ended (λ M. stream-places-save-source.clauses) stream-places-save-code.routine (λ κs a r e. contract.stream-places-save (now (a .0)) (a .1 .0) (now (a .1 .1 .0)) (now (a .1 .1 .1 .0)) r (now (e .1 .1 .1 .0)))
+  -- stream_places::trailer::Trailer::parse
+  pub stream-places-trailer-trailer-parse : Tie stream-places-trailer-trailer-parse-source.ended (λ M. stream-places-trailer-trailer-parse-source.clauses) stream-places-trailer-trailer-parse-code.routine (λ κs a r e. contract.stream-places-trailer-trailer-parse (now (a .0)) r)
+  -- stream_view::bytes_of
+  pub stream-view-bytes-of : Tie stream-view-bytes-of-source.ended (λ M. stream-view-bytes-of-source.clauses) stream-view-bytes-of-code.routine (λ κs a r e. contract.stream-view-bytes-of (now (a .0)) (now (a .1 .0)) (a .1 .1 .0) (now r))
+  -- stream_view::view
+  pub stream-view-view : Tie stream-view-view-source.ended (λ M. stream-view-view-source.clauses) stream-view-view-code.routine (λ κs a r e. contract.stream-view-view (now (a .0)) (now (a .1 .0)) (a .1 .1 .0) r)
+  -- stream_view::why
+  pub stream-view-why : Tie stream-view-why-source.ended (λ M. stream-view-why-source.clauses) stream-view-why-code.routine (λ κs a r e. contract.stream-view-why (now (a .0)) (now (a .1 .0)) (a .1 .1 .0) r)
+  -- stream_view::raw_kind
+  pub stream-view-raw-kind : Tie stream-view-raw-kind-source.ended (λ M. stream-view-raw-kind-source.clauses) stream-view-raw-kind-code.routine (λ κs a r e. contract.stream-view-raw-kind (now (a .0)) (now (a .1 .0)) (a .1 .1 .0) r)
+  -- word_attributes::TypeProperties::packed
+  pub word-attributes-type-properties-packed : Tie word-attributes-type-properties-packed-source.ended (λ M. word-attributes-type-properties-packed-source.clauses) word-attributes-type-properties-packed-code.routine (λ κs a r e. contract.word-attributes-type-properties-packed (a .0) r)
+  -- word_attributes::TypeProperties::constructors
+  pub word-attributes-type-properties-constructors : Tie word-attributes-type-properties-constructors-source.ended (λ M. word-attributes-type-properties-constructors-source.clauses) word-attributes-type-properties-constructors-code.routine (λ κs a r e. contract.word-attributes-type-properties-constructors (a .0) r)
+  -- word_attributes::TypeProperties::overloaded_operators
+  pub word-attributes-type-properties-overloaded-operators : Tie word-attributes-type-properties-overloaded-operators-source.ended (λ M. word-attributes-type-properties-overloaded-operators-source.clauses) word-attributes-type-properties-overloaded-operators-code.routine (λ κs a r e. contract.word-attributes-type-properties-overloaded-operators (a .0) r)
+  -- word_attributes::TypeProperties::is_nested_type
+  pub word-attributes-type-properties-is-nested-type : Tie word-attributes-type-properties-is-nested-type-source.ended (λ M. word-attributes-type-properties-is-nested-type-source.clauses) word-attributes-type-properties-is-nested-type-code.routine (λ κs a r e. contract.word-attributes-type-properties-is-nested-type (a .0) r)
+  -- word_attributes::TypeProperties::contains_nested_types
+  pub word-attributes-type-properties-contains-nested-types : Tie word-attributes-type-properties-contains-nested-types-source.ended (λ M. word-attributes-type-properties-contains-nested-types-source.clauses) word-attributes-type-properties-contains-nested-types-code.routine (λ κs a r e. contract.word-attributes-type-properties-contains-nested-types (a .0) r)
+  -- word_attributes::TypeProperties::overloaded_assignment
+  pub word-attributes-type-properties-overloaded-assignment : Tie word-attributes-type-properties-overloaded-assignment-source.ended (λ M. word-attributes-type-properties-overloaded-assignment-source.clauses) word-attributes-type-properties-overloaded-assignment-code.routine (λ κs a r e. contract.word-attributes-type-properties-overloaded-assignment (a .0) r)
+  -- word_attributes::TypeProperties::overloaded_casting
+  pub word-attributes-type-properties-overloaded-casting : Tie word-attributes-type-properties-overloaded-casting-source.ended (λ M. word-attributes-type-properties-overloaded-casting-source.clauses) word-attributes-type-properties-overloaded-casting-code.routine (λ κs a r e. contract.word-attributes-type-properties-overloaded-casting (a .0) r)
+  -- word_attributes::TypeProperties::forward_reference
+  pub word-attributes-type-properties-forward-reference : Tie word-attributes-type-properties-forward-reference-source.ended (λ M. word-attributes-type-properties-forward-reference-source.clauses) word-attributes-type-properties-forward-reference-code.routine (λ κs a r e. contract.word-attributes-type-properties-forward-reference (a .0) r)
+  -- word_attributes::TypeProperties::scoped_definition
+  pub word-attributes-type-properties-scoped-definition : Tie word-attributes-type-properties-scoped-definition-source.ended (λ M. word-attributes-type-properties-scoped-definition-source.clauses) word-attributes-type-properties-scoped-definition-code.routine (λ κs a r e. contract.word-attributes-type-properties-scoped-definition (a .0) r)
+  -- word_attributes::TypeProperties::has_unique_name
+  pub word-attributes-type-properties-has-unique-name : Tie word-attributes-type-properties-has-unique-name-source.ended (λ M. word-attributes-type-properties-has-unique-name-source.clauses) word-attributes-type-properties-has-unique-name-code.routine (λ κs a r e. contract.word-attributes-type-properties-has-unique-name (a .0) r)
+  -- word_attributes::TypeProperties::sealed
+  pub word-attributes-type-properties-sealed : Tie word-attributes-type-properties-sealed-source.ended (λ M. word-attributes-type-properties-sealed-source.clauses) word-attributes-type-properties-sealed-code.routine (λ κs a r e. contract.word-attributes-type-properties-sealed (a .0) r)
+  -- word_attributes::TypeProperties::intrinsic_type
+  pub word-attributes-type-properties-intrinsic-type : Tie word-attributes-type-properties-intrinsic-type-source.ended (λ M. word-attributes-type-properties-intrinsic-type-source.clauses) word-attributes-type-properties-intrinsic-type-code.routine (λ κs a r e. contract.word-attributes-type-properties-intrinsic-type (a .0) r)
+  -- word_attributes::TypeProperties::hfa
+  pub word-attributes-type-properties-hfa : Tie word-attributes-type-properties-hfa-source.ended (λ M. word-attributes-type-properties-hfa-source.clauses) word-attributes-type-properties-hfa-code.routine (λ κs a r e. contract.word-attributes-type-properties-hfa (a .0) r)
+  -- word_attributes::TypeProperties::mocom
+  pub word-attributes-type-properties-mocom : Tie word-attributes-type-properties-mocom-source.ended (λ M. word-attributes-type-properties-mocom-source.clauses) word-attributes-type-properties-mocom-code.routine (λ κs a r e. contract.word-attributes-type-properties-mocom (a .0) r)
+  -- word_attributes::FieldAttributes::access
+  pub word-attributes-field-attributes-access : Tie word-attributes-field-attributes-access-source.ended (λ M. word-attributes-field-attributes-access-source.clauses) word-attributes-field-attributes-access-code.routine (λ κs a r e. contract.word-attributes-field-attributes-access (a .0) r)
+  -- word_attributes::FieldAttributes::method_properties
+  pub word-attributes-field-attributes-method-properties : Tie word-attributes-field-attributes-method-properties-source.ended (λ M. word-attributes-field-attributes-method-properties-source.clauses) word-attributes-field-attributes-method-properties-code.routine (λ κs a r e. contract.word-attributes-field-attributes-method-properties (a .0) r)
+  -- word_attributes::FieldAttributes::is_static
+  pub word-attributes-field-attributes-is-static : Tie word-attributes-field-attributes-is-static-source.ended (λ M. word-attributes-field-attributes-is-static-source.clauses) word-attributes-field-attributes-is-static-code.routine (λ κs a r e. contract.word-attributes-field-attributes-is-static (a .0) r)
+  -- word_attributes::FieldAttributes::is_virtual
+  pub word-attributes-field-attributes-is-virtual : Tie word-attributes-field-attributes-is-virtual-source.ended (λ M. word-attributes-field-attributes-is-virtual-source.clauses) word-attributes-field-attributes-is-virtual-code.routine (λ κs a r e. contract.word-attributes-field-attributes-is-virtual (a .0) r)
+  -- word_attributes::FieldAttributes::is_pure_virtual
+  pub word-attributes-field-attributes-is-pure-virtual : Tie word-attributes-field-attributes-is-pure-virtual-source.ended (λ M. word-attributes-field-attributes-is-pure-virtual-source.clauses) word-attributes-field-attributes-is-pure-virtual-code.routine (λ κs a r e. contract.word-attributes-field-attributes-is-pure-virtual (a .0) r)
+  -- word_attributes::FieldAttributes::is_intro_virtual
+  pub word-attributes-field-attributes-is-intro-virtual : Tie word-attributes-field-attributes-is-intro-virtual-source.ended (λ M. word-attributes-field-attributes-is-intro-virtual-source.clauses) word-attributes-field-attributes-is-intro-virtual-code.routine (λ κs a r e. contract.word-attributes-field-attributes-is-intro-virtual (a .0) r)
+  -- word_attributes::FunctionAttributes::calling_convention
+  pub word-attributes-function-attributes-calling-convention : Tie word-attributes-function-attributes-calling-convention-source.ended (λ M. word-attributes-function-attributes-calling-convention-source.clauses) word-attributes-function-attributes-calling-convention-code.routine (λ κs a r e. contract.word-attributes-function-attributes-calling-convention (a .0) r)
+  -- word_attributes::FunctionAttributes::cxx_return_udt
+  pub word-attributes-function-attributes-cxx-return-udt : Tie word-attributes-function-attributes-cxx-return-udt-source.ended (λ M. word-attributes-function-attributes-cxx-return-udt-source.clauses) word-attributes-function-attributes-cxx-return-udt-code.routine (λ κs a r e. contract.word-attributes-function-attributes-cxx-return-udt (a .0) r)
+  -- word_attributes::FunctionAttributes::is_constructor
+  pub word-attributes-function-attributes-is-constructor : Tie word-attributes-function-attributes-is-constructor-source.ended (λ M. word-attributes-function-attributes-is-constructor-source.clauses) word-attributes-function-attributes-is-constructor-code.routine (λ κs a r e. contract.word-attributes-function-attributes-is-constructor (a .0) r)
+  -- word_attributes::FunctionAttributes::is_constructor_with_virtual_bases
+  pub word-attributes-function-attributes-is-constructor-with-virtual-bases : Tie word-attributes-function-attributes-is-constructor-with-virtual-bases-source.ended (λ M. word-attributes-function-attributes-is-constructor-with-virtual-bases-source.clauses) word-attributes-function-attributes-is-constructor-with-virtual-bases-code.routine (λ κs a r e. contract.word-attributes-function-attributes-is-constructor-with-virtual-bases (a .0) r)
+  -- word_attributes::ModifierFlags::constant
+  pub word-attributes-modifier-flags-constant : Tie word-attributes-modifier-flags-constant-source.ended (λ M. word-attributes-modifier-flags-constant-source.clauses) word-attributes-modifier-flags-constant-code.routine (λ κs a r e. contract.word-attributes-modifier-flags-constant (a .0) r)
+  -- word_attributes::ModifierFlags::volatile
+  pub word-attributes-modifier-flags-volatile : Tie word-attributes-modifier-flags-volatile-source.ended (λ M. word-attributes-modifier-flags-volatile-source.clauses) word-attributes-modifier-flags-volatile-code.routine (λ κs a r e. contract.word-attributes-modifier-flags-volatile (a .0) r)
+  -- word_attributes::ModifierFlags::unaligned
+  pub word-attributes-modifier-flags-unaligned : Tie word-attributes-modifier-flags-unaligned-source.ended (λ M. word-attributes-modifier-flags-unaligned-source.clauses) word-attributes-modifier-flags-unaligned-code.routine (λ κs a r e. contract.word-attributes-modifier-flags-unaligned (a .0) r)
+  -- word_attributes::PointerAttributes::pointer_kind
+  pub word-attributes-pointer-attributes-pointer-kind : Tie word-attributes-pointer-attributes-pointer-kind-source.ended (λ M. word-attributes-pointer-attributes-pointer-kind-source.clauses) word-attributes-pointer-attributes-pointer-kind-code.routine (λ κs a r e. contract.word-attributes-pointer-attributes-pointer-kind (a .0) r)
+  -- word_attributes::PointerAttributes::pointer_mode
+  pub word-attributes-pointer-attributes-pointer-mode : Tie word-attributes-pointer-attributes-pointer-mode-source.ended (λ M. word-attributes-pointer-attributes-pointer-mode-source.clauses) word-attributes-pointer-attributes-pointer-mode-code.routine (λ κs a r e. contract.word-attributes-pointer-attributes-pointer-mode (a .0) r)
+  -- word_attributes::PointerAttributes::pointer_to_member
+  pub word-attributes-pointer-attributes-pointer-to-member : Tie word-attributes-pointer-attributes-pointer-to-member-source.ended (λ M. word-attributes-pointer-attributes-pointer-to-member-source.clauses) word-attributes-pointer-attributes-pointer-to-member-code.routine (λ κs a r e. contract.word-attributes-pointer-attributes-pointer-to-member (a .0) r)
+  -- word_attributes::PointerAttributes::is_flat_32
+  pub word-attributes-pointer-attributes-is-flat-32 : Tie word-attributes-pointer-attributes-is-flat-32-source.ended (λ M. word-attributes-pointer-attributes-is-flat-32-source.clauses) word-attributes-pointer-attributes-is-flat-32-code.routine (λ κs a r e. contract.word-attributes-pointer-attributes-is-flat-32 (a .0) r)
+  -- word_attributes::PointerAttributes::is_volatile
+  pub word-attributes-pointer-attributes-is-volatile : Tie word-attributes-pointer-attributes-is-volatile-source.ended (λ M. word-attributes-pointer-attributes-is-volatile-source.clauses) word-attributes-pointer-attributes-is-volatile-code.routine (λ κs a r e. contract.word-attributes-pointer-attributes-is-volatile (a .0) r)
+  -- word_attributes::PointerAttributes::is_const
+  pub word-attributes-pointer-attributes-is-const : Tie word-attributes-pointer-attributes-is-const-source.ended (λ M. word-attributes-pointer-attributes-is-const-source.clauses) word-attributes-pointer-attributes-is-const-code.routine (λ κs a r e. contract.word-attributes-pointer-attributes-is-const (a .0) r)
+  -- word_attributes::PointerAttributes::is_unaligned
+  pub word-attributes-pointer-attributes-is-unaligned : Tie word-attributes-pointer-attributes-is-unaligned-source.ended (λ M. word-attributes-pointer-attributes-is-unaligned-source.clauses) word-attributes-pointer-attributes-is-unaligned-code.routine (λ κs a r e. contract.word-attributes-pointer-attributes-is-unaligned (a .0) r)
+  -- word_attributes::PointerAttributes::is_restrict
+  pub word-attributes-pointer-attributes-is-restrict : Tie word-attributes-pointer-attributes-is-restrict-source.ended (λ M. word-attributes-pointer-attributes-is-restrict-source.clauses) word-attributes-pointer-attributes-is-restrict-code.routine (λ κs a r e. contract.word-attributes-pointer-attributes-is-restrict (a .0) r)
+  -- word_attributes::PointerAttributes::is_reference
+  pub word-attributes-pointer-attributes-is-reference : Tie word-attributes-pointer-attributes-is-reference-source.ended (λ M. word-attributes-pointer-attributes-is-reference-source.clauses) word-attributes-pointer-attributes-is-reference-code.routine (λ κs a r e. contract.word-attributes-pointer-attributes-is-reference (a .0) r)
+  -- word_attributes::PointerAttributes::size
+  pub word-attributes-pointer-attributes-size : Tie word-attributes-pointer-attributes-size-source.ended (λ M. word-attributes-pointer-attributes-size-source.clauses) word-attributes-pointer-attributes-size-code.routine (λ κs a r e. contract.word-attributes-pointer-attributes-size (a .0) r)
+  -- word_attributes::PointerAttributes::is_mocom
+  pub word-attributes-pointer-attributes-is-mocom : Tie word-attributes-pointer-attributes-is-mocom-source.ended (λ M. word-attributes-pointer-attributes-is-mocom-source.clauses) word-attributes-pointer-attributes-is-mocom-code.routine (λ κs a r e. contract.word-attributes-pointer-attributes-is-mocom (a .0) r)
+  -- word_primitive::primitive
+  pub word-primitive-primitive : Tie word-primitive-primitive-source.ended (λ M. word-primitive-primitive-source.clauses) word-primitive-primitive-code.routine (λ κs a r e. contract.word-primitive-primitive (a .0) r)
+  -- write_fit::half
+  pub write-fit-half : Tie write-fit-half-source.ended (λ M. write-fit-half-source.clauses) write-fit-half-code.routine (λ κs a r e. contract.write-fit-half (a .0) r)
+  -- write_fit::word
+  pub write-fit-word : Tie write-fit-word-source.ended (λ M. write-fit-word-source.clauses) write-fit-word-code.routine (λ κs a r e. contract.write-fit-word (a .0) r)
+  -- write_fit::natural
+  pub write-fit-natural : Tie write-fit-natural-source.ended (λ M. write-fit-natural-source.clauses) write-fit-natural-code.routine (λ κs a r e. contract.write-fit-natural (a .0) r)
+  -- write_fit::text
+  pub write-fit-text : Tie write-fit-text-source.ended (λ M. write-fit-text-source.clauses) write-fit-text-code.routine (λ κs a r e. contract.write-fit-text (a .0) r)
+  -- write_fit::gap
+  pub write-fit-gap : Tie write-fit-gap-source.ended (λ M. write-fit-gap-source.clauses) write-fit-gap-code.routine (λ κs a r e. contract.write-fit-gap r)
+  -- write_fit::types
+  pub write-fit-types : Tie write-fit-types-source.ended (λ M. write-fit-types-source.clauses) write-fit-types-code.routine (λ κs a r e. contract.write-fit-types (a .0) (a .1 .0) r)
+  -- write_header::write_header
+  pub write-header-write-header : Tie write-header-write-header-source.ended (λ M. write-header-write-header-source.clauses) write-header-write-header-code.routine (λ κs a r e. contract.write-header-write-header (a .0) (now (a .1 .0)) (a .1 .1 .0) r (now (e .1 .0)))
+  -- write_id::write_id
+  pub write-id-write-id : Tie write-id-write-id-source.ended (λ M. write-id-write-id-source.clauses) write-id-write-id-code.routine (λ κs a r e. contract.write-id-write-id (now (a .0)) (a .1 .0) (now (a .1 .1 .0)) (a .1 .1 .1 .0) r (now (e .1 .1 .0)))
+  -- write_list::write_field_list
+  pub write-list-write-field-list : Tie write-list-write-field-list-source.ended (λ M. write-list-write-field-list-source.clauses) write-list-write-field-list-code.routine (λ κs a r e. contract.write-list-write-field-list (now (a .0)) (now (a .1 .0)) (now (a .1 .1 .0)) (a .1 .1 .1 .0) r (now (e .1 .1 .0)))
+  -- write_list::write_method_list
+  pub write-list-write-method-list : Tie write-list-write-method-list-source.ended (λ M. write-list-write-method-list-source.clauses) write-list-write-method-list-code.routine (λ κs a r e. contract.write-list-write-method-list (now (a .0)) (now (a .1 .0)) (now (a .1 .1 .0)) (a .1 .1 .1 .0) r (now (e .1 .1 .0)))
+  -- write_pieces::held_sum
+  pub write-pieces-held-sum : Tie write-pieces-held-sum-source.ended (λ M. write-pieces-held-sum-source.clauses) write-pieces-held-sum-code.routine (λ κs a r e. contract.write-pieces-held-sum (a .0) (a .1 .0) r)
+  -- write_pieces::measured
+  pub write-pieces-measured : Tie write-pieces-measured-source.ended (λ M. write-pieces-measured-source.clauses) write-pieces-measured-code.routine (λ κs a r e. contract.write-pieces-measured (now (a .0)) (a .1 .0) r)
+  -- write_pieces::write_plain
+  pub write-pieces-write-plain : Tie write-pieces-write-plain-source.ended (λ M. write-pieces-write-plain-source.clauses) write-pieces-write-plain-code.routine (λ κs a r e. contract.write-pieces-write-plain (now (a .0)) (a .1 .0) (now (a .1 .1 .0)) (a .1 .1 .1 .0) r (now (e .1 .1 .0)))
+  -- write_pieces::write_filled
+  pub write-pieces-write-filled : Tie write-pieces-write-filled-source.ended (λ M. write-pieces-write-filled-source.clauses) write-pieces-write-filled-code.routine (λ κs a r e. contract.write-pieces-write-filled (now (a .0)) (a .1 .0) (now (a .1 .1 .0)) (a .1 .1 .1 .0) r (now (e .1 .1 .0)))
+  -- write_pieces::write_record
+  pub write-pieces-write-record : Tie write-pieces-write-record-source.ended (λ M. write-pieces-write-record-source.clauses) write-pieces-write-record-code.routine (λ κs a r e. contract.write-pieces-write-record (now (a .0)) (a .1 .0) (now (a .1 .1 .0)) (a .1 .1 .1 .0) r (now (e .1 .1 .0)))
+  -- write_row::of_member
+  pub write-row-of-member : Tie write-row-of-member-source.ended (λ M. write-row-of-member-source.clauses) write-row-of-member-code.routine (λ κs a r e. contract.write-row-of-member (a .0) r)
+  -- write_row::of_method
+  pub write-row-of-method : Tie write-row-of-method-source.ended (λ M. write-row-of-method-source.clauses) write-row-of-method-code.routine (λ κs a r e. contract.write-row-of-method (a .0) r)
+  -- write_type::write_type
+  pub write-type-write-type : Tie write-type-write-type-source.ended (λ M. write-type-write-type-source.clauses) write-type-write-type-code.routine (λ κs a r e. contract.write-type-write-type (now (a .0)) (a .1 .0) (now (a .1 .1 .0)) (a .1 .1 .1 .0) r (now (e .1 .1 .0)))
