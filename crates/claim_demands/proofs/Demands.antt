@@ -25,6 +25,7 @@ use Rattle.claim_promises.proofs.SectionsProof.{sections-refuse, sections-when}
 use Rattle.claim_promises.proofs.DeclareRefuses.{declare-when}
 use Rattle.claim_promises.proofs.Digits.{lengths-shown}
 use Rattle.claim_promises.proofs.Examples.{examples-hold}
+use Rattle.claim_promises.proofs.Answers.{answers}
 use Rattle.claim_promises.proofs.OneOutcome.{one-outcome}
 use Rattle.claim_demands.proofs.Tied.{tied}
 use Rattle.claim_demands.specs.Demands.{Demands}
@@ -67,6 +68,7 @@ demands = record {
   sections = sections-refuse;
   given-sections = sections-when;
   shown = examples-hold;
+  answered = answers;
   tied = tied;
   one = one-outcome;
 }

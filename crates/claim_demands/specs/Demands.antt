@@ -29,6 +29,7 @@ use Rattle.claim_promises.specs.Sections.{SectionsRefuse, SectionsWhen}
 use Rattle.claim_promises.specs.DeclareWhen.{DeclareWhen}
 use Rattle.claim_promises.specs.Digits.{LengthsShown}
 use Rattle.claim_promises.specs.Examples.{examples, asked, given as answers}
+use Rattle.claim_promises.specs.Answers.{Answers}
 use Rattle.claim_promises.specs.OneOutcome.{OneOutcome}
 use Rattle.claim_demands.specs.Tied.{Tied}
 
@@ -103,6 +104,8 @@ pub record Demands : Type 2 where
   pub given-sections : SectionsWhen
   -- "P marks those proved, together as one statement over their list": Examples.antt
   pub shown : map asked examples ≡ map answers examples
+  -- what is proved of a definition, here and above, is so of what a function answers by its contract: Answers.antt
+  pub answered : Answers
   -- every public function meets its contract, and the contract is a definition that the theorems name: Tied.antt, over crates/claim_promises/specs/Contracts.antt
   pub tied : Tied
   -- "For each, show that the contract admits one outcome": OneOutcome.antt

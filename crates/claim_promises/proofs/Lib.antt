@@ -17,4 +17,5 @@ pub mod Written
 pub mod Idle
 pub mod Examples
 pub mod OneOutcome
+pub mod Answers
 pub mod SectionsProof
