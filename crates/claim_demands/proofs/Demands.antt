@@ -18,6 +18,7 @@ use Rattle.section_stream.proofs.MadeProof.{stream-made}
 use Rattle.pane.proofs.TallyProof.{tally-holds}
 use Rattle.pane.proofs.SameProof.{same}
 use Rattle.claim_promises.proofs.Demand1.{demand1}
+use Rattle.claim_promises.proofs.RefusedBy.{each-refused-by}
 use Rattle.claim_promises.proofs.ExactlyWhen.{exactly-when}
 use Rattle.claim_promises.proofs.PlacesWhen.{places-when}
 use Rattle.claim_promises.proofs.WritesWhen.{writes-when}
@@ -33,6 +34,7 @@ use Rattle.claim_demands.specs.Demands.{Demands}
 pub demands : Demands
 demands = record {
   first = demand1;
+  refused-by = each-refused-by;
   given = exactly-when;
   second = demand2;
   third = demand3;

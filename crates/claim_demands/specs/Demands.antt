@@ -22,6 +22,7 @@ use Rattle.section_stream.specs.Made.{StreamMade}
 use Rattle.pane.specs.Tally.{Tally}
 use Rattle.pane.specs.Same.{Same}
 use Rattle.claim_promises.specs.Demand1.{Demand1}
+use Rattle.claim_promises.specs.RefusedBy.{EachRefusedBy}
 use Rattle.claim_promises.specs.ExactlyWhen.{ExactlyWhen}
 use Rattle.claim_promises.specs.PlacesWhen.{PlacesWhen}
 use Rattle.claim_promises.specs.WritesWhen.{WritesWhen}
@@ -37,6 +38,8 @@ pub record Demands : Type 2 where
   -- "Every byte string and every number is answered or refused by document 01's table. A refusal gives nothing but its number and named detail,
   -- and all lent memory stays unchanged." Demand1.antt
   pub first : Demand1
+  -- the same of the contracts, function by function: RefusedBy.antt
+  pub refused-by : EachRefusedBy
   -- the table's column "Given exactly when": each number is given just then. ExactlyWhen.antt
   pub given : ExactlyWhen
   -- "Header, iteration, finding, ids, primitives and attribute words equal the crate's on the domain in 01": crates/claim_model/specs/Demand2.antt.
@@ -106,7 +109,7 @@ pub record Demands : Type 2 where
   pub shown : map asked examples ≡ map answers examples
   -- what is proved of a definition, here and above, is so of what a function answers by its contract: Answers.antt
   pub answered : Answers
-  -- every public function meets its contract, and the contract is a definition that the theorems name: Tied.antt, over crates/claim_promises/specs/Contracts.antt
+  -- every public function meets its contract, and the contract is a definition that the theorems name: Tied.antt beside this file, over Contracts.antt
   pub tied : Tied
   -- "For each, show that the contract admits one outcome": OneOutcome.antt
   pub one : OneOutcome

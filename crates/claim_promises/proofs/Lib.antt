@@ -18,4 +18,5 @@ pub mod Idle
 pub mod Examples
 pub mod OneOutcome
 pub mod Answers
+pub mod RefusedBy
 pub mod SectionsProof

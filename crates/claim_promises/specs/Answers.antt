@@ -6,6 +6,7 @@ use denote.Ref.{now}
 use lib.Dec.{eqb, leb}
 use lib.ListN.{length}
 use mathlib.Core.List.{List}
+use mathlib.Core.Path.{_≡_}
 use Rattle.declare_type.specs.Declares.{Declares, declareOf}
 use Rattle.declare_type.specs.declared.DeclareAnswer.{DeclareAnswer}
 use Rattle.field.specs.Fields.{fixedAt, said16, said32, said64, said8}
@@ -16,6 +17,7 @@ use Rattle.field.specs.declared.index.Stream.{Stream}
 use Rattle.field.specs.declared.index.TypeIndex.{TypeIndex}
 use Rattle.field_number.specs.Forms.{numeralAt, saidSize as saidSize-of-field-number, saidVariant, sizedAt}
 use Rattle.field_text.specs.Texts.{paddingAfter, saidString, stringAt, stringOf}
+use Rattle.pane.specs.Out.{cursorAt, finderAt, outFind, outHeader, outNext, outPrimitive, outUpdate, typeAt}
 use Rattle.record_data.specs.Said.{saidTypeData, typeValues}
 use Rattle.record_data.specs.declared.TypeData.{TypeData}
 use Rattle.record_id.specs.Said.{idValues, saidIdData}
@@ -24,6 +26,7 @@ use Rattle.record_layout.specs.Fields.{readFields}
 use Rattle.record_layout.specs.Layouts.{idLeaves, memberLeaves, method, readRecord, recordOf, typeLeaves}
 use Rattle.record_list.specs.Lists.{elementBy, elementOf, startOf as startOf-of-record-list, stepOf as stepOf-of-record-list}
 use Rattle.record_list.specs.Said.{saidElement, saidStart, saidStep}
+use Rattle.record_list.specs.declared.ElementAnswer.{ElementAnswer}
 use Rattle.record_list.specs.declared.ListCursor.{ListCursor}
 use Rattle.record_member.specs.Said.{saidEntry, saidMember}
 use Rattle.record_parse.specs.Record.{parseOf, saidParse}
@@ -34,11 +37,13 @@ use Rattle.section_finder.specs.Finders.{IndexesBy as IndexesBy-of-section-find
 use Rattle.section_item.specs.Sections.{countOf, startOf as startOf-of-section-item}
 use Rattle.section_read.specs.Readers.{readOf, readerAt}
 use Rattle.section_stream.specs.Streams.{streamOf}
-use Rattle.stream_finder.specs.Finder.{Fills, createBy as createBy-of-stream-finder, createOf as createOf-of-stream-finder, findOf, maxIndexOf, saidFind, state, updateOf}
+use Rattle.stream_finder.specs.Finder.{Fills, begunIn, createBy as createBy-of-stream-finder, createOf as createOf-of-stream-finder, findOf, maxIndexOf, saidFind, state, updateOf}
 use Rattle.stream_finder.specs.Lent.{Updates}
 use Rattle.stream_finder.specs.declared.FinderAnswer.{FinderAnswer}
 use Rattle.stream_finder.specs.declared.ItemFinder.{ItemFinder}
+use Rattle.stream_finder.specs.declared.Run.{Run}
 use Rattle.stream_finder.specs.declared.lent.UpdateAnswer.{UpdateAnswer}
+use Rattle.stream_finder.specs.declared.lent.UpdateStep.{UpdateStep}
 use Rattle.stream_header.specs.Header.{headerOf, saidHeader}
 use Rattle.stream_header.specs.declared.Header.{Header}
 use Rattle.stream_index.specs.Walk.{IndexesBy as IndexesBy-of-stream-index, Leads, Walks, turnOf}
@@ -80,7 +85,7 @@ use Rattle.claim_promises.specs.Contracts as contract
 abbrev pub Says : {R A : Type 0} → (R → Type 0) → (R → A) → A → Type 1
 Says {R = R} {A = A} C said a = (Q : A → Type 0) → Q a → (r : R) → C r → Q (said r)
 
--- Where memory is lent, the contract is the relation that demand 1's fields `..-keeps` name.
+-- Where memory is lent, the contract is the relation that demand 1's fields `..-keeps` name; of an export, the equation of what is handed out.
 pub record Answers : Type 1 where
   -- fields, strings, padding and numbers at a place; primitives; indices
   pub field-fixed-u8-at : (s : List ℕ) (p : ℕ) → Says (contract.field-fixed-u8-at s p) said8 (fixedAt 1 s p)
@@ -104,15 +109,18 @@ pub record Answers : Type 1 where
   -- streams: header, count, iterator, items; the finder, by value and lent; places that are kept
   pub stream-finder-create : (s : List ℕ) (t : List ℕ) (r : FinderAnswer) (t′ : List ℕ) → contract.stream-finder-create s t r t′ → Fills t (createOf-of-stream-finder s t) r t′
   pub stream-finder-create-by : (s : List ℕ) (t : List ℕ) (shift : ℕ) (r : FinderAnswer) (t′ : List ℕ) → contract.stream-finder-create-by s t shift r t′ → Fills t (createBy-of-stream-finder shift s t) r t′
+  pub stream-finder-begin : (t : List ℕ) (records : Run) (shift : ℕ) (r : FinderAnswer) (t′ : List ℕ) → contract.stream-finder-begin t records shift r t′ → Fills t (begunIn shift t records) r t′
   pub stream-finder-update : (f : ItemFinder) (t : List ℕ) (c : ItemIter) (r : FinderAnswer) (t′ : List ℕ) → contract.stream-finder-update f t c r t′ → Fills t (updateOf (state f t) c) r t′
   pub stream-finder-item-finder-max-type-index : (self : ItemFinder) → Says (contract.stream-finder-item-finder-max-type-index self) (λ r. r .0) (maxIndexOf self)
   pub stream-finder-item-finder-max-id-index : (self : ItemFinder) → Says (contract.stream-finder-item-finder-max-id-index self) (λ r. r .0) (maxIndexOf self)
   pub stream-finder-find-type : (s : List ℕ) (f : ItemFinder) (t : List ℕ) (i : TypeIndex) → Says (contract.stream-finder-find-type s f t i) saidFind (findOf s (state f t) (item-index.Types i))
   pub stream-finder-find-id : (s : List ℕ) (f : ItemFinder) (t : List ℕ) (i : IdIndex) → Says (contract.stream-finder-find-id s f t i) saidFind (findOf s (state f t) (item-index.Ids i))
   pub stream-finder-lent-item-finder-update : (self : ItemFinder) (t : List ℕ) (c : ItemIter) (r : UpdateAnswer) (self′ : ItemFinder) (t′ : List ℕ) → contract.stream-finder-lent-item-finder-update self t c r self′ t′ → Updates (state self t) c r (state self′ t′)
+  pub stream-finder-lent-update-local : (f : ItemFinder) (t : List ℕ) (c : ItemIter) (u : UpdateStep) (t′ : List ℕ) → contract.stream-finder-lent-update-local f t c u t′ → Updates (state f t) c (u .answer) (state (u .finder) t′)
   pub stream-header-header-parse : (s : List ℕ) → Says (contract.stream-header-header-parse s) saidHeader (headerOf s)
   pub stream-index-turn : (s : List ℕ) (f : ItemFinder) (t : List ℕ) (c : ItemIter) (r : TurnAnswer) (t′ : List ℕ) → contract.stream-index-turn s f t c r t′ → Leads t (turnOf s (state f t) c) r t′
   pub stream-index-index-on : (s : List ℕ) (f : ItemFinder) (t : List ℕ) (c : ItemIter) (r : Tour) (t′ : List ℕ) → contract.stream-index-index-on s f t c r t′ → Walks s c (state f t) r t′
+  pub stream-index-index-all : (stream : Stream) (s : List ℕ) (t : List ℕ) (r : IndexAnswer) (t′ : List ℕ) → contract.stream-index-index-all stream s t r t′ → IndexesBy-of-stream-index 3 stream s t r t′
   pub stream-index-index-all-by : (stream : Stream) (s : List ℕ) (t : List ℕ) (shift : ℕ) (r : IndexAnswer) (t′ : List ℕ) → contract.stream-index-index-all-by stream s t shift r t′ → IndexesBy-of-stream-index shift stream s t r t′
   pub stream-item-entry-index : (self : Entry) → Says (contract.stream-item-entry-index self) (λ r. r) (indexOf self)
   pub stream-item-entry-len : (self : Entry) → Says (contract.stream-item-entry-len self) (λ r. r) (lengthOf self)
@@ -139,11 +147,13 @@ pub record Answers : Type 1 where
   pub record-member-method-entry-at : (s : List ℕ) (p : ℕ) → Says (contract.record-member-method-entry-at s p) saidEntry (readFields method 0 s p)
   pub record-parse-parse : (tpi : List ℕ) (ipi : List ℕ) (entry : Entry) → Says (contract.record-parse-parse tpi ipi entry) saidParse (parseOf tpi ipi entry)
   pub record-reader-list-reader-element : (self : ListReader) (k : ℕ) → Says (contract.record-reader-list-reader-element self k) saidElement (elementBy (stepOf-of-record-list (now (self .bytes))) k (self .cursor))
+  pub record-reader-list-reader-step : (self : ListReader) (r : ElementAnswer) (self′ : ListReader) → contract.record-reader-list-reader-step self r self′ → Steps (self .cursor) (stepOf-of-record-list (now (self .bytes)) (self .cursor)) r (self′ .cursor)
   pub record-reader-step-of : (bytes : List ℕ) (cursor : ListCursor) (u : Stepped) → contract.record-reader-step-of bytes cursor u → Steps cursor (stepOf-of-record-list bytes cursor) (u .answer) (u .cursor)
   pub record-reader-nth : (stream : Stream) (s : List ℕ) (k : ℕ) → Says (contract.record-reader-nth stream s k) saidElement (elementOf stream s k)
   -- sections of object files
   pub section-finder-create : (s : List ℕ) (t : List ℕ) (r : FinderAnswer) (t′ : List ℕ) → contract.section-finder-create s t r t′ → Fills t (createOf-of-section-finder s t) r t′
   pub section-finder-create-by : (s : List ℕ) (t : List ℕ) (shift : ℕ) (r : FinderAnswer) (t′ : List ℕ) → contract.section-finder-create-by s t shift r t′ → Fills t (createBy-of-section-finder shift s t) r t′
+  pub section-finder-index-all : (s : List ℕ) (t : List ℕ) (r : IndexAnswer) (t′ : List ℕ) → contract.section-finder-index-all s t r t′ → IndexesBy-of-section-finder 3 s t r t′
   pub section-finder-index-all-by : (s : List ℕ) (t : List ℕ) (shift : ℕ) (r : IndexAnswer) (t′ : List ℕ) → contract.section-finder-index-all-by s t shift r t′ → IndexesBy-of-section-finder shift s t r t′
   pub section-item-iter : (s : List ℕ) → Says (contract.section-item-iter s) saidIter (startOf-of-section-item s)
   pub section-item-len : (s : List ℕ) → Says (contract.section-item-len s) saidLen (countOf s)
@@ -160,6 +170,12 @@ pub record Answers : Type 1 where
   pub write-pieces-write-filled : (text : List ℕ) (xs : List Piece-of-write-pieces) (out : List ℕ) (at : ℕ) (r : WriteAnswer) (out′ : List ℕ) → contract.write-pieces-write-filled text xs out at r out′ → Writes out (lay (limited (filledEach (piecesOf text xs))) out at) (saidWrite r) out′
   pub write-pieces-write-record : (text : List ℕ) (xs : List Piece-of-write-pieces) (out : List ℕ) (at : ℕ) (r : WriteAnswer) (out′ : List ℕ) → contract.write-pieces-write-record text xs out at r out′ → Writes out (lay (recordBytes (piecesOf text xs)) out at) (saidWrite r) out′
   pub write-type-write-type : (text : List ℕ) (d : TypeData) (out : List ℕ) (at : ℕ) (r : WriteAnswer) (out′ : List ℕ) → contract.write-type-write-type text d out at r out′ → Writes out (lay (writeRecord typeLeaves (givenAll text (typeValues d))) out at) (saidWrite r) out′
+  -- the five exports for C
+  pub pane-pdb-header : (s : List ℕ) (r : ℕ) (out′ : List ℕ) → contract.pane-pdb-header s r out′ → (r, out′) ≡ outHeader (headerOf s)
+  pub pane-pdb-next : (s : List ℕ) (at : ℕ) (index : ℕ) (r : ℕ) (out′ : List ℕ) → contract.pane-pdb-next s at index r out′ → (r, out′) ≡ outNext (nextOf s (cursorAt at index))
+  pub pane-pdb-update : (table : List ℕ) (minimum : ℕ) (maximum : ℕ) (held : ℕ) (shift : ℕ) (at : ℕ) (index : ℕ) (r : ℕ) (table′ : List ℕ) (out′ : List ℕ) → contract.pane-pdb-update table minimum maximum held shift at index r table′ out′ → (r, out′, table′) ≡ outUpdate table (updateOf (finderAt minimum maximum held shift table) (cursorAt at index))
+  pub pane-pdb-find : (s : List ℕ) (table : List ℕ) (minimum : ℕ) (maximum : ℕ) (held : ℕ) (shift : ℕ) (index : ℕ) (r : ℕ) (out′ : List ℕ) → contract.pane-pdb-find s table minimum maximum held shift index r out′ → (r, out′) ≡ outFind (findOf s (finderAt minimum maximum held shift table) (typeAt index))
+  pub pane-pdb-primitive : (index : ℕ) (r : ℕ) (out′ : List ℕ) → contract.pane-pdb-primitive index r out′ → (r, out′) ≡ outPrimitive index (primitiveOf index)
   -- attribute words: the crate's own methods
   pub word-attributes-type-properties-packed : (self : TypeProperties) → Says (contract.word-attributes-type-properties-packed self) (λ r. r) (crate.packed (self .0))
   pub word-attributes-type-properties-constructors : (self : TypeProperties) → Says (contract.word-attributes-type-properties-constructors self) (λ r. r) (crate.constructors (self .0))
