@@ -6,7 +6,7 @@ use mathlib.Core.Path.{_≡_, sym, ap, subst, _∙_}
 use Rattle.claim_model.proofs.Demand2.{demand2}
 use Rattle.claim_promises.specs.Answers.{Answers}
 
-along : {A : Type 0} {x y : A} (Q : A → Type 0) → x ≡ y → Q y → Q x
+pub along : {A : Type 0} {x y : A} (Q : A → Type 0) → x ≡ y → Q y → Q x
 along Q e q = subst Q (sym e) q
 
 -- element k of a list of flags

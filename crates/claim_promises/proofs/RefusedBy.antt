@@ -1,14 +1,49 @@
--- Demand 1 of the contracts: what Demand1 says of each definition, by the one step of Answers. Assumes nothing.
-use mathlib.Core.List.{[], _∷_}
+-- Demand 1 of the contracts: what Demand1 says of each definition, by the one step of Answers. Where memory is lent, an answer says a part of what the
+-- definition does, and its refusals. Assumes nothing.
+use Prim.Native.Nat.{ℕ}
+use mathlib.Core.List.{List, [], _∷_}
+use Rattle.answer.specs.Answer.{Answer, answered, refused}
+use Rattle.stream_finder.specs.Finder.{State, finderOf}
+use Rattle.stream_finder.specs.Lent.{outcome}
+use Rattle.stream_places.specs.Places.{sizeIn}
+use Rattle.record_list.specs.Lists.{Step}
+use Rattle.record_reader.specs.Reader.{elementIn}
+use Rattle.write_layout.specs.Buffer.{Written, placeAfter}
 use Rattle.field.specs.Indices.{noId, noType}
+use Rattle.record_data.specs.Said.{typeValues}
+use Rattle.record_id.specs.Said.{idValues}
+use Rattle.record_layout.specs.Layouts.{idLeaves, typeLeaves}
 use Rattle.stream_finder.specs.Finder.{state}
+use Rattle.write_layout.specs.Fields.{givenAll}
+use Rattle.write_row.specs.Rows.{memberRows, methodRows}
 use denote.Ref.{now}
+use lib.ListN.{length}
 use Rattle.field.specs.declared.index.ItemIndex.the-variants as item-index
-use Rattle.claim_promises.specs.ByTable.{Refuses, FindRefuses}
+use Rattle.claim_promises.specs.ByTable.{Refuses, FindRefuses, gives, refuses}
 use Rattle.claim_promises.specs.RefusedBy.{EachRefusedBy}
 use Rattle.claim_promises.proofs.Demand1.{demand1}
 use Rattle.claim_promises.proofs.SectionsProof.{sections-refuse}
-use Rattle.claim_promises.proofs.Answers.{answers}
+use Rattle.claim_promises.proofs.Answers.{along, answers}
+
+of-finder : {ns : List ℕ} {a : Answer State} → Refuses ns a → Refuses ns (finderOf a)
+of-finder gives = gives
+of-finder (refuses e) = refuses e
+
+of-outcome : {ns : List ℕ} {a : Answer State} → Refuses ns a → Refuses ns (outcome a)
+of-outcome gives = gives
+of-outcome (refuses e) = refuses e
+
+of-size : {ns : List ℕ} {a : Answer (List ℕ)} → Refuses ns a → Refuses ns (sizeIn a)
+of-size gives = gives
+of-size (refuses e) = refuses e
+
+of-element : {ns : List ℕ} {a : Answer Step} → Refuses ns a → Refuses ns (elementIn a)
+of-element gives = gives
+of-element (refuses e) = refuses e
+
+of-place : {ns : List ℕ} {a : Answer Written} → Refuses ns a → Refuses ns (placeAfter a)
+of-place gives = gives
+of-place (refuses e) = refuses e
 
 pub each-refused-by : EachRefusedBy
 each-refused-by = record {
@@ -58,4 +93,25 @@ each-refused-by = record {
   word-primitive-primitive = λ index. answers .word-primitive-primitive index (Refuses (8 ∷ [])) (demand1 .primitives (index .0));
   stream-finder-find-type = λ s f t i. answers .stream-finder-find-type s f t i (FindRefuses (16 ∷ 26 ∷ 13 ∷ 8 ∷ 9 ∷ 1 ∷ [])) (demand1 .finds s (state f t) (item-index.Types i));
   stream-finder-find-id = λ s f t i. answers .stream-finder-find-id s f t i (FindRefuses (16 ∷ 26 ∷ 13 ∷ 8 ∷ 9 ∷ 1 ∷ [])) (demand1 .finds s (state f t) (item-index.Ids i));
+  stream-finder-create = λ s t r t′ it. along (Refuses (16 ∷ 1 ∷ 2 ∷ 3 ∷ 4 ∷ 5 ∷ 13 ∷ [])) (it .answer) (of-finder (demand1 .creations s t));
+  stream-finder-create-by = λ s t shift r t′ it. along (Refuses (16 ∷ 1 ∷ 2 ∷ 3 ∷ 4 ∷ 5 ∷ 26 ∷ 13 ∷ [])) (it .answer) (of-finder (demand1 .creations-by shift s t));
+  stream-finder-update = λ f t c r t′ it. along (Refuses (16 ∷ 26 ∷ 13 ∷ 14 ∷ [])) (it .answer) (of-finder (demand1 .updates (state f t) c));
+  stream-finder-lent-item-finder-update = λ self t c r self′ t′ it. along (Refuses (16 ∷ 26 ∷ 13 ∷ 14 ∷ [])) (it .answer) (of-outcome (demand1 .updates (state self t) c));
+  stream-finder-lent-update-local = λ f t c u t′ it. along (Refuses (16 ∷ 26 ∷ 13 ∷ 14 ∷ [])) (it .answer) (of-outcome (demand1 .updates (state f t) c));
+  stream-index-turn = λ s f t c r t′ it. along (Refuses (16 ∷ 1 ∷ 6 ∷ 7 ∷ 26 ∷ 13 ∷ 14 ∷ [])) (it .answer) (demand1 .turns s (state f t) c);
+  stream-places-load = λ s f t r t′ it. along (Refuses (16 ∷ 1 ∷ 2 ∷ 3 ∷ 4 ∷ 5 ∷ 20 ∷ 21 ∷ 13 ∷ 22 ∷ [])) (it .answer) (of-finder (demand1 .loads s f t));
+  stream-places-save = λ s f t out r out′ it. along (Refuses (16 ∷ 1 ∷ 2 ∷ 3 ∷ 4 ∷ 5 ∷ 21 ∷ 26 ∷ 13 ∷ 19 ∷ [])) (it .answer) (of-size (demand1 .saves s (state f t) (length out)));
+  record-reader-list-reader-step = λ self r self′ it. along (Refuses (15 ∷ 1 ∷ 10 ∷ 11 ∷ [])) (it .0 .answer) (of-element (demand1 .steps (now (self .bytes)) (self .cursor)));
+  record-reader-step-of = λ bytes cursor u it. along (Refuses (15 ∷ 1 ∷ 10 ∷ 11 ∷ [])) (it .answer) (of-element (demand1 .steps bytes cursor));
+  section-finder-create = λ s t r t′ it. along (Refuses (16 ∷ 1 ∷ 25 ∷ 6 ∷ 7 ∷ 26 ∷ 13 ∷ [])) (it .answer) (of-finder (sections-refuse .creations 3 s t));
+  section-finder-create-by = λ s t shift r t′ it. along (Refuses (16 ∷ 1 ∷ 25 ∷ 6 ∷ 7 ∷ 26 ∷ 13 ∷ [])) (it .answer) (of-finder (sections-refuse .creations shift s t));
+  section-stream-to-stream = λ s out r out′ it. along (Refuses (16 ∷ 1 ∷ 25 ∷ 6 ∷ 7 ∷ 19 ∷ [])) (it .answer) (of-place (sections-refuse .streams s out));
+  write-header-write-header = λ h out at r out′ it. along (Refuses (2 ∷ 3 ∷ 4 ∷ 5 ∷ 19 ∷ [])) (it .answer) (of-place (demand1 .headers-written h out at));
+  write-type-write-type = λ text d out at r out′ it. along (Refuses (17 ∷ 18 ∷ 19 ∷ [])) (it .answer) (of-place (demand1 .records-written typeLeaves (givenAll text (typeValues d)) out at));
+  write-id-write-id = λ text d out at r out′ it. along (Refuses (17 ∷ 18 ∷ 19 ∷ [])) (it .answer) (of-place (demand1 .records-written idLeaves (givenAll text (idValues d)) out at));
+  write-list-write-field-list = λ text rows out at r out′ it. along (Refuses (17 ∷ 18 ∷ 19 ∷ [])) (it .answer) (of-place (demand1 .field-lists-written (memberRows text rows) out at));
+  write-list-write-method-list = λ text rows out at r out′ it. along (Refuses (17 ∷ 18 ∷ 19 ∷ [])) (it .answer) (of-place (demand1 .method-lists-written (methodRows text rows) out at));
+  write-pieces-write-plain = λ text xs out at r out′ it. along (Refuses (17 ∷ 18 ∷ 19 ∷ [])) (it .answer) (of-place (demand1 .pieces-written text xs out at));
+  write-pieces-write-filled = λ text xs out at r out′ it. along (Refuses (17 ∷ 18 ∷ 19 ∷ [])) (it .answer) (of-place (demand1 .pieces-filled text xs out at));
+  write-pieces-write-record = λ text xs out at r out′ it. along (Refuses (17 ∷ 18 ∷ 19 ∷ [])) (it .answer) (of-place (demand1 .pieces-recorded text xs out at));
 }

@@ -1,6 +1,5 @@
 -- Demand 1, said of the contracts: by which of document 01's numbers each public function may refuse, whatever the input. Demand1.antt says it of the
--- definitions, and of functions that are lent memory; here it is of every answer that the contract of a function without lent memory admits. Not written
--- by a tool.
+-- definitions; here it is of every answer that a function's contract admits. Not written by a tool.
 use Prim.Native.Nat.{ℕ}
 use mathlib.Core.List.{List, [], _∷_}
 use Rattle.field.specs.Fields.{said16, said32, said64, said8}
@@ -12,24 +11,40 @@ use Rattle.field.specs.declared.index.TypeIndex.{TypeIndex}
 use Rattle.field_number.specs.Forms.{saidSize as saidSize-of-field-number, saidVariant}
 use Rattle.field_text.specs.Texts.{saidString}
 use Rattle.record_data.specs.Said.{saidTypeData}
+use Rattle.record_data.specs.declared.TypeData.{TypeData}
 use Rattle.record_id.specs.Said.{saidIdData}
+use Rattle.record_id.specs.declared.IdData.{IdData}
 use Rattle.record_list.specs.Said.{saidElement, saidStart, saidStep}
+use Rattle.record_list.specs.declared.ElementAnswer.{ElementAnswer}
 use Rattle.record_list.specs.declared.ListCursor.{ListCursor}
 use Rattle.record_member.specs.Said.{saidEntry, saidMember}
 use Rattle.record_parse.specs.Record.{saidParse}
 use Rattle.record_reader.specs.declared.ListReader.{ListReader}
-use Rattle.stream_finder.specs.Finder.{saidFind}
+use Rattle.record_reader.specs.declared.Stepped.{Stepped}
+use Rattle.stream_finder.specs.Finder.{saidFind, saidFinder}
+use Rattle.stream_finder.specs.Lent.{saidUpdate}
+use Rattle.stream_finder.specs.declared.FinderAnswer.{FinderAnswer}
 use Rattle.stream_finder.specs.declared.ItemFinder.{ItemFinder}
+use Rattle.stream_finder.specs.declared.lent.UpdateAnswer.{UpdateAnswer}
+use Rattle.stream_finder.specs.declared.lent.UpdateStep.{UpdateStep}
 use Rattle.stream_header.specs.Header.{saidHeader}
+use Rattle.stream_header.specs.declared.Header.{Header}
+use Rattle.stream_index.specs.Walk.{saidTurn}
+use Rattle.stream_index.specs.declared.TurnAnswer.{TurnAnswer}
 use Rattle.stream_item.specs.Information.{saidEmpty, saidLen}
 use Rattle.stream_item.specs.Iterator.{saidIter, saidNext}
 use Rattle.stream_item.specs.declared.Entry.{Entry}
 use Rattle.stream_item.specs.declared.iter.ItemIter.{ItemIter}
 use Rattle.stream_places.specs.File.{saidTrailer}
+use Rattle.stream_places.specs.Places.{saidSave}
+use Rattle.stream_places.specs.declared.SaveAnswer.{SaveAnswer}
 use Rattle.stream_view.specs.Views.{saidRawKind, saidView}
 use Rattle.word_attributes.specs.Said.{saidFlag, saidKind, saidMode, saidSize as saidSize-of-word-attributes}
 use Rattle.word_attributes.specs.declared.PointerAttributes.{PointerAttributes}
 use Rattle.word_primitive.specs.Primitive.{saidPrimitive}
+use Rattle.write_pieces.specs.Pieces.{saidWrite}
+use Rattle.write_pieces.specs.declared.Piece.{Piece as Piece-of-write-pieces}
+use Rattle.write_pieces.specs.declared.WriteAnswer.{WriteAnswer}
 use Rattle.answer.specs.Answer.{Answer}
 use Rattle.claim_promises.specs.ByTable.{Refuses, FindRefuses}
 use Rattle.claim_promises.specs.Contracts as contract
@@ -89,3 +104,26 @@ pub record EachRefusedBy : Type 0 where
   pub word-primitive-primitive : (index : TypeIndex) → RefusedBy (8 ∷ []) (contract.word-primitive-primitive index) saidPrimitive
   pub stream-finder-find-type : (s : List ℕ) (f : ItemFinder) (t : List ℕ) (i : TypeIndex) → FindRefusedBy (16 ∷ 26 ∷ 13 ∷ 8 ∷ 9 ∷ 1 ∷ []) (contract.stream-finder-find-type s f t i) saidFind
   pub stream-finder-find-id : (s : List ℕ) (f : ItemFinder) (t : List ℕ) (i : IdIndex) → FindRefusedBy (16 ∷ 26 ∷ 13 ∷ 8 ∷ 9 ∷ 1 ∷ []) (contract.stream-finder-find-id s f t i) saidFind
+  -- ---- where memory is lent
+
+  pub stream-finder-create : (s : List ℕ) (t : List ℕ) (r : FinderAnswer) (t′ : List ℕ) → contract.stream-finder-create s t r t′ → Refuses (16 ∷ 1 ∷ 2 ∷ 3 ∷ 4 ∷ 5 ∷ 13 ∷ []) (saidFinder r)
+  pub stream-finder-create-by : (s : List ℕ) (t : List ℕ) (shift : ℕ) (r : FinderAnswer) (t′ : List ℕ) → contract.stream-finder-create-by s t shift r t′ → Refuses (16 ∷ 1 ∷ 2 ∷ 3 ∷ 4 ∷ 5 ∷ 26 ∷ 13 ∷ []) (saidFinder r)
+  pub stream-finder-update : (f : ItemFinder) (t : List ℕ) (c : ItemIter) (r : FinderAnswer) (t′ : List ℕ) → contract.stream-finder-update f t c r t′ → Refuses (16 ∷ 26 ∷ 13 ∷ 14 ∷ []) (saidFinder r)
+  pub stream-finder-lent-item-finder-update : (self : ItemFinder) (t : List ℕ) (c : ItemIter) (r : UpdateAnswer) (self′ : ItemFinder) (t′ : List ℕ) → contract.stream-finder-lent-item-finder-update self t c r self′ t′ → Refuses (16 ∷ 26 ∷ 13 ∷ 14 ∷ []) (saidUpdate r)
+  pub stream-finder-lent-update-local : (f : ItemFinder) (t : List ℕ) (c : ItemIter) (u : UpdateStep) (t′ : List ℕ) → contract.stream-finder-lent-update-local f t c u t′ → Refuses (16 ∷ 26 ∷ 13 ∷ 14 ∷ []) (saidUpdate (u .answer))
+  pub stream-index-turn : (s : List ℕ) (f : ItemFinder) (t : List ℕ) (c : ItemIter) (r : TurnAnswer) (t′ : List ℕ) → contract.stream-index-turn s f t c r t′ → Refuses (16 ∷ 1 ∷ 6 ∷ 7 ∷ 26 ∷ 13 ∷ 14 ∷ []) (saidTurn r t′)
+  pub stream-places-load : (s : List ℕ) (f : List ℕ) (t : List ℕ) (r : FinderAnswer) (t′ : List ℕ) → contract.stream-places-load s f t r t′ → Refuses (16 ∷ 1 ∷ 2 ∷ 3 ∷ 4 ∷ 5 ∷ 20 ∷ 21 ∷ 13 ∷ 22 ∷ []) (saidFinder r)
+  pub stream-places-save : (s : List ℕ) (f : ItemFinder) (t : List ℕ) (out : List ℕ) (r : SaveAnswer) (out′ : List ℕ) → contract.stream-places-save s f t out r out′ → Refuses (16 ∷ 1 ∷ 2 ∷ 3 ∷ 4 ∷ 5 ∷ 21 ∷ 26 ∷ 13 ∷ 19 ∷ []) (saidSave r)
+  pub record-reader-list-reader-step : (self : ListReader) (r : ElementAnswer) (self′ : ListReader) → contract.record-reader-list-reader-step self r self′ → Refuses (15 ∷ 1 ∷ 10 ∷ 11 ∷ []) (saidElement r)
+  pub record-reader-step-of : (bytes : List ℕ) (cursor : ListCursor) (u : Stepped) → contract.record-reader-step-of bytes cursor u → Refuses (15 ∷ 1 ∷ 10 ∷ 11 ∷ []) (saidElement (u .answer))
+  pub section-finder-create : (s : List ℕ) (t : List ℕ) (r : FinderAnswer) (t′ : List ℕ) → contract.section-finder-create s t r t′ → Refuses (16 ∷ 1 ∷ 25 ∷ 6 ∷ 7 ∷ 26 ∷ 13 ∷ []) (saidFinder r)
+  pub section-finder-create-by : (s : List ℕ) (t : List ℕ) (shift : ℕ) (r : FinderAnswer) (t′ : List ℕ) → contract.section-finder-create-by s t shift r t′ → Refuses (16 ∷ 1 ∷ 25 ∷ 6 ∷ 7 ∷ 26 ∷ 13 ∷ []) (saidFinder r)
+  pub section-stream-to-stream : (s : List ℕ) (out : List ℕ) (r : WriteAnswer) (out′ : List ℕ) → contract.section-stream-to-stream s out r out′ → Refuses (16 ∷ 1 ∷ 25 ∷ 6 ∷ 7 ∷ 19 ∷ []) (saidWrite r)
+  pub write-header-write-header : (h : Header) (out : List ℕ) (at : ℕ) (r : WriteAnswer) (out′ : List ℕ) → contract.write-header-write-header h out at r out′ → Refuses (2 ∷ 3 ∷ 4 ∷ 5 ∷ 19 ∷ []) (saidWrite r)
+  pub write-type-write-type : (text : List ℕ) (d : TypeData) (out : List ℕ) (at : ℕ) (r : WriteAnswer) (out′ : List ℕ) → contract.write-type-write-type text d out at r out′ → Refuses (17 ∷ 18 ∷ 19 ∷ []) (saidWrite r)
+  pub write-id-write-id : (text : List ℕ) (d : IdData) (out : List ℕ) (at : ℕ) (r : WriteAnswer) (out′ : List ℕ) → contract.write-id-write-id text d out at r out′ → Refuses (17 ∷ 18 ∷ 19 ∷ []) (saidWrite r)
+  pub write-list-write-field-list : (text : List ℕ) (rows : List (List ℕ)) (out : List ℕ) (at : ℕ) (r : WriteAnswer) (out′ : List ℕ) → contract.write-list-write-field-list text rows out at r out′ → Refuses (17 ∷ 18 ∷ 19 ∷ []) (saidWrite r)
+  pub write-list-write-method-list : (text : List ℕ) (rows : List (List ℕ)) (out : List ℕ) (at : ℕ) (r : WriteAnswer) (out′ : List ℕ) → contract.write-list-write-method-list text rows out at r out′ → Refuses (17 ∷ 18 ∷ 19 ∷ []) (saidWrite r)
+  pub write-pieces-write-plain : (text : List ℕ) (xs : List Piece-of-write-pieces) (out : List ℕ) (at : ℕ) (r : WriteAnswer) (out′ : List ℕ) → contract.write-pieces-write-plain text xs out at r out′ → Refuses (17 ∷ 18 ∷ 19 ∷ []) (saidWrite r)
+  pub write-pieces-write-filled : (text : List ℕ) (xs : List Piece-of-write-pieces) (out : List ℕ) (at : ℕ) (r : WriteAnswer) (out′ : List ℕ) → contract.write-pieces-write-filled text xs out at r out′ → Refuses (17 ∷ 18 ∷ 19 ∷ []) (saidWrite r)
+  pub write-pieces-write-record : (text : List ℕ) (xs : List Piece-of-write-pieces) (out : List ℕ) (at : ℕ) (r : WriteAnswer) (out′ : List ℕ) → contract.write-pieces-write-record text xs out at r out′ → Refuses (17 ∷ 18 ∷ 19 ∷ []) (saidWrite r)
