@@ -15,7 +15,7 @@ use Rattle.field.specs.Fields.{littleAt}
 use Rattle.field_put.specs.Bytes.{bytes, Octets}
 use Rattle.field_put.proofs.PutLaws.{length-bytes}
 use Rattle.field_put.proofs.BackLaws.{head-at, tail-at, after-at, little-back, little-after, bytes-back}
-use Rattle.stream_places.specs.File.{letters, wordBytes, trailerBytes, wordsAt, trailerAt, spells}
+use Rattle.stream_places.specs.File.{Form, trailerSize, wordBytes, trailerBytes, wordsAt, trailerAt, spells}
 use Rattle.stream_places.specs.declared.trailer.Trailer.{Trailer}
 use Rattle.stream_places.proofs.FileLaws.{length-word-bytes}
 
@@ -73,8 +73,8 @@ letters-again (b ∷ bs) f p l e =
 -- ---- the trailer
 
 -- each field fits
-pub record Narrow (k : Trailer) : Type 0 where
-  pub count : k .count < 65536
+pub record Fits (F : Form) (k : Trailer) : Type 0 where
+  pub count : k .count < 256 ^ F .width
   pub shift : k .shift < 256
   pub minimum : k .«minimum_index» < 4294967296
   pub maximum : k .«maximum_index» < 4294967296
@@ -82,75 +82,76 @@ pub record Narrow (k : Trailer) : Type 0 where
   pub start : k .«header_size» < 4294967296
   pub distance : k .distance < 4294967296
 
-pub record Back (f : List ℕ) (p : ℕ) (k : Trailer) : Type 0 where
-  pub fields : trailerAt f p ≡ k
-  pub zero-byte : littleAt 1 f (p + 3) ≡ 0
-  pub ends-in : spells f (p + 24) letters ≡ true
+pub record Back (F : Form) (f : List ℕ) (p : ℕ) (k : Trailer) : Type 0 where
+  pub fields : trailerAt F f p ≡ k
+  pub zero-byte : littleAt 1 f (p + F .width + 1) ≡ 0
+  pub ends-in : spells f (p + F .width + 22) (F .letters) ≡ true
 
 abbrev numbersOf : Trailer → List ℕ
 numbersOf k = k .«minimum_index» ∷ k .«maximum_index» ∷ k .«stream_length» ∷ k .«header_size» ∷ k .distance ∷ []
 
-narrow-numbers : (k : Trailer) → Narrow k → (i : ℕ) → i < 5 → getD (numbersOf k) i 0 < 4294967296
-narrow-numbers k n zero l = n .minimum
-narrow-numbers k n (suc zero) l = n .maximum
-narrow-numbers k n (suc (suc zero)) l = n .bytes-are
-narrow-numbers k n (suc (suc (suc zero))) l = n .start
-narrow-numbers k n (suc (suc (suc (suc zero)))) l = n .distance
-narrow-numbers k n (suc (suc (suc (suc (suc i))))) l = absurd (omega arith)
+fit-numbers : (F : Form) (k : Trailer) → Fits F k → (i : ℕ) → i < 5 → getD (numbersOf k) i 0 < 4294967296
+fit-numbers F k n zero l = n .minimum
+fit-numbers F k n (suc zero) l = n .maximum
+fit-numbers F k n (suc (suc zero)) l = n .bytes-are
+fit-numbers F k n (suc (suc (suc zero))) l = n .start
+fit-numbers F k n (suc (suc (suc (suc zero)))) l = n .distance
+fit-numbers F k n (suc (suc (suc (suc (suc i))))) l = absurd (omega arith)
 
-pub trailer-back : (f : List ℕ) (p : ℕ) (k : Trailer) → Narrow k → drop p f ≡ trailerBytes k → Back f p k
+pub trailer-back : (F : Form) (f : List ℕ) (p : ℕ) (k : Trailer) → Fits F k → drop p f ≡ trailerBytes F k → Back F f p k
 unfolding trailerBytes trailerAt
-trailer-back f p k n e =
-    let e₁ = little-after 2 (k .count) f p _ e in
-    let e₂ = little-after 1 (k .shift) f (p + 2) _ e₁ in
-    let e₃ = little-after 1 0 f (p + 2 + 1) _ e₂ in
-    let q : p + 2 + 1 + 1 ≡ p + 4 = omega arith in
-    let e₄ : drop (p + 4) f ≡ wordBytes (numbersOf k) ++ letters = ap (λ (x : ℕ). drop x f) (sym q) ∙ e₃ in
-    let w : wordsAt 5 f (p + 4) ≡ numbersOf k = words-back (numbersOf k) f (p + 4) letters (narrow-numbers k n) e₄ in
-    let at : (i x : ℕ) → i < 5 → p + 4 + 4 * i ≡ x → littleAt 4 f x ≡ getD (numbersOf k) i 0 =
-    λ i x l g. ap (littleAt 4 f) (sym g) ∙ sym (words-get 5 f (p + 4) i l) ∙ ap (λ (ws : List ℕ). getD ws i 0) w in
-    let three : p + 2 + 1 ≡ p + 3 = omega arith in
-    let last : p + 4 + 4 * 5 ≡ p + 24 = omega arith in
+trailer-back F f p k n e =
+    let q : ℕ = p + F .width in
+    let e₁ = little-after (F .width) (k .count) f p _ e in
+    let e₂ = little-after 1 (k .shift) f q _ e₁ in
+    let e₃ = little-after 1 0 f (q + 1) _ e₂ in
+    let two : q + 1 + 1 ≡ q + 2 = omega arith in
+    let e₄ : drop (q + 2) f ≡ wordBytes (numbersOf k) ++ F .letters = ap (λ (x : ℕ). drop x f) (sym two) ∙ e₃ in
+    let w : wordsAt 5 f (q + 2) ≡ numbersOf k = words-back (numbersOf k) f (q + 2) (F .letters) (fit-numbers F k n) e₄ in
+    let at : (i x : ℕ) → i < 5 → q + 2 + 4 * i ≡ x → littleAt 4 f x ≡ getD (numbersOf k) i 0 =
+    λ i x l g. ap (littleAt 4 f) (sym g) ∙ sym (words-get 5 f (q + 2) i l) ∙ ap (λ (ws : List ℕ). getD ws i 0) w in
+    let last : q + 2 + 4 * 5 ≡ q + 22 = omega arith in
     record {
       fields = rw (
-        little-back 2 (k .count) f p _ (n .count) e,
-        little-back 1 (k .shift) f (p + 2) _ (n .shift) e₁,
-        at 0 (p + 4) (omega arith) (omega arith),
-        at 1 (p + 8) (omega arith) (omega arith),
-        at 2 (p + 12) (omega arith) (omega arith),
-        at 3 (p + 16) (omega arith) (omega arith),
-        at 4 (p + 20) (omega arith) (omega arith),
+        little-back (F .width) (k .count) f p _ (n .count) e,
+        little-back 1 (k .shift) f q _ (n .shift) e₁,
+        at 0 (q + 2) (omega arith) (omega arith),
+        at 1 (q + 6) (omega arith) (omega arith),
+        at 2 (q + 10) (omega arith) (omega arith),
+        at 3 (q + 14) (omega arith) (omega arith),
+        at 4 (q + 18) (omega arith) (omega arith),
       );
-      zero-byte = ap (littleAt 1 f) (sym three) ∙ little-back 1 0 f (p + 2 + 1) _ (omega arith) e₂;
-      ends-in = letters-back letters f (p + 24) (ap (λ (x : ℕ). drop x f) (sym last) ∙ words-after (numbersOf k) f (p + 4) letters e₄);
+      zero-byte = little-back 1 0 f (q + 1) _ (omega arith) e₂;
+      ends-in = letters-back (F .letters) f (q + 22) (ap (λ (x : ℕ). drop x f) (sym last) ∙ words-after (numbersOf k) f (q + 2) (F .letters) e₄);
     }
 
 -- the five numbers as they stand one after the other
-numbers-at : (f : List ℕ) (p : ℕ) → numbersOf (trailerAt f p) ≡ wordsAt 5 f (p + 4)
+numbers-at : (F : Form) (f : List ℕ) (p : ℕ) → numbersOf (trailerAt F f p) ≡ wordsAt 5 f (p + F .width + 2)
 unfolding trailerAt wordsAt
-numbers-at f p =
-    let a : p + 4 + 4 ≡ p + 8 = omega arith in
-    let b : p + 8 + 4 ≡ p + 12 = omega arith in
-    let c : p + 12 + 4 ≡ p + 16 = omega arith in
-    let d : p + 16 + 4 ≡ p + 20 = omega arith in
+numbers-at F f p =
+    let q : ℕ = p + F .width in
+    let a : q + 2 + 4 ≡ q + 6 = omega arith in
+    let b : q + 6 + 4 ≡ q + 10 = omega arith in
+    let c : q + 10 + 4 ≡ q + 14 = omega arith in
+    let d : q + 14 + 4 ≡ q + 18 = omega arith in
     rw (a, b, c, d)
 
-pub trailer-again : (f : List ℕ) (p : ℕ) → Octets f → p + 28 ≡ length f → littleAt 1 f (p + 3) ≡ 0 → spells f (p + 24) letters ≡ true → trailerBytes (trailerAt f p) ≡ drop p f
+pub trailer-again : (F : Form) (f : List ℕ) (p : ℕ) → Octets f → p + trailerSize F ≡ length f → length (F .letters) ≡ 4 → littleAt 1 f (p + F .width + 1) ≡ 0
+    → spells f (p + F .width + 22) (F .letters) ≡ true → trailerBytes F (trailerAt F f p) ≡ drop p f
 unfolding trailerBytes trailerAt
-trailer-again f p o l z w =
-    let a₅ : letters ≡ drop (p + 24) f = letters-again letters f (p + 24) (omega arith) w in
-    let q : p + 24 ≡ p + 4 + 4 * 5 = omega arith in
-    let a₄ : wordBytes (numbersOf (trailerAt f p)) ++ letters ≡ drop (p + 4) f =
-    ap (λ (r : List ℕ). wordBytes (numbersOf (trailerAt f p)) ++ r) (a₅ ∙ ap (λ (x : ℕ). drop x f) q)
-    ∙ ap (λ (ws : List ℕ). wordBytes ws ++ drop (p + 4 + 4 * 5) f) (numbers-at f p)
-    ∙ words-again 5 f (p + 4) o (omega arith) in
-    let q₃ : p + 4 ≡ p + 3 + 1 = omega arith in
-    let a₃ : bytes 1 0 ++ drop (p + 4) f ≡ drop (p + 3) f =
-    ap (λ (x : ℕ). bytes 1 x ++ drop (p + 4) f) (sym z) ∙ ap (λ (x : ℕ). bytes 1 (littleAt 1 f (p + 3)) ++ drop x f) q₃ ∙ bytes-back 1 f (p + 3) o (omega arith) in
-    let q₂ : p + 3 ≡ p + 2 + 1 = omega arith in
-    let a₂ : bytes 1 (littleAt 1 f (p + 2)) ++ drop (p + 3) f ≡ drop (p + 2) f =
-    ap (λ (x : ℕ). bytes 1 (littleAt 1 f (p + 2)) ++ drop x f) q₂ ∙ bytes-back 1 f (p + 2) o (omega arith) in
-    ap (λ (r : List ℕ). bytes 2 (littleAt 2 f p) ++ (bytes 1 (littleAt 1 f (p + 2)) ++ (bytes 1 0 ++ r))) a₄
-    ∙ ap (λ (r : List ℕ). bytes 2 (littleAt 2 f p) ++ (bytes 1 (littleAt 1 f (p + 2)) ++ r)) a₃
-    ∙ ap (λ (r : List ℕ). bytes 2 (littleAt 2 f p) ++ r) a₂
-    ∙ bytes-back 2 f p o (omega arith)
+trailer-again F f p o l four z w =
+    let q : ℕ = p + F .width in
+    let a₅ : F .letters ≡ drop (q + 22) f = letters-again (F .letters) f (q + 22) (omega arith) w in
+    let r : q + 22 ≡ q + 2 + 4 * 5 = omega arith in
+    let a₄ : wordBytes (numbersOf (trailerAt F f p)) ++ F .letters ≡ drop (q + 2) f =
+    ap (λ (r : List ℕ). wordBytes (numbersOf (trailerAt F f p)) ++ r) (a₅ ∙ ap (λ (x : ℕ). drop x f) r)
+    ∙ ap (λ (ws : List ℕ). wordBytes ws ++ drop (q + 2 + 4 * 5) f) (numbers-at F f p)
+    ∙ words-again 5 f (q + 2) o (omega arith) in
+    let q₃ : q + 2 ≡ q + 1 + 1 = omega arith in
+    let a₃ : bytes 1 0 ++ drop (q + 2) f ≡ drop (q + 1) f =
+    ap (λ (x : ℕ). bytes 1 x ++ drop (q + 2) f) (sym z) ∙ ap (λ (x : ℕ). bytes 1 (littleAt 1 f (q + 1)) ++ drop x f) q₃ ∙ bytes-back 1 f (q + 1) o (omega arith) in
+    let a₂ : bytes 1 (littleAt 1 f q) ++ drop (q + 1) f ≡ drop q f = bytes-back 1 f q o (omega arith) in
+    ap (λ (r : List ℕ). bytes (F .width) (littleAt (F .width) f p) ++ (bytes 1 (littleAt 1 f q) ++ (bytes 1 0 ++ r))) a₄
+    ∙ ap (λ (r : List ℕ). bytes (F .width) (littleAt (F .width) f p) ++ (bytes 1 (littleAt 1 f q) ++ r)) a₃
+    ∙ ap (λ (r : List ℕ). bytes (F .width) (littleAt (F .width) f p) ++ r) a₂
+    ∙ bytes-back (F .width) f p o (omega arith)

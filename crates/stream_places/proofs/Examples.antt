@@ -13,8 +13,8 @@ use Rattle.stream_item.specs.Links.{linkAt, chain, reached}
 use Rattle.stream_finder.specs.Finder.{State, state}
 use Rattle.stream_finder.specs.Places.{Placed}
 use Rattle.stream_finder.proofs.Examples.{finderBy, finderTo}
-use Rattle.stream_places.specs.File.{wordBytes, trailerBytes, wordsAt, trailerAt, spells, checked, trailerOf}
-use Rattle.stream_places.specs.Places.{follows, onChain, loadFor, loadOf, fileOf, saveFor, saveOf}
+use Rattle.stream_places.specs.File.{wide, wordBytes, trailerBytes, wordsAt, trailerAt, spells, checked, trailerBy, trailerOfEither}
+use Rattle.stream_places.specs.Places.{follows, onChain, loadFor, loadOf, loadWideOf, fileOf, saveFor, saveOf, saveWideOf}
 
 abbrev word : ℕ → ℕ → List ℕ
 word low high = low ∷ high ∷ 0 ∷ 0 ∷ []
@@ -41,30 +41,30 @@ unfolding saveOf saveFor fileOf wordBytes trailerBytes bytes headerOf littleAt
 saved0 = refl
 
 pub loaded3 : loadOf streamE file3 (1 ∷ 2 ∷ []) ≡ answered (state (finderTo 4098 1) (56 ∷ 2 ∷ []))
-unfolding loadOf loadFor trailerOf checked trailerAt spells wordsAt onChain follows chain linkAt put headerOf littleAt
+unfolding loadOf loadFor trailerBy checked trailerAt spells wordsAt onChain follows chain linkAt put headerOf littleAt
 loaded3 = refl
 
 pub loaded0 : loadOf streamE file0 (1 ∷ 2 ∷ 3 ∷ 4 ∷ []) ≡ answered (state (finderBy 0 4098 3) (56 ∷ 66 ∷ 78 ∷ 4 ∷ []))
-unfolding loadOf loadFor trailerOf checked trailerAt spells wordsAt onChain follows chain linkAt put headerOf littleAt
+unfolding loadOf loadFor trailerBy checked trailerAt spells wordsAt onChain follows chain linkAt put headerOf littleAt
 loaded0 = refl
 
 -- a place one link on is 22, where the table has room, else 13
 pub off-the-chain : loadOf streamE (word 66 0 ++ tailE 1 3 32) (1 ∷ []) ≡ refused 22 []
-unfolding loadOf loadFor trailerOf checked trailerAt spells wordsAt onChain follows chain linkAt put headerOf littleAt
+unfolding loadOf loadFor trailerBy checked trailerAt spells wordsAt onChain follows chain linkAt put headerOf littleAt
 off-the-chain = refl
 
 pub short-table : loadOf streamE (word 66 0 ++ tailE 1 3 32) [] ≡ refused 13 []
-unfolding loadOf loadFor trailerOf checked trailerAt spells wordsAt headerOf littleAt
+unfolding loadOf loadFor trailerBy checked trailerAt spells wordsAt headerOf littleAt
 short-table = refl
 
 -- no places, though E counts records
 pub no-places : loadOf streamE (tailE 0 3 28) [] ≡ refused 20 []
-unfolding loadOf loadFor trailerOf checked trailerAt spells headerOf littleAt
+unfolding loadOf loadFor trailerBy checked trailerAt spells headerOf littleAt
 no-places = refl
 
 -- the empty stream has none: a file of its trailer alone
 pub nothing : loadOf [] ((0 ∷ 0 ∷ 3 ∷ 0 ∷ []) ++ (replicate 16 0 ++ (word 28 0 ++ (0x50 ∷ 0x54 ∷ 0x49 ∷ 0x58 ∷ [])))) [] ≡ answered (state (record { «minimum_index» = 0; «maximum_index» = 0; held = 0; shift = 3 }) [])
-unfolding loadOf loadFor trailerOf checked trailerAt spells wordsAt onChain put headerOf littleAt
+unfolding loadOf loadFor trailerBy checked trailerAt spells wordsAt onChain put headerOf littleAt
 nothing = refl
 
 -- the places that were saved are on the chain
@@ -74,3 +74,37 @@ placed0 zero l = refl
 placed0 (suc zero) l = refl
 placed0 (suc (suc zero)) l = refl
 placed0 (suc (suc (suc k))) l = absurd (omega arith)
+
+-- ---- R-10's form
+
+-- the 30 bytes for so many places of the shift 3, all four bytes of the count, the distance as its lowest byte
+abbrev tailWide : List ℕ → ℕ → List ℕ
+tailWide count distance =
+    count ++ ((3 ∷ 0 ∷ []) ++ (word 0x00 0x10 ++ (word 0x02 0x10 ++ (word 78 0 ++ (word 56 0 ++ (word distance 0 ++ (0x50 ∷ 0x54 ∷ 0x49 ∷ 0x59 ∷ [])))))))
+
+-- the trailer of 65,536 places, one more than the old form counts
+pub trailer-wide : trailerBytes wide (record {
+  count = 65536;
+  shift = 3;
+  «minimum_index» = 4096;
+  «maximum_index» = 4098;
+  «stream_length» = 78;
+  «header_size» = 56;
+  distance = 34;
+}) ≡ tailWide (0 ∷ 0 ∷ 1 ∷ 0 ∷ []) 34
+unfolding trailerBytes wordBytes bytes
+trailer-wide = refl
+
+-- one place under the new letters is 20 to both loaders: it fits the old form
+abbrev fewE : List ℕ
+fewE = word 56 0 ++ tailWide (word 1 0) 34
+
+pub few-wide : (loadWideOf streamE fewE (1 ∷ []) ≡ refused 20 []) × (loadOf streamE fewE (1 ∷ []) ≡ refused 20 [])
+unfolding loadWideOf loadOf trailerOfEither trailerBy checked trailerAt spells headerOf littleAt
+few-wide = (refl, refl)
+
+-- an old file is written and taken as it was
+pub still-old : (saveWideOf streamE (state (finderTo 4098 1) (56 ∷ [])) 32 ≡ answered file3)
+    × (loadWideOf streamE file3 (1 ∷ 2 ∷ []) ≡ answered (state (finderTo 4098 1) (56 ∷ 2 ∷ [])))
+unfolding saveWideOf saveFor fileOf wordBytes trailerBytes bytes loadWideOf loadFor trailerOfEither trailerBy checked trailerAt spells wordsAt onChain follows chain linkAt put headerOf littleAt
+still-old = (refl, refl)

@@ -1,10 +1,12 @@
--- R-3's promises: a loaded finder serves; what was saved is loaded; one encoding. The law of the held places is stream_finder's own. Assumes nothing.
+-- R-3's promises and R-10's: a loaded finder serves; what was saved is loaded; one encoding; the two loaders agree. Each is proved once, over the form
+-- of the file. The law of the held places is stream_finder's own. Assumes nothing.
 use Prim.Native.Nat.{ℕ, zero, suc, _+_, _-_, _*_, _/_, _%_, _^_, _≤_, _<_}
 use native.Mathlib.Omega.{arith}
 use native.Mathlib.Nat.{zero-add, min-eq-left, mul-comm, mul-div-cancel-left}
 use native.Mathlib.Numerals.{one-add}
 use mathlib.Core.Path.{_≡_, refl, sym, ap, subst, _∙_}
 use mathlib.Core.Bool.{Bool, true, false, not}
+use mathlib.Core.Logic.{_⊎_, inl, inr}
 use mathlib.Core.List.{List, [], _∷_, _++_}
 use lib.ListN.{length, getD, take, drop, length-take, length-append}
 use lib.Seq.{getD-take, take-append-seam, drop-append-seam}
@@ -30,33 +32,52 @@ use Rattle.stream_finder.specs.Demand.{looked, numberGiven}
 use Rattle.stream_finder.specs.Shared.{Serves}
 use Rattle.stream_finder.proofs.PlaceLaws.{find-placed}
 use Rattle.stream_finder.proofs.DemandProof.{looked-number}
-use Rattle.stream_places.specs.File.{letters, wordBytes, trailerBytes, wordsAt, trailerAt, spells, trailerOf}
-use Rattle.stream_places.specs.Places.{onChain, loadFor, loadOf, trailerFor, fileOf, saveFor, saveOf, bufferAfter}
-use Rattle.stream_places.specs.Kept.{recordsOf, Loaded, LoadServes, RoundTrip, OneEncoding}
+use Rattle.stream_places.specs.File.{Form, narrow, wide, trailerSize, wordBytes, trailerBytes, wordsAt, trailerAt, spells, trailerBy, trailerOf, trailerOfEither}
+use Rattle.stream_places.specs.Places.{onChain, loadFor, loadOf, loadWideOf, trailerFor, fileOf, formFor, saveFor, saveOf, saveWideOf, bufferAfter}
+use Rattle.stream_places.specs.Kept.{recordsOf, Loaded, Serving, LoadServes, WideServes, TripOf, RoundTrip, WideTrip, Encoding, OneEncoding, OneEncodingWide, LoadersAgree}
 use Rattle.stream_places.specs.declared.trailer.Trailer.{Trailer}
-use Rattle.stream_places.proofs.FileLaws.{length-words, length-word-bytes, length-trailer, trailer-by, checked-right, Trailed, trailed}
-use Rattle.stream_places.proofs.BackLaws.{words-back, words-again, Narrow, Back, trailer-back, trailer-again}
-use Rattle.stream_places.proofs.PlacesLaws.{Ours, load-header, load-trailer, load-done, Bounds, save-header, save-done, header-short, header-fields}
+use Rattle.stream_places.proofs.FileLaws.{length-words, length-word-bytes, length-trailer, one-tag, other-tag, trailer-letters, trailer-short, trailer-by, either-wide, either-narrow, checked-right, Trailed, trailed, Taken, as-narrow, as-wide, taken-either}
+use Rattle.stream_places.proofs.BackLaws.{words-back, words-again, Fits, Back, trailer-back, trailer-again}
+use Rattle.stream_places.proofs.PlacesLaws.{Ours, load-header, load-trailer, load-wide-header, load-wide-trailer, load-done, Bounds, save-header, save-wide-header, save-done, header-short, header-fields}
 use Rattle.stream_places.proofs.ChainLaws.{Chained, chained, unchained, chained-placed, placed-chained}
 
--- ---- from an answer of `load` back to what it found
+-- ---- what the proofs ask of a form: four letters, a count that holds the most places, a distance that fits
+record Sound (F : Form) : Type 0 where
+  pub four : length (F .letters) ≡ 4
+  pub count : F .most < 256 ^ F .width
+  pub distance : 4 * F .most + trailerSize F < 4294967296
+
+narrow-sound : Sound narrow
+narrow-sound = record { four = refl; count = omega arith; distance = omega arith }
+
+wide-sound : Sound wide
+wide-sound = record { four = refl; count = omega arith; distance = omega arith }
+
+-- which form so many places are written in
+form-narrow : (n : ℕ) → n ≤ 65535 → formFor n ≡ narrow
+form-narrow n l = simp (le-ltb _ _ l)
+
+form-wide : (n : ℕ) → 65535 < n → formFor n ≡ wide
+form-wide n l = simp (lt-ltb _ _ l)
+
+-- ---- from an answer of a loader back to what it found
 
 -- go on from a value: what that value was
 then-answered : {A B : Type 0} (a : Answer A) (g : A → Answer B) (b : B) → then a g ≡ answered b → (x : A) × ((a ≡ answered x) × (g x ≡ answered b))
 then-answered (answered x) g b e = (x, (refl, e))
 then-answered (refused n d) g b e = let z : _≡_ {A = ℕ} 0 1 = cc in absurd (omega arith)
 
-pub record Finds (s f t : List ℕ) (h : Header) (τ : State) : Type 0 where
+pub record Finds (F : Form) (s f t : List ℕ) (h : Header) (τ : State) : Type 0 where
   pub trailer : Trailer
-  pub right : trailerOf f ≡ answered trailer
+  pub right : trailerBy F f ≡ answered trailer
   pub ours : Ours s f t h trailer
   pub room : trailer .count ≤ length t
   pub on-chain : onChain s (2 ^ trailer .shift) (h .«header_size») (wordsAt (trailer .count) f 0) ≡ true
   pub state-is : state (holding h (trailer .shift) (trailer .count)) (put t 0 (wordsAt (trailer .count) f 0)) ≡ τ
 
-found : (s f t : List ℕ) (h : Header) (k : Trailer) (τ : State) → trailerOf f ≡ answered k → loadFor s f t h k ≡ answered τ → Finds s f t h τ
+found : (F : Form) (s f t : List ℕ) (h : Header) (k : Trailer) (τ : State) → trailerBy F f ≡ answered k → loadFor s f t h k ≡ answered τ → Finds F s f t h τ
 unfolding loadFor
-found s f t h k τ r e =
+found F s f t h k τ r e =
     let t1 = passed (both (eqb (k .count) 0) (ltb (h .«minimum_index») (h .«maximum_index»))) 20 _ _ e in
     let t2 = passed (not (eqb (k .«minimum_index») (h .«minimum_index»))) 21 _ _ (t1 .1) in
     let t3 = passed (not (eqb (k .«maximum_index») (h .«maximum_index»))) 21 _ _ (t2 .1) in
@@ -79,10 +100,25 @@ found s f t h k τ r e =
       state-is = cc;
     }
 
-pub finds : (s f t : List ℕ) (h : Header) (τ : State) → headerOf s ≡ answered h → loadOf s f t ≡ answered τ → Finds s f t h τ
+pub finds : (s f t : List ℕ) (h : Header) (τ : State) → headerOf s ≡ answered h → loadOf s f t ≡ answered τ → Finds narrow s f t h τ
 finds s f t h τ a e =
     let y = then-answered (trailerOf f) (loadFor s f t h) τ (sym (load-header s f t (answered h) a) ∙ e) in
-    found s f t h (y .0) τ (y .1 .0) (y .1 .1)
+    found narrow s f t h (y .0) τ (y .1 .0) (y .1 .1)
+
+-- of R-10's loader, by the form that it went by
+data FindsEither (s f t : List ℕ) (h : Header) (τ : State) : Type 0 where
+  in-narrow : Finds narrow s f t h τ → FindsEither s f t h τ
+  in-wide : Finds wide s f t h τ → FindsEither s f t h τ
+
+finds-either : (s f t : List ℕ) (h : Header) (τ : State) → headerOf s ≡ answered h → loadWideOf s f t ≡ answered τ → FindsEither s f t h τ
+finds-either s f t h τ a e = go (y .0) (y .1 .1) (taken-either f (y .0) (y .1 .0))
+  where
+    y : (x : Trailer) × ((trailerOfEither f ≡ answered x) × (loadFor s f t h x ≡ answered τ))
+    y = then-answered (trailerOfEither f) (loadFor s f t h) τ (sym (load-wide-header s f t (answered h) a) ∙ e)
+
+    go : (k : Trailer) → loadFor s f t h k ≡ answered τ → Taken f k → FindsEither s f t h τ
+    go k g (as-narrow l r) = in-narrow (found narrow s f t h k τ r g)
+    go k g (as-wide l r) = in-wide (found wide s f t h k τ r g)
 
 -- ---- a loaded finder serves
 
@@ -90,7 +126,7 @@ some-place : (n m M : ℕ) → both (eqb n 0) (ltb m M) ≡ false → m < M → 
 some-place zero m M e l = let z : _≡_ {A = Bool} true false = sym (lt-ltb m M l) ∙ e in let q : _≡_ {A = ℕ} 0 1 = cc in absurd (omega arith)
 some-place (suc n) m M e l = omega arith
 
-module _ (tag : Stream) (s f t : List ℕ) (h : Header) (k : Trailer) (a : headerOf s ≡ answered h) (r : trailerOf f ≡ answered k) (o : Ours s f t h k) (room : k .count ≤ length t) (on : onChain s (2 ^ k .shift) (h .«header_size») (wordsAt (k .count) f 0) ≡ true) where
+module _ (F : Form) (tag : Stream) (s f t : List ℕ) (h : Header) (k : Trailer) (a : headerOf s ≡ answered h) (r : trailerBy F f ≡ answered k) (o : Ours s f t h k) (room : k .count ≤ length t) (on : onChain s (2 ^ k .shift) (h .«header_size») (wordsAt (k .count) f 0) ≡ true) where
   abbrev ws : List ℕ
   ws = wordsAt (k .count) f 0
 
@@ -104,7 +140,7 @@ module _ (tag : Stream) (s f t : List ℕ) (h : Header) (k : Trailer) (a : heade
   placed = chained-placed s (h .«header_size») σ t ws refl (sym many) (omega (arith, many)) (chained s (2 ^ k .shift) (h .«header_size») ws on)
 
   ready : Ready s σ
-  ready = record { short = header-short s h a; shift = trailed f k r .shift; held = rw (length-put t 0 ws) room }
+  ready = record { short = header-short s h a; shift = trailed F f k r .shift; held = rw (length-put t 0 ws) room }
 
   looks : (d : ℕ) → h .«minimum_index» + d ≤ h .«maximum_index» → findOf s σ (indexIn tag (h .«minimum_index» + d)) ≡ looked tag s (h .«header_size») (σ .finder) d
   looks d u = find-placed tag s (h .«header_size») σ d ready placed u
@@ -130,64 +166,118 @@ module _ (tag : Stream) (s f t : List ℕ) (h : Header) (k : Trailer) (a : heade
     not-indexed = λ l d u. unheld d u ∙ ap (λ (n : ℕ). leb n (d / 2 ^ k .shift)) (counted l);
   }
 
+serves-found : (F : Form) (tag : Stream) (s f t : List ℕ) (h : Header) (τ : State) → headerOf s ≡ answered h → Finds F s f t h τ → Loaded tag s h τ
+serves-found F tag s f t h τ a x =
+    subst (λ (ρ : State). Loaded tag s h ρ) (x .state-is) (loaded F tag s f t h (x .trailer) a (x .right) (x .ours) (x .room) (x .on-chain))
+
 pub load-serves : LoadServes
-unfolding LoadServes
-load-serves tag s f t h τ a e =
-    let x = finds s f t h τ a e in
-    subst (λ (ρ : State). Loaded tag s h ρ) (x .state-is) (loaded tag s f t h (x .trailer) a (x .right) (x .ours) (x .room) (x .on-chain))
+unfolding Serving
+load-serves tag s f t h τ a e = serves-found narrow tag s f t h τ a (finds s f t h τ a e)
+
+pub wide-serves : WideServes
+unfolding Serving
+wide-serves tag s f t h τ a e = go (finds-either s f t h τ a e)
+  where
+    go : FindsEither s f t h τ → Loaded tag s h τ
+    go (in-narrow x) = serves-found narrow tag s f t h τ a x
+    go (in-wide x) = serves-found wide tag s f t h τ a x
 
 -- ---- one encoding
 
 first-of : (t ws : List ℕ) → length ws ≤ length t → take (length ws) (put t 0 ws) ≡ ws
 first-of t ws l = ap (take (length ws)) (put-is t 0 ws (omega arith)) ∙ take-append-seam ws (drop (0 + length ws) t)
 
-count-below : (f : List ℕ) (p : ℕ) → Octets f → trailerAt f p .count < 65536
+-- what a file holds fits its form's count, and its distance 32 bits
+count-below : (F : Form) (f : List ℕ) (k : Trailer) → Octets f → Trailed F f k → k .count < 256 ^ F .width
 unfolding Octets trailerAt
-count-below f p o = little-below 2 f p o
+count-below F f k o x = subst (λ (y : Trailer). y .count < 256 ^ F .width) (sym (x .fields)) (little-below (F .width) f (length f - trailerSize F) o)
 
-module _ (s f t : List ℕ) (h : Header) (k : Trailer) (oct : Octets f) (a : headerOf s ≡ answered h) (r : trailerOf f ≡ answered k) (o : Ours s f t h k) (room : k .count ≤ length t) where
-  trailer-is : trailerFor h (length s) (k .shift) (k .count) ≡ k
+distance-below : (F : Form) (f : List ℕ) (k : Trailer) → Octets f → Trailed F f k → k .distance < 4294967296
+unfolding Octets trailerAt
+distance-below F f k o x = subst (λ (y : Trailer). y .distance < 4294967296) (sym (x .fields)) (little-below 4 f (length f - trailerSize F + F .width + 18) o)
+
+module _ (F : Form) (sound : Sound F) (s f t : List ℕ) (h : Header) (k : Trailer) (oct : Octets f) (a : headerOf s ≡ answered h) (r : trailerBy F f ≡ answered k) (o : Ours s f t h k) (room : k .count ≤ length t) (most : k .count ≤ F .most) where
+  trailer-is : trailerFor F h (length s) (k .shift) (k .count) ≡ k
   trailer-is =
-      let x = trailed f k r in
-      let d : 4 * k .count + 28 ≡ k .distance = sym (x .distance ∙ x .whole) in
+      let x = trailed F f k r in
+      let d : 4 * k .count + trailerSize F ≡ k .distance = sym (x .distance ∙ x .whole) in
       rw (← o .minimum, ← o .maximum, ← o .bytes-are, ← o .start, d)
 
-  trailer-again-is : trailerBytes k ≡ drop (0 + 4 * k .count) f
+  trailer-again-is : trailerBytes F k ≡ drop (0 + 4 * k .count) f
   trailer-again-is =
-      let x = trailed f k r in
-      let p : length f - 28 ≡ 0 + 4 * k .count = omega (arith, x .whole) in
-      let q : length f - 4 ≡ length f - 28 + 24 = omega (arith, x .long) in
-      ap trailerBytes (x .fields)
-      ∙ trailer-again f (length f - 28) oct (omega (arith, x .long)) (x .zero-byte) (ap (λ (n : ℕ). spells f n letters) (sym q) ∙ x .ends-in)
+      let x = trailed F f k r in
+      let p : length f - trailerSize F ≡ 0 + 4 * k .count = omega (arith, x .whole) in
+      let q : length f - 4 ≡ length f - trailerSize F + F .width + 22 = omega (arith, x .long) in
+      ap (trailerBytes F) (x .fields)
+      ∙ trailer-again F f (length f - trailerSize F) oct (omega (arith, x .long)) (sound .four) (x .zero-byte) (ap (λ (n : ℕ). spells f n (F .letters)) (sym q) ∙ x .ends-in)
       ∙ ap (λ (n : ℕ). drop n f) p
 
-  file-again : fileOf h (length s) (state (holding h (k .shift) (k .count)) (put t 0 (wordsAt (k .count) f 0))) ≡ f
+  file-again : fileOf F h (length s) (state (holding h (k .shift) (k .count)) (put t 0 (wordsAt (k .count) f 0))) ≡ f
   unfolding fileOf
   file-again =
-      let x = trailed f k r in
+      let x = trailed F f k r in
       let ws : List ℕ = wordsAt (k .count) f 0 in
       let n : length ws ≡ k .count = length-words (k .count) f 0 in
-      ap (λ (m : ℕ). wordBytes (take m (put t 0 ws)) ++ trailerBytes (trailerFor h (length s) (k .shift) (k .count))) (sym n)
-      ∙ ap (λ (us : List ℕ). wordBytes us ++ trailerBytes (trailerFor h (length s) (k .shift) (k .count))) (first-of t ws (omega (arith, n)))
-      ∙ ap (λ (y : Trailer). wordBytes ws ++ trailerBytes y) trailer-is
+      ap (λ (m : ℕ). wordBytes (take m (put t 0 ws)) ++ trailerBytes F (trailerFor F h (length s) (k .shift) (k .count))) (sym n)
+      ∙ ap (λ (us : List ℕ). wordBytes us ++ trailerBytes F (trailerFor F h (length s) (k .shift) (k .count))) (first-of t ws (omega (arith, n)))
+      ∙ ap (λ (y : Trailer). wordBytes ws ++ trailerBytes F y) trailer-is
       ∙ ap (λ (bs : List ℕ). wordBytes ws ++ bs) trailer-again-is
       ∙ words-again (k .count) f 0 oct (omega (arith, x .whole))
 
-  encoded : (space : ℕ) → length f ≤ space → saveOf s (state (holding h (k .shift) (k .count)) (put t 0 (wordsAt (k .count) f 0))) space ≡ answered f
-  unfolding Octets
+  encoded : (space : ℕ) → length f ≤ space → saveFor F (length s) (state (holding h (k .shift) (k .count)) (put t 0 (wordsAt (k .count) f 0))) space h ≡ answered f
   encoded space l =
-      let x = trailed f k r in
-      let c : k .count < 65536 = subst (λ (y : Trailer). y .count < 65536) (sym (x .fields)) (count-below f (length f - 28) oct) in
-      save-header s _ space (answered h) a
-      ∙ save-done (length s) _ space h (record { minimum = refl; maximum = refl }) (x .shift) (rw (length-put t 0 (wordsAt (k .count) f 0)) room) (omega (arith, c)) (omega (arith, x .whole))
+      let x = trailed F f k r in
+      save-done F (length s) _ space h (record { minimum = refl; maximum = refl }) (x .shift) (rw (length-put t 0 (wordsAt (k .count) f 0)) room) most (omega (arith, x .whole))
       ∙ ap (λ (bs : List ℕ). answered bs) file-again
 
+-- of the state that was found
+encodes : (F : Form) (s f t : List ℕ) (h : Header) (τ : State) (space : ℕ) → Sound F → Octets f → headerOf s ≡ answered h → (x : Finds F s f t h τ)
+    → x .trailer .count ≤ F .most → length f ≤ space → saveFor F (length s) τ space h ≡ answered f
+encodes F s f t h τ space sound oct a x m l =
+    subst (λ (ρ : State). saveFor F (length s) ρ space h ≡ answered f) (x .state-is) (encoded F sound s f t h (x .trailer) oct a (x .right) (x .ours) (x .room) m space l)
+
+narrow-most : (s f t : List ℕ) (h : Header) (τ : State) → Octets f → (x : Finds narrow s f t h τ) → x .trailer .count ≤ 65535
+narrow-most s f t h τ oct x = omega (arith, count-below narrow f (x .trailer) oct (trailed narrow f (x .trailer) (x .right)))
+
+wide-most : (s f t : List ℕ) (h : Header) (τ : State) → Octets f → (x : Finds wide s f t h τ) → x .trailer .count ≤ 1073741816
+wide-most s f t h τ oct x =
+    let y = trailed wide f (x .trailer) (x .right) in
+    omega (arith, y .whole, y .distance, distance-below wide f (x .trailer) oct y)
+
 pub one-encoding : OneEncoding
-unfolding OneEncoding saveOf loadOf
+unfolding Encoding loadOf
 one-encoding s f t τ space oct e l =
     let y = then-answered (headerOf s) (λ h. then (trailerOf f) (loadFor s f t h)) τ e in
     let x = finds s f t (y .0) τ (y .1 .0) e in
-    subst (λ (ρ : State). saveOf s ρ space ≡ answered f) (x .state-is) (encoded s f t (y .0) (x .trailer) oct (y .1 .0) (x .right) (x .ours) (x .room) space l)
+    save-header s τ space (answered (y .0)) (y .1 .0) ∙ encodes narrow s f t (y .0) τ space narrow-sound oct (y .1 .0) x (narrow-most s f t (y .0) τ oct x) l
+
+-- the state's own number of places, and so the form that it is written in
+held-is : (F : Form) (s f t : List ℕ) (h : Header) (τ : State) (x : Finds F s f t h τ) → τ .finder .held ≡ x .trailer .count
+held-is F s f t h τ x = ap (λ (ρ : State). ρ .finder .held) (sym (x .state-is))
+
+pub one-encoding-wide : OneEncodingWide
+unfolding Encoding loadWideOf
+one-encoding-wide s f t τ space oct e l = go (finds-either s f t h τ a e)
+  where
+    y : (h : Header) × ((headerOf s ≡ answered h) × (then (trailerOfEither f) (loadFor s f t h) ≡ answered τ))
+    y = then-answered (headerOf s) (λ h. then (trailerOfEither f) (loadFor s f t h)) τ e
+
+    h : Header
+    h = y .0
+
+    a : headerOf s ≡ answered h
+    a = y .1 .0
+
+    by-form : (F : Form) → formFor (τ .finder .held) ≡ F → saveFor F (length s) τ space h ≡ answered f → saveWideOf s τ space ≡ answered f
+    by-form F g w = save-wide-header s τ space (answered h) a ∙ ap (λ (G : Form). saveFor G (length s) τ space h) g ∙ w
+
+    go : FindsEither s f t h τ → saveWideOf s τ space ≡ answered f
+    go (in-narrow x) =
+        let m = narrow-most s f t h τ oct x in
+        by-form narrow (form-narrow (τ .finder .held) (omega (arith, m, held-is narrow s f t h τ x))) (encodes narrow s f t h τ space narrow-sound oct a x m l)
+    go (in-wide x) =
+        let n = trailed wide f (x .trailer) (x .right) .many in
+        by-form wide (form-wide (τ .finder .held) (omega (arith, n, held-is wide s f t h τ x))) (encodes wide s f t h τ space wide-sound oct a x (wide-most s f t h τ oct x) l)
 
 -- ---- what was saved is loaded
 
@@ -205,24 +295,24 @@ header-fits s h oct e =
     (λ w x y z. record { inside = omega arith; minimum = omega (arith, little-below 4 s 8 oct); maximum = omega (arith, little-below 4 s 12 oct) })
 
 -- what a file that was saved says of its finder
-record Kept (s : List ℕ) (h : Header) (σ : State) (space : ℕ) (f : List ℕ) : Type 0 where
+record Kept (F : Form) (s : List ℕ) (h : Header) (σ : State) (space : ℕ) (f : List ℕ) : Type 0 where
   pub minimum : σ .finder .«minimum_index» ≡ h .«minimum_index»
   pub maximum : σ .finder .«maximum_index» ≡ h .«maximum_index»
   pub shift : σ .finder .shift ≤ 6
   pub held : σ .finder .held ≤ length (σ .table)
-  pub few : σ .finder .held ≤ 65535
-  pub room : 4 * σ .finder .held + 28 ≤ space
-  pub file : fileOf h (length s) σ ≡ f
+  pub few : σ .finder .held ≤ F .most
+  pub room : 4 * σ .finder .held + trailerSize F ≤ space
+  pub file : fileOf F h (length s) σ ≡ f
 
-kept : (s : List ℕ) (h : Header) (σ : State) (space : ℕ) (f : List ℕ) → headerOf s ≡ answered h → saveOf s σ space ≡ answered f → Kept s h σ space f
+kept : (F : Form) (s : List ℕ) (h : Header) (σ : State) (space : ℕ) (f : List ℕ) → saveFor F (length s) σ space h ≡ answered f → Kept F s h σ space f
 unfolding saveFor
-kept s h σ space f a e =
-    let t1 = passed (not (eqb (σ .finder .«minimum_index») (h .«minimum_index»))) 21 _ _ (sym (save-header s σ space (answered h) a) ∙ e) in
+kept F s h σ space f e =
+    let t1 = passed (not (eqb (σ .finder .«minimum_index») (h .«minimum_index»))) 21 _ _ e in
     let t2 = passed (not (eqb (σ .finder .«maximum_index») (h .«maximum_index»))) 21 _ _ (t1 .1) in
     let t3 = passed (ltb 6 (σ .finder .shift)) 26 _ _ (t2 .1) in
     let t4 = passed (ltb (length (σ .table)) (σ .finder .held)) 13 _ _ (t3 .1) in
-    let t5 = passed (ltb 65535 (σ .finder .held)) 13 _ _ (t4 .1) in
-    let t6 = passed (ltb space (4 * σ .finder .held + 28)) 19 _ _ (t5 .1) in
+    let t5 = passed (ltb (F .most) (σ .finder .held)) 13 _ _ (t4 .1) in
+    let t6 = passed (ltb space (4 * σ .finder .held + trailerSize F)) 19 _ _ (t5 .1) in
     record {
       minimum = eqb-true _ _ (not-false _ (t1 .0));
       maximum = eqb-true _ _ (not-false _ (t2 .0));
@@ -241,7 +331,7 @@ none-lacks zero m M h = go (ltb m M) refl
     go true e = let z : 0 < zero = h (ltb-true m M e) in absurd (omega arith)
     go false e = refl
 
-module _ (s t : List ℕ) (h : Header) (σ : State) (f : List ℕ) (space : ℕ) (oct : Octets s) (a : headerOf s ≡ answered h) (pl : Placed s (h .«header_size») σ) (some : h .«minimum_index» < h .«maximum_index» → 0 < σ .finder .held) (x : Kept s h σ space f) (l : σ .finder .held ≤ length t) where
+module _ (F : Form) (sound : Sound F) (s t : List ℕ) (h : Header) (σ : State) (f : List ℕ) (space : ℕ) (oct : Octets s) (a : headerOf s ≡ answered h) (pl : Placed s (h .«header_size») σ) (some : h .«minimum_index» < h .«maximum_index» → 0 < σ .finder .held) (many : F .least ≤ σ .finder .held) (x : Kept F s h σ space f) (l : σ .finder .held ≤ length t) where
   abbrev n : ℕ
   n = σ .finder .held
 
@@ -249,17 +339,17 @@ module _ (s t : List ℕ) (h : Header) (σ : State) (f : List ℕ) (space : ℕ)
   places = take (σ .finder .held) (σ .table)
 
   abbrev tail : Trailer
-  tail = trailerFor h (length s) (σ .finder .shift) (σ .finder .held)
+  tail = trailerFor F h (length s) (σ .finder .shift) (σ .finder .held)
 
   as-many : length places ≡ n
   as-many = length-take n (σ .table) ∙ min-eq-left (x .held)
 
-  file-is : wordBytes places ++ trailerBytes tail ≡ f
+  file-is : wordBytes places ++ trailerBytes F tail ≡ f
   unfolding fileOf
   file-is = x .file
 
-  length-is : length f ≡ 4 * n + 28
-  length-is = ap length (sym file-is) ∙ length-append (wordBytes places) (trailerBytes tail) ∙ omega (arith, length-word-bytes places, length-trailer tail, as-many)
+  length-is : length f ≡ 4 * n + trailerSize F
+  length-is = ap length (sym file-is) ∙ length-append (wordBytes places) (trailerBytes F tail) ∙ omega (arith, length-word-bytes places, length-trailer F tail (sound .four), as-many)
 
   small : (i : ℕ) → i < length places → getD places i 0 < 4294967296
   small i g =
@@ -268,32 +358,38 @@ module _ (s t : List ℕ) (h : Header) (σ : State) (f : List ℕ) (space : ℕ)
       omega (arith, b .inside (header-fits s h oct a .inside), header-short s h a)
 
   words-are : wordsAt n f 0 ≡ places
-  words-are = ap (λ (m : ℕ). wordsAt m f 0) (sym as-many) ∙ words-back places f 0 (trailerBytes tail) small (sym file-is)
+  words-are = ap (λ (m : ℕ). wordsAt m f 0) (sym as-many) ∙ words-back places f 0 (trailerBytes F tail) small (sym file-is)
 
-  narrow : Narrow tail
-  narrow =
+  fits : Fits F tail
+  fits =
       let g = header-fits s h oct a in
       record {
-        count = omega (arith, x .few);
+        count = omega (arith, x .few, sound .count);
         shift = omega (arith, x .shift);
         minimum = g .minimum;
         maximum = g .maximum;
         bytes-are = omega (arith, header-short s h a);
         start = omega (arith, g .inside, header-short s h a);
-        distance = omega (arith, x .few);
+        distance = omega (arith, x .few, sound .distance);
       }
 
-  tail-at : drop (length f - 28) f ≡ trailerBytes tail
+  tail-at : drop (length f - trailerSize F) f ≡ trailerBytes F tail
   tail-at =
-      let p : length f - 28 ≡ length (wordBytes places) = omega (arith, length-is, length-word-bytes places, as-many) in
-      ap (λ (m : ℕ). drop m f) p ∙ ap (drop (length (wordBytes places))) (sym file-is) ∙ drop-append-seam (wordBytes places) (trailerBytes tail)
+      let p : length f - trailerSize F ≡ length (wordBytes places) = omega (arith, length-is, length-word-bytes places, as-many) in
+      ap (λ (m : ℕ). drop m f) p ∙ ap (drop (length (wordBytes places))) (sym file-is) ∙ drop-append-seam (wordBytes places) (trailerBytes F tail)
 
-  tail-is : trailerOf f ≡ answered tail
+  back : Back F f (length f - trailerSize F) tail
+  back = trailer-back F f (length f - trailerSize F) tail fits tail-at
+
+  tagged : spells f (length f - 4) (F .letters) ≡ true
+  tagged =
+      let q : length f - 4 ≡ length f - trailerSize F + F .width + 22 = omega (arith, length-is) in
+      ap (λ (m : ℕ). spells f m (F .letters)) q ∙ back .ends-in
+
+  tail-is : trailerBy F f ≡ answered tail
   tail-is =
-      let b = trailer-back f (length f - 28) tail narrow tail-at in
-      let q : length f - 4 ≡ length f - 28 + 24 = omega (arith, length-is) in
-      sym (trailer-by f tail (answered tail) (omega (arith, length-is)) (ap (λ (m : ℕ). spells f m letters) q ∙ b .ends-in) (sym (b .fields))
-      (checked-right f (length f - 28) tail (b .zero-byte) (x .shift) (sym length-is) length-is))
+      sym (trailer-by F f (length f - trailerSize F) tail (answered tail) (omega (arith, length-is)) tagged (sym (back .fields))
+      (checked-right F f (length f - trailerSize F) tail (length f - trailerSize F + F .width + 1) refl (back .zero-byte) (x .shift) (sym length-is) length-is many))
 
   chain-is : onChain s (2 ^ σ .finder .shift) (h .«header_size») (wordsAt n f 0) ≡ true
   chain-is = ap (onChain s (2 ^ σ .finder .shift) (h .«header_size»)) words-are ∙ unchained s (2 ^ σ .finder .shift) (h .«header_size») places (placed-chained s (h .«header_size») σ (x .held) pl)
@@ -301,18 +397,72 @@ module _ (s t : List ℕ) (h : Header) (σ : State) (f : List ℕ) (space : ℕ)
   finder-is : holding h (σ .finder .shift) n ≡ σ .finder
   finder-is = rw (← x .minimum, ← x .maximum)
 
-  again : loadOf s f t ≡ answered (state (σ .finder) (put t 0 places))
+  again : loadFor s f t h tail ≡ answered (state (σ .finder) (put t 0 places))
   again =
-      load-trailer s f t h (answered tail) a tail-is
-      ∙ load-done s f t h tail (record { some = none-lacks n (h .«minimum_index») (h .«maximum_index») some; minimum = refl; maximum = refl; bytes-are = refl; start = refl }) l chain-is
+      load-done s f t h tail (record { some = none-lacks n (h .«minimum_index») (h .«maximum_index») some; minimum = refl; maximum = refl; bytes-are = refl; start = refl }) l chain-is
       ∙ ap (λ (g : ItemFinder). answered (state g (put t 0 (wordsAt n f 0)))) finder-is
       ∙ ap (λ (us : List ℕ). answered (state (σ .finder) (put t 0 us))) words-are
 
+  -- R-10's loader takes it by the same form
+  either-is : (F ≡ narrow) ⊎ (F ≡ wide) → trailerOfEither f ≡ answered tail
+  either-is (inl e) = either-narrow f (one-tag f (length f - 4) (subst (λ (G : Form). spells f (length f - 4) (G .letters) ≡ true) e tagged)) ∙ ap (λ (G : Form). trailerBy G f) (sym e) ∙ tail-is
+  either-is (inr e) = either-wide f (subst (λ (G : Form). spells f (length f - 4) (G .letters) ≡ true) e tagged) ∙ ap (λ (G : Form). trailerBy G f) (sym e) ∙ tail-is
+
+-- the first bytes of the buffer are the file
+file-first : (o f : List ℕ) (a : Answer (List ℕ)) → a ≡ answered f → length f ≤ length o → take (length f) (bufferAfter o a) ≡ f
+file-first o f a e l = ap (λ (w : Answer (List ℕ)). take (length f) (bufferAfter o w)) e ∙ first-of o f l
+
 pub round-trip : RoundTrip
-unfolding RoundTrip
+unfolding TripOf
 round-trip s o t h σ f oct a pl some e l =
-    let x : Kept s h σ (length o) f = kept s h σ (length o) f a e in
-    let g : length f ≡ 4 * σ .finder .held + 28 = length-is s t h σ f (length o) oct a pl some x l in
-    ap (λ (w : Answer (List ℕ)). loadOf s (take (length f) (bufferAfter o w)) t) e
-    ∙ ap (λ (bs : List ℕ). loadOf s bs t) (first-of o f (omega (arith, x .room)))
-    ∙ again s t h σ f (length o) oct a pl some x l
+    let x : Kept narrow s h σ (length o) f = kept narrow s h σ (length o) f (sym (save-header s σ (length o) (answered h) a) ∙ e) in
+    let g : length f ≡ 4 * σ .finder .held + 28 = length-is narrow narrow-sound s t h σ f (length o) oct a pl some (omega arith) x l in
+    ap (λ (bs : List ℕ). loadOf s bs t) (file-first o f _ e (omega (arith, x .room)))
+    ∙ load-trailer s f t h _ a (tail-is narrow narrow-sound s t h σ f (length o) oct a pl some (omega arith) x l)
+    ∙ again narrow narrow-sound s t h σ f (length o) oct a pl some (omega arith) x l
+
+-- of the form that the places are written in
+trip-by : (F : Form) (s o t : List ℕ) (h : Header) (σ : State) (f : List ℕ) → Sound F → (F ≡ narrow) ⊎ (F ≡ wide) → F .least ≤ σ .finder .held → formFor (σ .finder .held) ≡ F
+    → Octets s → headerOf s ≡ answered h → Placed s (h .«header_size») σ → (h .«minimum_index» < h .«maximum_index» → 0 < σ .finder .held)
+    → saveWideOf s σ (length o) ≡ answered f → σ .finder .held ≤ length t
+    → loadWideOf s (take (length f) (bufferAfter o (saveWideOf s σ (length o)))) t ≡ answered (state (σ .finder) (put t 0 (take (σ .finder .held) (σ .table))))
+trip-by F s o t h σ f sound either m g oct a pl some e l =
+    let w : saveFor F (length s) σ (length o) h ≡ answered f = ap (λ (G : Form). saveFor G (length s) σ (length o) h) (sym g) ∙ sym (save-wide-header s σ (length o) (answered h) a) ∙ e in
+    let x : Kept F s h σ (length o) f = kept F s h σ (length o) f w in
+    let n : length f ≡ 4 * σ .finder .held + trailerSize F = length-is F sound s t h σ f (length o) oct a pl some m x l in
+    ap (λ (bs : List ℕ). loadWideOf s bs t) (file-first o f _ e (omega (arith, x .room)))
+    ∙ load-wide-trailer s f t h _ a (either-is F sound s t h σ f (length o) oct a pl some m x l either)
+    ∙ again F sound s t h σ f (length o) oct a pl some m x l
+
+pub wide-trip : WideTrip
+unfolding TripOf
+wide-trip s o t h σ f oct a pl some e l = go (ltb 65535 (σ .finder .held)) refl
+  where
+    go : (b : Bool) → ltb 65535 (σ .finder .held) ≡ b
+        → loadWideOf s (take (length f) (bufferAfter o (saveWideOf s σ (length o)))) t ≡ answered (state (σ .finder) (put t 0 (take (σ .finder .held) (σ .table))))
+    go true q =
+        let n : 65535 < σ .finder .held = ltb-true _ _ q in
+        trip-by wide s o t h σ f wide-sound (inr refl) (omega arith) (form-wide (σ .finder .held) n) oct a pl some e l
+    go false q =
+        let n : σ .finder .held ≤ 65535 = ltb-false _ _ q in
+        trip-by narrow s o t h σ f narrow-sound (inl refl) (omega arith) (form-narrow (σ .finder .held) n) oct a pl some e l
+
+-- ---- the two loaders
+pub loaders-agree : LoadersAgree
+loaders-agree = record {
+  on-narrow = λ s f t e. agree s f t (either-narrow f (one-tag f (length f - 4) e));
+  on-wide = λ s f t e. other s f t (not-narrow f e);
+}
+  where
+    agree : (s f t : List ℕ) → trailerOfEither f ≡ trailerOf f → loadWideOf s f t ≡ loadOf s f t
+    agree s f t g = load-wide-header s f t (headerOf s) refl ∙ ap (λ (k : Answer Trailer). then (headerOf s) (λ h. then k (loadFor s f t h))) g ∙ sym (load-header s f t (headerOf s) refl)
+
+    other : (s f t : List ℕ) → trailerOf f ≡ refused 20 [] → loadOf s f t ≡ then (headerOf s) (λ h. refused 20 [])
+    other s f t g = load-header s f t (headerOf s) refl ∙ ap (λ (k : Answer Trailer). then (headerOf s) (λ h. then k (loadFor s f t h))) g
+
+    not-narrow : (f : List ℕ) → spells f (length f - 4) (wide .letters) ≡ true → trailerOf f ≡ refused 20 []
+    not-narrow f e = go (ltb (length f) 28) refl
+      where
+        go : (b : Bool) → ltb (length f) 28 ≡ b → trailerOf f ≡ refused 20 []
+        go true q = trailer-short narrow f (ltb-true _ _ q)
+        go false q = trailer-letters narrow f (ltb-false _ _ q) (other-tag f (length f - 4) e)

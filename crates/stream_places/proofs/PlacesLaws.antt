@@ -19,8 +19,8 @@ use Rattle.stream_item.specs.Links.{Walk, reached, broke, chain}
 use Rattle.stream_item.proofs.LinkLaws.{link-broken, chain-break, chain-stays, chain-bounds}
 use Rattle.stream_item.proofs.NextLaws.{passed}
 use Rattle.stream_finder.specs.Finder.{State, state, holding}
-use Rattle.stream_places.specs.File.{wordBytes, trailerBytes, wordsAt, trailerOf}
-use Rattle.stream_places.specs.Places.{ends, follows, onChain, Takes, loadFor, loadOf, trailerFor, fileOf, saveFor, saveOf, sizeIn, bufferAfter, saidSave, Saves}
+use Rattle.stream_places.specs.File.{Form, narrow, trailerSize, wordBytes, trailerBytes, wordsAt, trailerOf, trailerOfEither}
+use Rattle.stream_places.specs.Places.{ends, follows, onChain, Takes, loadFor, loadOf, loadWideOf, trailerFor, fileOf, formFor, saveFor, saveOf, saveWideOf, sizeIn, bufferAfter, saidSave, Saves}
 use Rattle.stream_places.specs.declared.trailer.Trailer.{Trailer}
 use Rattle.stream_places.specs.declared.SaveAnswer.{SaveAnswer}
 use Rattle.stream_places.specs.declared.SaveAnswer.the-variants as save
@@ -152,13 +152,21 @@ pub load-trailer : (s f t : List ℕ) (h : Header) (a : Answer Trailer) → head
 unfolding loadOf
 load-trailer s f t h a e g = rw (e, g)
 
+pub load-wide-header : (s f t : List ℕ) (a : Answer Header) → headerOf s ≡ a → loadWideOf s f t ≡ then a (λ h. then (trailerOfEither f) (loadFor s f t h))
+unfolding loadWideOf
+load-wide-header s f t a e = rw e
+
+pub load-wide-trailer : (s f t : List ℕ) (h : Header) (a : Answer Trailer) → headerOf s ≡ answered h → trailerOfEither f ≡ a → loadWideOf s f t ≡ then a (loadFor s f t h)
+unfolding loadWideOf
+load-wide-trailer s f t h a e g = rw (e, g)
+
 -- ---- the outcomes of saving
-module _ (bytes : ℕ) (σ : State) (room : ℕ) (h : Header) where
-  pub save-minimum : (σ .finder .«minimum_index» ≡ h .«minimum_index» → ⊥) → saveFor bytes σ room h ≡ refused 21 []
+module _ (F : Form) (bytes : ℕ) (σ : State) (room : ℕ) (h : Header) where
+  pub save-minimum : (σ .finder .«minimum_index» ≡ h .«minimum_index» → ⊥) → saveFor F bytes σ room h ≡ refused 21 []
   unfolding saveFor
   save-minimum e = simp (ne-eqb _ _ e)
 
-  pub save-maximum : σ .finder .«minimum_index» ≡ h .«minimum_index» → (σ .finder .«maximum_index» ≡ h .«maximum_index» → ⊥) → saveFor bytes σ room h ≡ refused 21 []
+  pub save-maximum : σ .finder .«minimum_index» ≡ h .«minimum_index» → (σ .finder .«maximum_index» ≡ h .«maximum_index» → ⊥) → saveFor F bytes σ room h ≡ refused 21 []
   unfolding saveFor
   save-maximum a e = simp (eq-eqb _ _ a, ne-eqb _ _ e)
 
@@ -167,31 +175,56 @@ module _ (bytes : ℕ) (σ : State) (room : ℕ) (h : Header) where
     pub minimum : σ .finder .«minimum_index» ≡ h .«minimum_index»
     pub maximum : σ .finder .«maximum_index» ≡ h .«maximum_index»
 
-  pub save-shift : Bounds → 6 < σ .finder .shift → saveFor bytes σ room h ≡ refused 26 []
+  pub save-shift : Bounds → 6 < σ .finder .shift → saveFor F bytes σ room h ≡ refused 26 []
   unfolding saveFor
   save-shift b e = simp (eq-eqb _ _ (b .minimum), eq-eqb _ _ (b .maximum), lt-ltb _ _ e)
 
-  pub save-claims : Bounds → σ .finder .shift ≤ 6 → length (σ .table) < σ .finder .held → saveFor bytes σ room h ≡ refused 13 []
+  pub save-claims : Bounds → σ .finder .shift ≤ 6 → length (σ .table) < σ .finder .held → saveFor F bytes σ room h ≡ refused 13 []
   unfolding saveFor
   save-claims b a e = simp (eq-eqb _ _ (b .minimum), eq-eqb _ _ (b .maximum), le-ltb _ _ a, lt-ltb _ _ e)
 
-  pub save-many : Bounds → σ .finder .shift ≤ 6 → σ .finder .held ≤ length (σ .table) → 65535 < σ .finder .held → saveFor bytes σ room h ≡ refused 13 []
+  pub save-many : Bounds → σ .finder .shift ≤ 6 → σ .finder .held ≤ length (σ .table) → F .most < σ .finder .held → saveFor F bytes σ room h ≡ refused 13 []
   unfolding saveFor
   save-many b a c e = simp (eq-eqb _ _ (b .minimum), eq-eqb _ _ (b .maximum), le-ltb _ _ a, le-ltb _ _ c, lt-ltb _ _ e)
 
-  pub save-room : Bounds → σ .finder .shift ≤ 6 → σ .finder .held ≤ length (σ .table) → σ .finder .held ≤ 65535 → room < 4 * σ .finder .held + 28
-      → saveFor bytes σ room h ≡ refused 19 []
+  pub save-room : Bounds → σ .finder .shift ≤ 6 → σ .finder .held ≤ length (σ .table) → σ .finder .held ≤ F .most → room < 4 * σ .finder .held + trailerSize F
+      → saveFor F bytes σ room h ≡ refused 19 []
   unfolding saveFor
   save-room b a c d e = simp (eq-eqb _ _ (b .minimum), eq-eqb _ _ (b .maximum), le-ltb _ _ a, le-ltb _ _ c, le-ltb _ _ d, lt-ltb _ _ e)
 
-  pub save-done : Bounds → σ .finder .shift ≤ 6 → σ .finder .held ≤ length (σ .table) → σ .finder .held ≤ 65535 → 4 * σ .finder .held + 28 ≤ room
-      → saveFor bytes σ room h ≡ answered (fileOf h bytes σ)
+  pub save-done : Bounds → σ .finder .shift ≤ 6 → σ .finder .held ≤ length (σ .table) → σ .finder .held ≤ F .most → 4 * σ .finder .held + trailerSize F ≤ room
+      → saveFor F bytes σ room h ≡ answered (fileOf F h bytes σ)
   unfolding saveFor
   save-done b a c d e = simp (eq-eqb _ _ (b .minimum), eq-eqb _ _ (b .maximum), le-ltb _ _ a, le-ltb _ _ c, le-ltb _ _ d, le-ltb _ _ e)
 
-pub save-header : (s : List ℕ) (σ : State) (room : ℕ) (a : Answer Header) → headerOf s ≡ a → saveOf s σ room ≡ then a (saveFor (length s) σ room)
+pub save-header : (s : List ℕ) (σ : State) (room : ℕ) (a : Answer Header) → headerOf s ≡ a → saveOf s σ room ≡ then a (saveFor narrow (length s) σ room)
 unfolding saveOf
 save-header s σ room a e = rw e
+
+pub save-wide-header : (s : List ℕ) (σ : State) (room : ℕ) (a : Answer Header) → headerOf s ≡ a
+    → saveWideOf s σ room ≡ then a (saveFor (formFor (σ .finder .held)) (length s) σ room)
+unfolding saveWideOf
+save-wide-header s σ room a e = rw e
+
+-- the file with its trailer as the code has it
+pub file-by : (F : Form) (bytes : ℕ) (σ : State) (h : Header) (d : ℕ) → d ≡ 4 * σ .finder .held + trailerSize F
+    → fileOf F h bytes σ
+    ≡ wordBytes (take (σ .finder .held) (σ .table))
+    ++ trailerBytes F (record {
+      count = σ .finder .held;
+      shift = σ .finder .shift;
+      «minimum_index» = h .«minimum_index»;
+      «maximum_index» = h .«maximum_index»;
+      «stream_length» = bytes;
+      «header_size» = h .«header_size»;
+      distance = d;
+    })
+unfolding fileOf
+file-by F bytes σ h d e = rw e
+
+-- by the form as the code has it
+pub save-wide-by : (F : Form) (s : List ℕ) (σ : State) (room : ℕ) (h : Header) → headerOf s ≡ answered h → F ≡ formFor (σ .finder .held) → saveWideOf s σ room ≡ saveFor F (length s) σ room h
+save-wide-by F s σ room h e g = save-wide-header s σ room (answered h) e ∙ ap (λ (G : Form). saveFor G (length s) σ room h) (sym g)
 
 -- the contract from the case that holds
 pub saves : (o : List ℕ) (x : Answer (List ℕ)) (r : SaveAnswer) (o′ : List ℕ) (a : Answer (List ℕ)) → x ≡ a → saidSave r ≡ sizeIn a → o′ ≡ bufferAfter o a → Saves o x r o′

@@ -1,12 +1,14 @@
 -- R-3 of document 02, what is promised: loading "yields a finder for which demand 3 reads with N = 8 × (places − 1)", by R-7 N = 2^s × (places − 1);
 -- what `save` wrote is loaded again as it was; and a file that is loaded is what `save` writes of the finder and the table that it yields, so
--- that there is one file for them.
+-- that there is one file for them. R-10's pair of functions keeps the same promises, of both forms together, so that a table has one file and not one
+-- of each form; and the two loaders agree on R-3's files.
 use Prim.Native.Nat.{ℕ, _+_, _-_, _*_, _/_, _^_, _≤_, _<_}
 use mathlib.Core.Path.{_≡_}
-use mathlib.Core.List.{List}
+use mathlib.Core.Bool.{true}
+use mathlib.Core.List.{List, []}
 use lib.ListN.{length, take}
 use lib.Dec.{eqb, ltb}
-use Rattle.answer.specs.Answer.{answered}
+use Rattle.answer.specs.Answer.{Answer, answered, refused, then}
 use Rattle.field_put.specs.Bytes.{put, Octets}
 use Rattle.stream_header.specs.Header.{headerOf}
 use Rattle.stream_header.specs.declared.Header.{Header}
@@ -16,7 +18,8 @@ use Rattle.stream_finder.specs.Finder.{State, state, holding, findOf}
 use Rattle.stream_finder.specs.Places.{Placed}
 use Rattle.stream_finder.specs.Demand.{looked, numberGiven}
 use Rattle.stream_finder.specs.Shared.{Serves}
-use Rattle.stream_places.specs.Places.{loadOf, saveOf, bufferAfter}
+use Rattle.stream_places.specs.File.{narrow, wide, spells}
+use Rattle.stream_places.specs.Places.{loadOf, loadWideOf, saveOf, saveWideOf, bufferAfter}
 
 -- ---- lookups of a loaded finder
 
@@ -38,36 +41,63 @@ pub record Loaded (tag : Stream) (s : List ℕ) (h : Header) (τ : State) : Type
       → eqb (numberGiven (findOf s τ (indexIn tag (h .«minimum_index» + d)))) 9
       ≡ ltb (recordsOf τ / 2 ^ τ .finder .shift) (d / 2 ^ τ .finder .shift)
 
-unfoldable pub LoadServes : Type 0
-LoadServes =
+-- of a loader
+unfoldable pub Serving : (List ℕ → List ℕ → List ℕ → Answer State) → Type 0
+Serving load =
     (tag : Stream) (s f t : List ℕ) (h : Header) (τ : State)
     → headerOf s ≡ answered h
-    → loadOf s f t ≡ answered τ
+    → load s f t ≡ answered τ
     → Loaded tag s h τ
+
+abbrev pub LoadServes : Type 0
+LoadServes = Serving loadOf
+
+abbrev pub WideServes : Type 0
+WideServes = Serving loadWideOf
 
 -- ---- what was saved is loaded
 
 -- of a finder whose places are on the chain, and that has one if the stream counts a record: the first bytes of the buffer after `save` are
 -- loaded into any table with room for them, as the same finder with the same places
-unfoldable pub RoundTrip : Type 0
-RoundTrip =
+unfoldable pub TripOf : (List ℕ → State → ℕ → Answer (List ℕ)) → (List ℕ → List ℕ → List ℕ → Answer State) → Type 0
+TripOf save load =
     (s o t : List ℕ) (h : Header) (σ : State) (f : List ℕ)
     → Octets s
     → headerOf s ≡ answered h
     → Placed s (h .«header_size») σ
     → (h .«minimum_index» < h .«maximum_index» → 0 < σ .finder .held)
-    → saveOf s σ (length o) ≡ answered f
+    → save s σ (length o) ≡ answered f
     → σ .finder .held ≤ length t
-    → loadOf s (take (length f) (bufferAfter o (saveOf s σ (length o)))) t
+    → load s (take (length f) (bufferAfter o (save s σ (length o)))) t
     ≡ answered (state (σ .finder) (put t 0 (take (σ .finder .held) (σ .table))))
+
+abbrev pub RoundTrip : Type 0
+RoundTrip = TripOf saveOf loadOf
+
+abbrev pub WideTrip : Type 0
+WideTrip = TripOf saveWideOf loadWideOf
 
 -- ---- one encoding
 
 -- what was loaded is saved as the same file, into any buffer that has room for it
-unfoldable pub OneEncoding : Type 0
-OneEncoding =
+unfoldable pub Encoding : (List ℕ → List ℕ → List ℕ → Answer State) → (List ℕ → State → ℕ → Answer (List ℕ)) → Type 0
+Encoding load save =
     (s f t : List ℕ) (τ : State) (room : ℕ)
     → Octets f
-    → loadOf s f t ≡ answered τ
+    → load s f t ≡ answered τ
     → length f ≤ room
-    → saveOf s τ room ≡ answered f
+    → save s τ room ≡ answered f
+
+abbrev pub OneEncoding : Type 0
+OneEncoding = Encoding loadOf saveOf
+
+-- over both forms together
+abbrev pub OneEncodingWide : Type 0
+OneEncodingWide = Encoding loadWideOf saveWideOf
+
+-- ---- the two loaders
+
+-- on a file that ends in PTIX they agree, in the answer and so in the table; one that ends in PTIY is 20 to the old one, behind the stream's own
+pub record LoadersAgree : Type 0 where
+  pub on-narrow : (s f t : List ℕ) → spells f (length f - 4) (narrow .letters) ≡ true → loadWideOf s f t ≡ loadOf s f t
+  pub on-wide : (s f t : List ℕ) → spells f (length f - 4) (wide .letters) ≡ true → loadOf s f t ≡ then (headerOf s) (λ h. refused 20 [])

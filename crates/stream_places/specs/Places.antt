@@ -3,6 +3,8 @@
 -- 20 trailer or length wrong, 21 made for another stream, 22 a place is not on the chain, 13 when count passes 65,535 or the lent table is
 -- short; the order is the stream's own, 20, 21, 13, 22. The writer gives the stream's own, 21 for a finder with other bounds, 13, then 19."
 -- With R-7: a block is 2^shift links, and 26 comes right before the writer's 13.
+-- R-10: "A table that fits the old form is still written in the old form [..]. The new loader takes both; an old loader meets PTIY with 20 and shows
+-- nothing. Refusals: 13 now stands for more than 65,535 only in the old writer; the new writer gives it when the distance passes 4,294,967,295."
 use Prim.Native.Nat.{ℕ, _+_, _*_, _^_}
 use mathlib.Core.Path.{_≡_}
 use mathlib.Core.Bool.{Bool, true, false, not}
@@ -16,7 +18,7 @@ use Rattle.stream_header.specs.Header.{headerOf}
 use Rattle.stream_header.specs.declared.Header.{Header}
 use Rattle.stream_item.specs.Links.{Walk, reached, broke, chain}
 use Rattle.stream_finder.specs.Finder.{State, state, holding}
-use Rattle.stream_places.specs.File.{wordBytes, trailerBytes, wordsAt, trailerOf}
+use Rattle.stream_places.specs.File.{Form, narrow, wide, trailerSize, wordBytes, trailerBytes, wordsAt, trailerOf, trailerOfEither}
 use Rattle.stream_places.specs.declared.trailer.Trailer.{Trailer}
 use Rattle.stream_places.specs.declared.SaveAnswer.{SaveAnswer}
 use Rattle.stream_places.specs.declared.SaveAnswer.the-variants as save
@@ -62,38 +64,50 @@ loadFor s f t h k =
 unfoldable pub loadOf : List ℕ → List ℕ → List ℕ → Answer State
 loadOf s f t = then (headerOf s) (λ h. then (trailerOf f) (loadFor s f t h))
 
+-- the same of either form
+unfoldable pub loadWideOf : List ℕ → List ℕ → List ℕ → Answer State
+loadWideOf s f t = then (headerOf s) (λ h. then (trailerOfEither f) (loadFor s f t h))
+
 -- ---- saving
 
 -- the trailer for n places of shift, of a stream of so many bytes with the header h
-abbrev pub trailerFor : Header → ℕ → ℕ → ℕ → Trailer
-trailerFor h bytes shift n = record {
+abbrev pub trailerFor : Form → Header → ℕ → ℕ → ℕ → Trailer
+trailerFor form h bytes shift n = record {
   count = n;
   shift = shift;
   «minimum_index» = h .«minimum_index»;
   «maximum_index» = h .«maximum_index»;
   «stream_length» = bytes;
   «header_size» = h .«header_size»;
-  distance = 4 * n + 28;
+  distance = 4 * n + trailerSize form;
 }
 
 -- the file of a finder's places
-unfoldable pub fileOf : Header → ℕ → State → List ℕ
-fileOf h bytes σ = wordBytes (take (σ .finder .held) (σ .table)) ++ trailerBytes (trailerFor h bytes (σ .finder .shift) (σ .finder .held))
+unfoldable pub fileOf : Form → Header → ℕ → State → List ℕ
+fileOf form h bytes σ =
+    wordBytes (take (σ .finder .held) (σ .table)) ++ trailerBytes form (trailerFor form h bytes (σ .finder .shift) (σ .finder .held))
 
--- of a stream of so many bytes with the header h, into a buffer of `room` bytes: 21 (the bounds), 26, 13 (the claim, or more places than a
--- trailer counts), 19
-unfoldable pub saveFor : ℕ → State → ℕ → Header → Answer (List ℕ)
-saveFor bytes σ room h =
+-- of a stream of so many bytes with the header h, into a buffer of `room` bytes: 21 (the bounds), 26, 13 (the claim, or more places than the form
+-- has), 19
+unfoldable pub saveFor : Form → ℕ → State → ℕ → Header → Answer (List ℕ)
+saveFor form bytes σ room h =
     stop (not (eqb (σ .finder .«minimum_index») (h .«minimum_index»))) 21
     (stop (not (eqb (σ .finder .«maximum_index») (h .«maximum_index»))) 21
     (stop (ltb 6 (σ .finder .shift)) 26
     (stop (ltb (length (σ .table)) (σ .finder .held)) 13
-    (stop (ltb 65535 (σ .finder .held)) 13
-    (stop (ltb room (4 * σ .finder .held + 28)) 19
-    (answered (fileOf h bytes σ)))))))
+    (stop (ltb (form .most) (σ .finder .held)) 13
+    (stop (ltb room (4 * σ .finder .held + trailerSize form)) 19
+    (answered (fileOf form h bytes σ)))))))
 
 unfoldable pub saveOf : List ℕ → State → ℕ → Answer (List ℕ)
-saveOf s σ room = then (headerOf s) (saveFor (length s) σ room)
+saveOf s σ room = then (headerOf s) (saveFor narrow (length s) σ room)
+
+-- "a table that fits the old form is still written in the old form"
+abbrev pub formFor : ℕ → Form
+formFor n = pick (ltb 65535 n) wide narrow
+
+unfoldable pub saveWideOf : List ℕ → State → ℕ → Answer (List ℕ)
+saveWideOf s σ room = then (headerOf s) (saveFor (formFor (σ .finder .held)) (length s) σ room)
 
 -- ---- what the answers say
 

@@ -1,9 +1,10 @@
 // The places of a finder, kept in a file beside its stream, so that opening a large library need not walk it: document 02, R-3. `save` writes
-// the file into a lent buffer, `load` reads it into a lent table. trailer.rt has the file's last 28 bytes.
+// the file into a lent buffer, `load` reads it into a lent table. A file of 65,535 places, which is as many as they count, is 262,168 bytes; at
+// shift 3 it serves 524,280 records. `save_wide` and `load_wide` are R-10's: they write and read the same files up to there, and above them files of
+// a second form, up to 1,073,741,816 places. trailer.rt has the end of a file.
 //
 // Loading goes over every link up to the last place once, to see that the places are on the chain: it reads the u16 length of each link, and
-// nothing else of the stream but its header. A file of 65,535 places, which is as many as a trailer counts, is 262,168 bytes; at shift 3 it
-// serves 524,280 records.
+// nothing else of the stream but its header.
 pub mod trailer;
 
 ghost use mathlib.Core.Path.{_≡_};
@@ -13,11 +14,11 @@ ghost use lib.Dec.{eqb, ltb};
 ghost use lib.ListN.{length, take};
 ghost use Rattle.answer.specs.Answer.{both};
 ghost use Rattle.field.specs.Fields.{littleAt};
-ghost use Rattle.field_put.specs.Bytes.{put, Room, Puts};
+ghost use Rattle.field_put.specs.Bytes.{bytes, put, Room, Puts};
 ghost use Rattle.stream_item.specs.Links.{chain};
 ghost use Rattle.stream_finder.specs.Finder.{state, Fills};
-ghost use Rattle.stream_places.specs.File.{wordsAt, wordBytes, trailerBytes};
-ghost use Rattle.stream_places.specs.Places.{ends, onChain, Takes, loadFor, loadOf, saveFor, saveOf, Saves};
+ghost use Rattle.stream_places.specs.File.{formIn, wordsAt, wordBytes, trailerBytes};
+ghost use Rattle.stream_places.specs.Places.{ends, onChain, Takes, loadFor, loadOf, loadWideOf, formFor, saveFor, saveOf, saveWideOf, Saves};
 use answer::Refusal;
 use field::fixed;
 use field::fixed::Read8;
@@ -30,10 +31,63 @@ use stream_header::HeaderAnswer;
 use trailer::Trailer;
 use trailer::TrailerAnswer;
 
-// The most places that a file has, and the largest shift.
-const MOST: usize = 65535;
-
 const LARGEST_SHIFT: u32 = 6;
+
+// The two forms of a file: its count in two bytes, R-3's, and in four, R-10's.
+enum Width {
+    Narrow,
+    Wide,
+}
+
+// How many bytes the count has.
+fn width_of(w: Width) -> usize
+    ensures { λ r. ⌜ (r ≡ formIn w .width) × (r ≤ 4) ⌝ }
+{
+    match w {
+        Width::Narrow => 2,
+        Width::Wide => 4,
+    }
+}
+
+// The letters at the end.
+fn letters_of(w: Width) -> [u8; 4]
+    ensures { λ r. ⌜ r ≡ formIn w .letters ⌝ }
+{
+    match w {
+        Width::Narrow => *b"PTIX",
+        Width::Wide => *b"PTIY",
+    }
+}
+
+// The fewest places: below them the other form is written.
+fn least_of(w: Width) -> u32
+    ensures { λ r. ⌜ r ≡ formIn w .least ⌝ }
+{
+    match w {
+        Width::Narrow => 0,
+        Width::Wide => 65536,
+    }
+}
+
+// The most places.
+fn most_of(w: Width) -> usize
+    ensures { λ r. ⌜ (r ≡ formIn w .most) × (r ≤ 1073741816) ⌝ }
+{
+    match w {
+        Width::Narrow => 65535,
+        Width::Wide => 1073741816,
+    }
+}
+
+// The form that n places are written in.
+fn width_for(n: usize) -> Width
+    ensures { λ r. ⌜ formIn r ≡ formFor n ⌝ }
+{
+    if n > 65535 {
+        return Width::Wide;
+    }
+    Width::Narrow
+}
 
 // How many bytes a file takes.
 pub enum SaveAnswer {
@@ -72,6 +126,19 @@ pub fn load(s: &[u8], f: &[u8], t: &mut [u32]) -> FinderAnswer
 {
     match Header::parse(s) {
         HeaderAnswer::Answered(h) => match Trailer::parse(f) {
+            TrailerAnswer::Answered(k) => loaded(s, f, t, h, k),
+            TrailerAnswer::Refused(e) => FinderAnswer::Refused(e),
+        },
+        HeaderAnswer::Refused(e) => FinderAnswer::Refused(e),
+    }
+}
+
+// The same of a file of either form.
+pub fn load_wide(s: &[u8], f: &[u8], t: &mut [u32]) -> FinderAnswer
+    ensures { λ r. ⌜ Fills (now (t .entry)) (loadWideOf (now (s .entry)) (now (f .entry)) (now (t .entry))) r (now (t .exit)) ⌝ }
+{
+    match Header::parse(s) {
+        HeaderAnswer::Answered(h) => match Trailer::parse_wide(f) {
             TrailerAnswer::Answered(k) => loaded(s, f, t, h, k),
             TrailerAnswer::Refused(e) => FinderAnswer::Refused(e),
         },
@@ -214,15 +281,28 @@ pub fn save(s: &[u8], f: ItemFinder, t: &[u32], out: &mut [u8]) -> SaveAnswer
     ensures { λ r. ⌜ Saves (now (out .entry)) (saveOf (now (s .entry)) (state f (now (t .entry))) (length (now (out .entry)))) r (now (out .exit)) ⌝ }
 {
     match Header::parse(s) {
-        HeaderAnswer::Answered(h) => saved(s.len(), f, t, out, h),
+        HeaderAnswer::Answered(h) => saved(s.len(), f, t, out, h, Width::Narrow),
         HeaderAnswer::Refused(e) => SaveAnswer::Refused(e),
     }
 }
 
-// The same, of a stream of n bytes that has this header.
-fn saved(n: usize, f: ItemFinder, t: &[u32], out: &mut [u8], h: Header) -> SaveAnswer
+// The same in the form that holds the places: R-3's up to 65,535 of them, R-10's above.
+pub fn save_wide(s: &[u8], f: ItemFinder, t: &[u32], out: &mut [u8]) -> SaveAnswer
+    ensures { λ r. ⌜ Saves (now (out .entry)) (saveWideOf (now (s .entry)) (state f (now (t .entry))) (length (now (out .entry)))) r (now (out .exit)) ⌝ }
+{
+    match Header::parse(s) {
+        HeaderAnswer::Answered(h) => {
+            let w = width_for(f.held);
+            saved(s.len(), f, t, out, h, w)
+        }
+        HeaderAnswer::Refused(e) => SaveAnswer::Refused(e),
+    }
+}
+
+// The file of this form, of a stream of n bytes that has this header.
+fn saved(n: usize, f: ItemFinder, t: &[u32], out: &mut [u8], h: Header, w: Width) -> SaveAnswer
     requires { ⌜ n ≤ 4294967294 ⌝ }
-    ensures { λ r. ⌜ Saves (now (out .entry)) (saveFor n (state f (now (t .entry))) (length (now (out .entry))) h) r (now (out .exit)) ⌝ }
+    ensures { λ r. ⌜ Saves (now (out .entry)) (saveFor (formIn w) n (state f (now (t .entry))) (length (now (out .entry))) h) r (now (out .exit)) ⌝ }
 {
     let minimum = h.minimum_index;
     let maximum = h.maximum_index;
@@ -241,15 +321,15 @@ fn saved(n: usize, f: ItemFinder, t: &[u32], out: &mut [u8], h: Header) -> SaveA
     if t.len() < held {
         return SaveAnswer::Refused(Refusal::TableFull);
     }
-    if held > MOST {
+    if held > most_of(w) {
         return SaveAnswer::Refused(Refusal::TableFull);
     }
-    let size = 4 * held + trailer::SIZE;
+    let size = 4 * held + width_of(w) + 26;
     if out.len() < size {
         return SaveAnswer::Refused(Refusal::NoRoom);
     }
     let k = Trailer {
-        count: held as u16,
+        count: held as u32,
         shift: shift as u8,
         minimum_index: minimum,
         maximum_index: maximum,
@@ -258,7 +338,7 @@ fn saved(n: usize, f: ItemFinder, t: &[u32], out: &mut [u8], h: Header) -> SaveA
         distance: size as u32,
     };
     let p = put_words(out, 0, t, held);
-    SaveAnswer::Answered(put_trailer(out, p, k))
+    SaveAnswer::Answered(put_trailer(out, p, k, w))
 }
 
 // The first n numbers of t at place p of a buffer that has room for them; and the place after them.
@@ -275,10 +355,21 @@ fn put_words(out: &mut [u8], p: usize, t: &[u32], n: usize) -> usize
     to
 }
 
+// The count at place p of a buffer that has room for it; and the place after it.
+fn put_count(out: &mut [u8], p: usize, n: u32, w: Width) -> usize
+    requires { ⌜ Room (now out) p (bytes (formIn w .width) n) × (n ≤ formIn w .most) ⌝ }
+    ensures { λ r. ⌜ Puts (now (out .entry)) p (bytes (formIn w .width) n) r (now (out .exit)) ⌝ }
+{
+    match w {
+        Width::Narrow => field_put::put16(out, p, n as u16),
+        Width::Wide => field_put::put32(out, p, n),
+    }
+}
+
 // The trailer at place p of a buffer that has room for it; and the place after it.
-fn put_trailer(out: &mut [u8], p: usize, k: Trailer) -> usize
-    requires { ⌜ Room (now out) p (trailerBytes k) ⌝ }
-    ensures { λ r. ⌜ Puts (now (out .entry)) p (trailerBytes k) r (now (out .exit)) ⌝ }
+fn put_trailer(out: &mut [u8], p: usize, k: Trailer, w: Width) -> usize
+    requires { ⌜ Room (now out) p (trailerBytes (formIn w) k) × (k .count ≤ formIn w .most) ⌝ }
+    ensures { λ r. ⌜ Puts (now (out .entry)) p (trailerBytes (formIn w) k) r (now (out .exit)) ⌝ }
 {
     let numbers = [
         k.minimum_index,
@@ -287,9 +378,10 @@ fn put_trailer(out: &mut [u8], p: usize, k: Trailer) -> usize
         k.header_size,
         k.distance,
     ];
-    let p1 = field_put::put16(out, p, k.count);
+    let letters = letters_of(w);
+    let p1 = put_count(out, p, k.count, w);
     let p2 = field_put::put8(out, p1, k.shift);
     let p3 = field_put::put8(out, p2, 0);
     let p4 = put_words(out, p3, &numbers, 5);
-    field_put::put_all(out, p4, b"PTIX")
+    field_put::put_all(out, p4, &letters)
 }

@@ -5,7 +5,7 @@ use mathlib.Core.Path.{refl}
 use Rattle.answer.proofs.Told.{told}
 use Rattle.stream_header.specs.Header.{saidHeader}
 use Rattle.stream_finder.proofs.FinderLaws.{leaves, leaves-as}
-use Rattle.stream_places.specs.File.{saidTrailer}
+use Rattle.stream_places.specs.File.{narrow, saidTrailer}
 use Rattle.stream_places.proofs.FileLaws.{trailed}
 use Rattle.stream_places.proofs.PlacesLaws.{load-header, load-trailer, header-inside, header-short}
 use Rattle.stream_places.proofs.load.Statement.{statement}
@@ -13,7 +13,7 @@ use Rattle.stream_places.proofs.load.Tie as tie
 
 loaded-requires : tie.Need-loaded-requires
 loaded-requires c κs =
-    let k = trailed _ _ (told saidTrailer (c .before .before .before .before .parse2 .ensures) (c .before .before .k .given .1)) in
+    let k = trailed narrow _ _ (told saidTrailer (c .before .before .before .before .parse2 .ensures) (c .before .before .k .given .1)) in
     (header-short _ _ (told saidHeader (c .before .before .before .before .before .before .before .before .parse .ensures) (c .before .before .before .before .before .before .h .given .1)), k .shift, omega arith, header-inside _ _ (told saidHeader (c .before .before .before .before .before .before .before .before .parse .ensures) (c .before .before .before .before .before .before .h .given .1)))
 
 returns : tie.Need-returns
