@@ -1,8 +1,10 @@
 #!/usr/bin/env python3
-"""Document 02's R-3 written again in Python, from its text alone: `save` and `load` of a places file. make_vectors.py holds the port's vectors to it.
+"""Document 02's R-3 and R-10 written again in Python, from their text alone: `save` and `load` of a places file, `savewide` and `loadwide`.
+make_vectors.py holds the port's vectors to it.
 
     places.py save STREAM FILE [SHIFT]     keeps the places of a whole walk of STREAM in FILE, by blocks of 2^SHIFT records (3)
     places.py load STREAM FILE             says what FILE is loaded as for STREAM: `0 minimum maximum held=H shift=S`, or the refusal's number
+    places.py savewide .., loadwide ..     the same by R-10
 """
 import struct
 import sys
@@ -11,6 +13,9 @@ LETTERS = b"PTIX"
 TRAILER = 28
 LARGEST_SHIFT = 6
 MOST = 65535
+# R-10: "Counts become u32 under the tag PTIY, which makes that trailer 30 bytes."
+WIDE_LETTERS = b"PTIY"
+WIDE_TRAILER = 30
 
 
 class Refused(Exception):
@@ -52,6 +57,12 @@ def file_of(places, shift, low, high, length, size):
     return struct.pack(f"<{len(places)}I", *places) + struct.pack("<HBB5I", len(places), shift, 0, low, high, length, size, whole) + LETTERS
 
 
+def wide_file_of(places, shift, low, high, length, size):
+    """R-10's, whose distance is the file's length too."""
+    whole = 4 * len(places) + WIDE_TRAILER
+    return struct.pack(f"<{len(places)}I", *places) + struct.pack("<IBB5I", len(places), shift, 0, low, high, length, size, whole) + WIDE_LETTERS
+
+
 def save(room, shift, s, low, high, held, table):
     """"The writer gives the stream's own, 21 for a finder with other bounds, 13, then 19"; R-7: 26 "right before the first 13 at .. R-3's writer".
     13 is "when count passes 65,535 or the lent table is short"."""
@@ -67,6 +78,23 @@ def save(room, shift, s, low, high, held, table):
     return file_of(table[:held], shift, low, high, len(s), size)
 
 
+def save_wide(room, shift, s, low, high, held, table):
+    """"A table that fits the old form is still written in the old form"; "13 now stands for more than 65,535 only in the old writer; the new writer
+    gives it when the distance passes 4,294,967,295.\""""
+    if held <= MOST:
+        return save(room, shift, s, low, high, held, table)
+    mine_low, mine_high, size = header(s)
+    if (low, high) != (mine_low, mine_high):
+        raise Refused(21)
+    if shift > LARGEST_SHIFT:
+        raise Refused(26)
+    if held > len(table) or 4 * held + WIDE_TRAILER > 4294967295:
+        raise Refused(13)
+    if room < 4 * held + WIDE_TRAILER:
+        raise Refused(19)
+    return wide_file_of(table[:held], shift, low, high, len(s), size)
+
+
 def load(s, file, table):
     """"Loading checks that place 0 is header_size and that each later place is one block of links after its predecessor, then yields a finder .. No places
     is 20 unless the stream counts no records. Refusals: 20 trailer or length wrong, 21 made for another stream, 22 a place is not on the chain, 13 when
@@ -74,8 +102,26 @@ def load(s, file, table):
     low, high, size = header(s)
     if len(file) < TRAILER or file[-4:] != LETTERS:
         raise Refused(20)
-    count, shift, zero, its_low, its_high, its_length, its_size, distance = struct.unpack("<HBB5I", file[-TRAILER:-4])
-    if zero or shift > LARGEST_SHIFT or distance != len(file) or len(file) != 4 * count + TRAILER or (count == 0 and high > low):
+    return loaded(s, file, table, low, high, size, TRAILER, struct.unpack("<HBB5I", file[-TRAILER:-4]))
+
+
+def load_wide(s, file, table):
+    """"The new loader takes both", and "PTIY with a count up to 65,535 is 20"."""
+    low, high, size = header(s)
+    if file[-4:] != WIDE_LETTERS:
+        return load(s, file, table)
+    if len(file) < WIDE_TRAILER:
+        raise Refused(20)
+    fields = struct.unpack("<IBB5I", file[-WIDE_TRAILER:-4])
+    if fields[0] <= MOST:
+        raise Refused(20)
+    return loaded(s, file, table, low, high, size, WIDE_TRAILER, fields)
+
+
+def loaded(s, file, table, low, high, size, trailer, fields):
+    """What both do behind the letters."""
+    count, shift, zero, its_low, its_high, its_length, its_size, distance = fields
+    if zero or shift > LARGEST_SHIFT or distance != len(file) or len(file) != 4 * count + trailer or (count == 0 and high > low):
         raise Refused(20)
     if (its_low, its_high, its_length, its_size) != (low, high, len(s), size):
         raise Refused(21)
@@ -100,16 +146,16 @@ def walked(s, shift):
 
 # ---- as lines of PROTOCOL.md
 
-def save_line(room, shift, s, low, high, held, table):
+def save_line(room, shift, s, low, high, held, table, by=save):
     try:
-        return "0 " + save(room, shift, s, low, high, held, table).hex()
+        return "0 " + by(room, shift, s, low, high, held, table).hex()
     except Refused as e:
         return str(e.args[0])
 
 
-def load_line(s, file, table):
+def load_line(s, file, table, by=load):
     try:
-        (low, high, held, shift), table = load(s, file, table)
+        (low, high, held, shift), table = by(s, file, table)
         said = f"0 {low} {high} held={held} shift={shift}"
     except Refused as e:
         said = str(e.args[0])
@@ -118,21 +164,22 @@ def load_line(s, file, table):
 
 def main():
     words = sys.argv[1:]
-    if len(words) not in (3, 4) or words[0] not in ("save", "load"):
+    if len(words) not in (3, 4) or words[0] not in ("save", "load", "savewide", "loadwide"):
         print(__doc__)
         return 2
     with open(words[1], "rb") as f:
         s = f.read()
     try:
-        if words[0] == "save":
+        if words[0].startswith("save"):
             shift = int(words[3]) if len(words) == 4 else 3
             low, high, _ = header(s)
             places = walked(s, shift)
             with open(words[2], "wb") as f:
-                f.write(save(1 << 32, shift, s, low, high, len(places), places))
+                f.write((save if words[0] == "save" else save_wide)(1 << 32, shift, s, low, high, len(places), places))
         else:
             with open(words[2], "rb") as f:
-                print(load_line(s, f.read(), [0] * 65535).split(" ; ")[0])
+                file = f.read()
+                print(load_line(s, file, [0] * (len(file) // 4), load if words[0] == "load" else load_wide).split(" ; ")[0])
     except Refused as e:
         print(e.args[0])
         return 1
