@@ -4,7 +4,7 @@ use Rattle.record_layout.proofs.AsIn01.{as-in-01}
 use Rattle.claim_model.proofs.Demand2.{demand2}
 use Rattle.stream_finder.proofs.DemandProof.{demand3, demand3-every, not-indexed, not-indexed-every}
 use Rattle.stream_finder.proofs.SharedProof.{shared, of-runs}
-use Rattle.stream_places.proofs.KeptProof.{load-serves, round-trip, one-encoding}
+use Rattle.stream_places.proofs.KeptProof.{load-serves, wide-serves, round-trip, wide-trip, one-encoding, one-encoding-wide, loaders-agree}
 use Rattle.write_layout.proofs.RoundTripProof.{fields-read-back, record-reads-back}
 use Rattle.write_layout.proofs.Rewrite.{exactly-17}
 use Rattle.write_row.proofs.RowLaws.{rows-show}
@@ -49,6 +49,10 @@ demands = record {
   loaded = load-serves;
   saved-and-loaded = round-trip;
   one-file = one-encoding;
+  wide-loaded = wide-serves;
+  wide-saved-and-loaded = wide-trip;
+  wide-one-file = one-encoding-wide;
+  loaders = loaders-agree;
   given-places = places-when;
   fields-read-back = fields-read-back;
   records-read-back = record-reads-back;

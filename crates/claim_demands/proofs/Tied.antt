@@ -100,8 +100,11 @@ use Rattle.stream_item.proofs.iter.iter.Met as stream-item-iter-iter
 use Rattle.stream_item.proofs.iter.next.Met as stream-item-iter-next
 use Rattle.stream_item.proofs.link.link_of.Met as stream-item-link-link-of
 use Rattle.stream_places.proofs.load.Met as stream-places-load
+use Rattle.stream_places.proofs.load_wide.Met as stream-places-load-wide
 use Rattle.stream_places.proofs.save.Met as stream-places-save
+use Rattle.stream_places.proofs.save_wide.Met as stream-places-save-wide
 use Rattle.stream_places.proofs.trailer.Trailer.parse.Met as stream-places-trailer-trailer-parse
+use Rattle.stream_places.proofs.trailer.Trailer.parse_wide.Met as stream-places-trailer-trailer-parse-wide
 use Rattle.stream_view.proofs.bytes_of.Met as stream-view-bytes-of
 use Rattle.stream_view.proofs.raw_kind.Met as stream-view-raw-kind
 use Rattle.stream_view.proofs.view.Met as stream-view-view
@@ -266,8 +269,11 @@ tied = record {
   stream-item-iter-next = record { says = λ M 𝓤 H A mem run. refl; meets = λ M. stream-item-iter-next.met };
   stream-item-link-link-of = record { says = λ M 𝓤 H A mem run. refl; meets = λ M. stream-item-link-link-of.met };
   stream-places-load = record { says = λ M 𝓤 H A mem run. refl; meets = λ M. stream-places-load.met };
+  stream-places-load-wide = record { says = λ M 𝓤 H A mem run. refl; meets = λ M. stream-places-load-wide.met };
   stream-places-save = record { says = λ M 𝓤 H A mem run. refl; meets = λ M. stream-places-save.met };
+  stream-places-save-wide = record { says = λ M 𝓤 H A mem run. refl; meets = λ M. stream-places-save-wide.met };
   stream-places-trailer-trailer-parse = record { says = λ M 𝓤 H A mem run. refl; meets = λ M. stream-places-trailer-trailer-parse.met };
+  stream-places-trailer-trailer-parse-wide = record { says = λ M 𝓤 H A mem run. refl; meets = λ M. stream-places-trailer-trailer-parse-wide.met };
   stream-view-bytes-of = record { says = λ M 𝓤 H A mem run. refl; meets = λ M. stream-view-bytes-of.met };
   stream-view-view = record { says = λ M 𝓤 H A mem run. refl; meets = λ M. stream-view-view.met };
   stream-view-why = record { says = λ M 𝓤 H A mem run. refl; meets = λ M. stream-view-why.met };

@@ -8,7 +8,8 @@ use Rattle.record_layout.specs.Fields.{AsIn01}
 use Rattle.claim_model.specs.Demand2.{Demand2}
 use Rattle.stream_finder.specs.Demand.{Demand3, Demand3Every, NotIndexed, NotIndexedEvery}
 use Rattle.stream_finder.specs.Shared.{Shared}
-use Rattle.stream_places.specs.Kept.{LoadServes, RoundTrip, OneEncoding}
+use Rattle.stream_places.specs.File.{Form}
+use Rattle.stream_places.specs.Kept.{LoadServes, WideServes, RoundTrip, WideTrip, OneEncoding, OneEncodingWide, LoadersAgree}
 use Rattle.write_layout.specs.RoundTrip.{FieldsReadBack, RecordReadsBack, Exactly17}
 use Rattle.write_row.specs.Rows.{RowsShow}
 use Rattle.write_list.specs.ListsBack.{ListsReadBack}
@@ -67,8 +68,14 @@ pub record Demands : Type 2 where
   pub loaded : LoadServes
   pub saved-and-loaded : RoundTrip
   pub one-file : OneEncoding
-  -- and when each of its numbers is given: PlacesWhen.antt
-  pub given-places : PlacesWhen
+  -- R-10: the same of the new pair, over both forms together, N being a number that may pass 32 bits; on a file of the old form the two loaders agree, and
+  -- one of the new form is the stream's own or 20 to the old one
+  pub wide-loaded : WideServes
+  pub wide-saved-and-loaded : WideTrip
+  pub wide-one-file : OneEncodingWide
+  pub loaders : LoadersAgree
+  -- and when each of their numbers is given, of either form: PlacesWhen.antt
+  pub given-places : (form : Form) → PlacesWhen form
   -- document 02, R-1: "Reading back gives the fields, and writing those the same bytes", of every layout and of a record of every table; 17 exactly
   -- where no bytes read back: crates/write_layout/specs/RoundTrip.antt. Of the elements of the two lists, which are given as rows:
   -- crates/write_list/specs/ListsBack.antt, crates/write_row/specs/Rows.antt. Of a header, and of a stream of a written header and written records:

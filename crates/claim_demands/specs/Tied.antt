@@ -199,10 +199,16 @@ use Rattle.stream_item.proofs.link.link_of as stream-item-link-link-of-source
 use Rattle.stream_item.proofs.link.link_of.Symbol as stream-item-link-link-of-code
 use Rattle.stream_places.proofs.load as stream-places-load-source
 use Rattle.stream_places.proofs.load.Symbol as stream-places-load-code
+use Rattle.stream_places.proofs.load_wide as stream-places-load-wide-source
+use Rattle.stream_places.proofs.load_wide.Symbol as stream-places-load-wide-code
 use Rattle.stream_places.proofs.save as stream-places-save-source
 use Rattle.stream_places.proofs.save.Symbol as stream-places-save-code
+use Rattle.stream_places.proofs.save_wide as stream-places-save-wide-source
+use Rattle.stream_places.proofs.save_wide.Symbol as stream-places-save-wide-code
 use Rattle.stream_places.proofs.trailer.Trailer.parse as stream-places-trailer-trailer-parse-source
 use Rattle.stream_places.proofs.trailer.Trailer.parse.Symbol as stream-places-trailer-trailer-parse-code
+use Rattle.stream_places.proofs.trailer.Trailer.parse_wide as stream-places-trailer-trailer-parse-wide-source
+use Rattle.stream_places.proofs.trailer.Trailer.parse_wide.Symbol as stream-places-trailer-trailer-parse-wide-code
 use Rattle.stream_view.proofs.bytes_of as stream-view-bytes-of-source
 use Rattle.stream_view.proofs.bytes_of.Symbol as stream-view-bytes-of-code
 use Rattle.stream_view.proofs.raw_kind as stream-view-raw-kind-source
@@ -527,10 +533,16 @@ pub record Tied : Type 2 where
   pub stream-item-link-link-of : Tie stream-item-link-link-of-source.ended (λ M. stream-item-link-link-of-source.clauses) stream-item-link-link-of-code.routine (λ κs a r e. contract.stream-item-link-link-of (now (a .0)) (a .1 .0) (a .1 .1 .0) r)
   -- stream_places::load
   pub stream-places-load : Tie stream-places-load-source.ended (λ M. stream-places-load-source.clauses) stream-places-load-code.routine (λ κs a r e. contract.stream-places-load (now (a .0)) (now (a .1 .0)) (now (a .1 .1 .0)) r (now (e .1 .1 .0)))
+  -- stream_places::load_wide
+  pub stream-places-load-wide : Tie stream-places-load-wide-source.ended (λ M. stream-places-load-wide-source.clauses) stream-places-load-wide-code.routine (λ κs a r e. contract.stream-places-load-wide (now (a .0)) (now (a .1 .0)) (now (a .1 .1 .0)) r (now (e .1 .1 .0)))
   -- stream_places::save
   pub stream-places-save : Tie stream-places-save-source.ended (λ M. stream-places-save-source.clauses) stream-places-save-code.routine (λ κs a r e. contract.stream-places-save (now (a .0)) (a .1 .0) (now (a .1 .1 .0)) (now (a .1 .1 .1 .0)) r (now (e .1 .1 .1 .0)))
+  -- stream_places::save_wide
+  pub stream-places-save-wide : Tie stream-places-save-wide-source.ended (λ M. stream-places-save-wide-source.clauses) stream-places-save-wide-code.routine (λ κs a r e. contract.stream-places-save-wide (now (a .0)) (a .1 .0) (now (a .1 .1 .0)) (now (a .1 .1 .1 .0)) r (now (e .1 .1 .1 .0)))
   -- stream_places::trailer::Trailer::parse
   pub stream-places-trailer-trailer-parse : Tie stream-places-trailer-trailer-parse-source.ended (λ M. stream-places-trailer-trailer-parse-source.clauses) stream-places-trailer-trailer-parse-code.routine (λ κs a r e. contract.stream-places-trailer-trailer-parse (now (a .0)) r)
+  -- stream_places::trailer::Trailer::parse_wide
+  pub stream-places-trailer-trailer-parse-wide : Tie stream-places-trailer-trailer-parse-wide-source.ended (λ M. stream-places-trailer-trailer-parse-wide-source.clauses) stream-places-trailer-trailer-parse-wide-code.routine (λ κs a r e. contract.stream-places-trailer-trailer-parse-wide (now (a .0)) r)
   -- stream_view::bytes_of
   pub stream-view-bytes-of : Tie stream-view-bytes-of-source.ended (λ M. stream-view-bytes-of-source.clauses) stream-view-bytes-of-code.routine (λ κs a r e. contract.stream-view-bytes-of (now (a .0)) (now (a .1 .0)) (a .1 .1 .0) (now r))
   -- stream_view::view

@@ -4,7 +4,8 @@ use Rattle.stream_finder.specs.Finder.{state, createBy, updateOf}
 use mathlib.Core.Path.{sym, ap, _∙_}
 use lib.ListN.{length}
 use Rattle.stream_index.specs.Walk.{turnOf, saidEnd}
-use Rattle.stream_places.specs.Places.{loadOf, saveOf}
+use Rattle.stream_places.specs.File.{narrow, formOf}
+use Rattle.stream_places.specs.Places.{loadOf, loadWideOf, formFor, saveOf, saveWideOf}
 use Rattle.record_list.specs.Lists.{stepOf}
 use Rattle.claim_promises.proofs.ReadingRefuses.{fixed-refuses, signed-refuses, optional-refuses, string-refuses, counted-refuses, string-of-refuses, bytes-refuses, padding-refuses, numeral-refuses, sized-refuses}
 use Rattle.claim_promises.proofs.StreamRefuses.{primitive-refuses, kind-refuses, mode-refuses, to-member-refuses, reference-refuses, pointer-size-refuses, header-refuses, iter-refuses, len-refuses, is-empty-refuses, next-refuses, view-refuses, raw-kind-refuses, create-refuses, create-by-refuses, update-refuses, find-refuses, turn-refuses, type-refuses, id-refuses, member-refuses, method-refuses, start-refuses, step-refuses, element-by-refuses, element-refuses, element-ids-refuses, parse-refuses}
@@ -47,9 +48,12 @@ demand1 = record {
   updates = update-refuses;
   finds = find-refuses;
   turns = turn-refuses;
-  trailers = trailer-refuses;
-  loads = load-refuses;
-  saves = save-refuses;
+  trailers = trailer-refuses narrow;
+  loads = load-refuses narrow;
+  saves = save-refuses narrow;
+  wide-trailers = λ f. trailer-refuses (formOf f) f;
+  wide-loads = λ s f t. load-refuses (formOf f) s f t;
+  wide-saves = λ s σ room. save-refuses (formFor (σ .finder .held)) s σ room;
   declares = declare-says;
   types = type-refuses;
   ids = id-refuses;
@@ -73,6 +77,8 @@ demand1 = record {
   update-keeps = λ f t c. leaves-alone t (updateOf (state f t) c);
   load-keeps = λ s f t. leaves-alone t (loadOf s f t);
   save-keeps = λ s σ o. saves-nothing o (saveOf s σ (length o));
+  wide-load-keeps = λ s f t. leaves-alone t (loadWideOf s f t);
+  wide-save-keeps = λ s σ o. saves-nothing o (saveWideOf s σ (length o));
   write-keeps = λ o w r. writes-nothing o w (saidWrite r);
   declare-keeps = λ s σ i o. declares-nothing o (declareOf s σ i (length o));
   turn-keeps = λ s f t c. leads-nowhere t (turnOf s (state f t) c);

@@ -18,7 +18,7 @@ use Rattle.stream_view.proofs.OneOutcome.{one-view, one-entry-view, one-kind}
 use Rattle.field_put.specs.Bytes.{bytes}
 use Rattle.field_put.proofs.OneOutcome.{one-lays}
 use Rattle.stream_finder.proofs.OneOutcome.{one-change, one-find, one-fills}
-use Rattle.stream_places.specs.Places.{loadOf, saveOf}
+use Rattle.stream_places.specs.Places.{loadOf, loadWideOf, saveOf, saveWideOf}
 use Rattle.stream_places.proofs.OneOutcome.{one-trailer, one-saves}
 use lib.ListN.{length}
 use Rattle.stream_index.proofs.OneOutcome.{one-leads}
@@ -184,8 +184,11 @@ one-outcome = record {
   stream-item-iter-next = λ s c r q a b. one-next r q (a ∙ sym b);
   stream-item-link-link-of = λ s p k r q a b. a ∙ sym b;
   stream-places-load = λ s f t. one-fills t (loadOf s f t);
+  stream-places-load-wide = λ s f t. one-fills t (loadWideOf s f t);
   stream-places-save = λ s f t out. one-saves out (saveOf s (state f t) (length out));
+  stream-places-save-wide = λ s f t out. one-saves out (saveWideOf s (state f t) (length out));
   stream-places-trailer-trailer-parse = λ f r q a b. one-trailer r q (a ∙ sym b);
+  stream-places-trailer-trailer-parse-wide = λ f r q a b. one-trailer r q (a ∙ sym b);
   stream-view-bytes-of = λ tpi ipi entry r q a b. a ∙ sym b;
   stream-view-view = λ tpi ipi entry r q a b. one-entry-view r q a b;
   stream-view-why = λ tpi ipi entry r q a b. one-view r q (a ∙ sym b);

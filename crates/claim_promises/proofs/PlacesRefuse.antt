@@ -11,23 +11,24 @@ use Rattle.answer.specs.Refusals.{listed, inTable, refusals}
 use Rattle.field.specs.Fields.{littleAt}
 use Rattle.stream_header.specs.declared.Header.{Header}
 use Rattle.stream_finder.specs.Finder.{State}
-use Rattle.stream_places.specs.File.{letters, trailerAt, wordsAt, spells, checked, trailerOf}
-use Rattle.stream_places.specs.Places.{onChain, loadFor, loadOf, saveFor, saveOf}
+use Rattle.stream_places.specs.File.{Form, trailerSize, wordsAt, trailerAt, spells, checked, trailerBy}
+use Rattle.stream_places.specs.Places.{onChain, loadFor, loadBy, saveFor, saveBy}
 use Rattle.stream_places.specs.declared.trailer.Trailer.{Trailer}
 use Rattle.claim_promises.specs.ByTable.{Refuses, fits, gives}
 use Rattle.claim_promises.proofs.ByTable.{by-stop, by-then, within, wider}
 use Rattle.claim_promises.proofs.StreamRefuses.{header-refuses}
 
-pub trailer-refuses : (f : List ℕ) → Refuses (20 ∷ []) (trailerOf f)
-unfolding trailerOf checked fits among listed find inTable refusals
-trailer-refuses f =
-    by-stop (ltb (length f) 28) 20 refl
-    (by-stop (not (spells f (length f - 4) letters)) 20 refl
-    (by-stop (not (eqb (littleAt 1 f (length f - 28 + 3)) 0)) 20 refl
-    (by-stop (ltb 6 (trailerAt f (length f - 28) .shift)) 20 refl
-    (by-stop (not (eqb (trailerAt f (length f - 28) .distance) (length f))) 20 refl
-    (by-stop (not (eqb (length f) (4 * trailerAt f (length f - 28) .count + 28))) 20 refl
-    gives)))))
+pub trailer-refuses : (F : Form) (f : List ℕ) → Refuses (20 ∷ []) (trailerBy F f)
+unfolding trailerBy checked fits among listed find inTable refusals
+trailer-refuses F f =
+    by-stop (ltb (length f) (trailerSize F)) 20 refl
+    (by-stop (not (spells f (length f - 4) (F .letters))) 20 refl
+    (by-stop (not (eqb (littleAt 1 f (length f - trailerSize F + F .width + 1)) 0)) 20 refl
+    (by-stop (ltb 6 (trailerAt F f (length f - trailerSize F) .shift)) 20 refl
+    (by-stop (not (eqb (trailerAt F f (length f - trailerSize F) .distance) (length f))) 20 refl
+    (by-stop (not (eqb (length f) (4 * trailerAt F f (length f - trailerSize F) .count + trailerSize F))) 20 refl
+    (by-stop (ltb (trailerAt F f (length f - trailerSize F) .count) (F .least)) 20 refl
+    gives))))))
 
 abbrev pub ofLoads : List ℕ
 ofLoads = 16 ∷ 1 ∷ 2 ∷ 3 ∷ 4 ∷ 5 ∷ 20 ∷ 21 ∷ 13 ∷ 22 ∷ []
@@ -44,24 +45,24 @@ load-for-refuses s f t h k =
     (by-stop (not (onChain s (2 ^ k .shift) (h .«header_size») (wordsAt (k .count) f 0))) 22 refl
     gives))))))
 
-pub load-refuses : (s f t : List ℕ) → Refuses ofLoads (loadOf s f t)
-unfolding loadOf among within
-load-refuses s f t = by-then (wider refl (header-refuses s)) (λ h. by-then (wider refl (trailer-refuses f)) (λ k. load-for-refuses s f t h k))
+pub load-refuses : (F : Form) (s f t : List ℕ) → Refuses ofLoads (loadBy F s f t)
+unfolding loadBy among within
+load-refuses F s f t = by-then (wider refl (header-refuses s)) (λ h. by-then (wider refl (trailer-refuses F f)) (λ k. load-for-refuses s f t h k))
 
 abbrev pub ofSaves : List ℕ
 ofSaves = 16 ∷ 1 ∷ 2 ∷ 3 ∷ 4 ∷ 5 ∷ 21 ∷ 26 ∷ 13 ∷ 19 ∷ []
 
-save-for-refuses : (n : ℕ) (σ : State) (room : ℕ) (h : Header) → Refuses ofSaves (saveFor n σ room h)
+save-for-refuses : (F : Form) (n : ℕ) (σ : State) (room : ℕ) (h : Header) → Refuses ofSaves (saveFor F n σ room h)
 unfolding saveFor fits among listed find inTable refusals
-save-for-refuses n σ room h =
+save-for-refuses F n σ room h =
     by-stop (not (eqb (σ .finder .«minimum_index») (h .«minimum_index»))) 21 refl
     (by-stop (not (eqb (σ .finder .«maximum_index») (h .«maximum_index»))) 21 refl
     (by-stop (ltb 6 (σ .finder .shift)) 26 refl
     (by-stop (ltb (length (σ .table)) (σ .finder .held)) 13 refl
-    (by-stop (ltb 65535 (σ .finder .held)) 13 refl
-    (by-stop (ltb room (4 * σ .finder .held + 28)) 19 refl
+    (by-stop (ltb (F .most) (σ .finder .held)) 13 refl
+    (by-stop (ltb room (4 * σ .finder .held + trailerSize F)) 19 refl
     gives)))))
 
-pub save-refuses : (s : List ℕ) (σ : State) (room : ℕ) → Refuses ofSaves (saveOf s σ room)
-unfolding saveOf among within
-save-refuses s σ room = by-then (wider refl (header-refuses s)) (λ h. save-for-refuses (length s) σ room h)
+pub save-refuses : (F : Form) (s : List ℕ) (σ : State) (room : ℕ) → Refuses ofSaves (saveBy F s σ room)
+unfolding saveBy among within
+save-refuses F s σ room = by-then (wider refl (header-refuses s)) (λ h. save-for-refuses F (length s) σ room h)

@@ -56,8 +56,8 @@ use Rattle.stream_item.specs.Iterator.{iterOf, nextOf, saidIter, saidNext}
 use Rattle.stream_item.specs.Links.{linkOf}
 use Rattle.stream_item.specs.declared.Entry.{Entry}
 use Rattle.stream_item.specs.declared.iter.ItemIter.{ItemIter}
-use Rattle.stream_places.specs.File.{saidTrailer, trailerOf}
-use Rattle.stream_places.specs.Places.{Saves, loadOf, saveOf}
+use Rattle.stream_places.specs.File.{saidTrailer, trailerOf, trailerOfEither}
+use Rattle.stream_places.specs.Places.{Saves, loadOf, loadWideOf, saveOf, saveWideOf}
 use Rattle.stream_places.specs.declared.SaveAnswer.{SaveAnswer}
 use Rattle.stream_view.specs.Views.{rawKindOf, saidRawKind, saidView, viewBytes, viewOf}
 use Rattle.word_attributes.specs.Bits.{bit, bits}
@@ -131,8 +131,11 @@ pub record Answers : Type 1 where
   pub stream-item-iter-next : (s : List ℕ) (c : ItemIter) → Says (contract.stream-item-iter-next s c) saidNext (nextOf s c)
   pub stream-item-link-link-of : (s : List ℕ) (p : ℕ) (k : ℕ) → Says (contract.stream-item-link-link-of s p k) (λ r. r) (linkOf s p k)
   pub stream-places-load : (s : List ℕ) (f : List ℕ) (t : List ℕ) (r : FinderAnswer) (t′ : List ℕ) → contract.stream-places-load s f t r t′ → Fills t (loadOf s f t) r t′
+  pub stream-places-load-wide : (s : List ℕ) (f : List ℕ) (t : List ℕ) (r : FinderAnswer) (t′ : List ℕ) → contract.stream-places-load-wide s f t r t′ → Fills t (loadWideOf s f t) r t′
   pub stream-places-save : (s : List ℕ) (f : ItemFinder) (t : List ℕ) (out : List ℕ) (r : SaveAnswer) (out′ : List ℕ) → contract.stream-places-save s f t out r out′ → Saves out (saveOf s (state f t) (length out)) r out′
+  pub stream-places-save-wide : (s : List ℕ) (f : ItemFinder) (t : List ℕ) (out : List ℕ) (r : SaveAnswer) (out′ : List ℕ) → contract.stream-places-save-wide s f t out r out′ → Saves out (saveWideOf s (state f t) (length out)) r out′
   pub stream-places-trailer-trailer-parse : (f : List ℕ) → Says (contract.stream-places-trailer-trailer-parse f) saidTrailer (trailerOf f)
+  pub stream-places-trailer-trailer-parse-wide : (f : List ℕ) → Says (contract.stream-places-trailer-trailer-parse-wide f) saidTrailer (trailerOfEither f)
   pub stream-view-bytes-of : (tpi : List ℕ) (ipi : List ℕ) (entry : Entry) → Says (contract.stream-view-bytes-of tpi ipi entry) (λ r. r) (viewBytes tpi ipi entry)
   pub stream-view-view : (tpi : List ℕ) (ipi : List ℕ) (entry : Entry) → Says (contract.stream-view-view tpi ipi entry) (λ r. saidView (r .answer)) (viewOf tpi ipi entry)
   pub stream-view-why : (tpi : List ℕ) (ipi : List ℕ) (entry : Entry) → Says (contract.stream-view-why tpi ipi entry) saidView (viewOf tpi ipi entry)

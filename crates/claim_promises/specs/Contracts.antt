@@ -116,8 +116,8 @@ use Rattle.stream_item.specs.declared.iter.ItemIter.{ItemIter}
 use Rattle.stream_item.specs.declared.iter.IterAnswer.{IterAnswer}
 use Rattle.stream_item.specs.declared.iter.NextAnswer.{NextAnswer}
 use Rattle.stream_item.specs.declared.link.Hit.{Hit}
-use Rattle.stream_places.specs.File.{saidTrailer, trailerOf}
-use Rattle.stream_places.specs.Places.{Saves, loadOf, saveOf}
+use Rattle.stream_places.specs.File.{saidTrailer, trailerOf, trailerOfEither}
+use Rattle.stream_places.specs.Places.{Saves, loadOf, loadWideOf, saveOf, saveWideOf}
 use Rattle.stream_places.specs.declared.SaveAnswer.{SaveAnswer}
 use Rattle.stream_places.specs.declared.trailer.TrailerAnswer.{TrailerAnswer}
 use Rattle.stream_view.specs.Views.{rawKindOf, saidRawKind, saidView, viewBytes, viewOf}
@@ -549,13 +549,25 @@ stream-item-link-link-of s p k r = r ≡ linkOf s p k
 abbrev pub stream-places-load : (s : List ℕ) (f : List ℕ) (t : List ℕ) → FinderAnswer → List ℕ → Type 0
 stream-places-load s f t r t′ = Fills t (loadOf s f t) r t′
 
+-- stream_places::load_wide
+abbrev pub stream-places-load-wide : (s : List ℕ) (f : List ℕ) (t : List ℕ) → FinderAnswer → List ℕ → Type 0
+stream-places-load-wide s f t r t′ = Fills t (loadWideOf s f t) r t′
+
 -- stream_places::save
 abbrev pub stream-places-save : (s : List ℕ) (f : ItemFinder) (t : List ℕ) (out : List ℕ) → SaveAnswer → List ℕ → Type 0
 stream-places-save s f t out r out′ = Saves out (saveOf s (state f t) (length out)) r out′
 
+-- stream_places::save_wide
+abbrev pub stream-places-save-wide : (s : List ℕ) (f : ItemFinder) (t : List ℕ) (out : List ℕ) → SaveAnswer → List ℕ → Type 0
+stream-places-save-wide s f t out r out′ = Saves out (saveWideOf s (state f t) (length out)) r out′
+
 -- stream_places::trailer::Trailer::parse
 abbrev pub stream-places-trailer-trailer-parse : (f : List ℕ) → TrailerAnswer → Type 0
 stream-places-trailer-trailer-parse f r = saidTrailer r ≡ trailerOf f
+
+-- stream_places::trailer::Trailer::parse_wide
+abbrev pub stream-places-trailer-trailer-parse-wide : (f : List ℕ) → TrailerAnswer → Type 0
+stream-places-trailer-trailer-parse-wide f r = saidTrailer r ≡ trailerOfEither f
 
 -- stream_view::bytes_of
 abbrev pub stream-view-bytes-of : (tpi : List ℕ) (ipi : List ℕ) (entry : Entry) → List ℕ → Type 0

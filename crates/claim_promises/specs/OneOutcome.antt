@@ -176,8 +176,11 @@ pub record OneOutcome : Type 1 where
   pub stream-item-link-link-of : (s : List ℕ) (p : ℕ) (k : ℕ) → Once (contract.stream-item-link-link-of s p k)
   -- stream_places
   pub stream-places-load : (s : List ℕ) (f : List ℕ) (t : List ℕ) → OnceLent (contract.stream-places-load s f t)
+  pub stream-places-load-wide : (s : List ℕ) (f : List ℕ) (t : List ℕ) → OnceLent (contract.stream-places-load-wide s f t)
   pub stream-places-save : (s : List ℕ) (f : ItemFinder) (t : List ℕ) (out : List ℕ) → OnceLent (contract.stream-places-save s f t out)
+  pub stream-places-save-wide : (s : List ℕ) (f : ItemFinder) (t : List ℕ) (out : List ℕ) → OnceLent (contract.stream-places-save-wide s f t out)
   pub stream-places-trailer-trailer-parse : (f : List ℕ) → Once (contract.stream-places-trailer-trailer-parse f)
+  pub stream-places-trailer-trailer-parse-wide : (f : List ℕ) → Once (contract.stream-places-trailer-trailer-parse-wide f)
   -- stream_view
   pub stream-view-bytes-of : (tpi : List ℕ) (ipi : List ℕ) (entry : Entry) → Once (contract.stream-view-bytes-of tpi ipi entry)
   pub stream-view-view : (tpi : List ℕ) (ipi : List ℕ) (entry : Entry) (r q : EntryView) → contract.stream-view-view tpi ipi entry r → contract.stream-view-view tpi ipi entry q → (now (r .bytes) ≡ now (q .bytes)) × (r .answer ≡ q .answer)

@@ -93,6 +93,7 @@ pub record EachRefusedBy : Type 0 where
   pub stream-item-iter-iter : (stream : Stream) (s : List ℕ) → RefusedBy (16 ∷ 1 ∷ 2 ∷ 3 ∷ 4 ∷ 5 ∷ []) (contract.stream-item-iter-iter stream s) saidIter
   pub stream-item-iter-next : (s : List ℕ) (c : ItemIter) → RefusedBy (16 ∷ 1 ∷ 6 ∷ 7 ∷ []) (contract.stream-item-iter-next s c) saidNext
   pub stream-places-trailer-trailer-parse : (f : List ℕ) → RefusedBy (20 ∷ []) (contract.stream-places-trailer-trailer-parse f) saidTrailer
+  pub stream-places-trailer-trailer-parse-wide : (f : List ℕ) → RefusedBy (20 ∷ []) (contract.stream-places-trailer-trailer-parse-wide f) saidTrailer
   pub stream-view-view : (tpi : List ℕ) (ipi : List ℕ) (entry : Entry) → RefusedBy (16 ∷ 1 ∷ 8 ∷ []) (contract.stream-view-view tpi ipi entry) (λ r. saidView (r .answer))
   pub stream-view-why : (tpi : List ℕ) (ipi : List ℕ) (entry : Entry) → RefusedBy (16 ∷ 1 ∷ 8 ∷ []) (contract.stream-view-why tpi ipi entry) saidView
   pub stream-view-raw-kind : (tpi : List ℕ) (ipi : List ℕ) (entry : Entry) → RefusedBy (16 ∷ 1 ∷ []) (contract.stream-view-raw-kind tpi ipi entry) saidRawKind
@@ -113,7 +114,9 @@ pub record EachRefusedBy : Type 0 where
   pub stream-finder-lent-update-local : (f : ItemFinder) (t : List ℕ) (c : ItemIter) (u : UpdateStep) (t′ : List ℕ) → contract.stream-finder-lent-update-local f t c u t′ → Refuses (16 ∷ 26 ∷ 13 ∷ 14 ∷ []) (saidUpdate (u .answer))
   pub stream-index-turn : (s : List ℕ) (f : ItemFinder) (t : List ℕ) (c : ItemIter) (r : TurnAnswer) (t′ : List ℕ) → contract.stream-index-turn s f t c r t′ → Refuses (16 ∷ 1 ∷ 6 ∷ 7 ∷ 26 ∷ 13 ∷ 14 ∷ []) (saidTurn r t′)
   pub stream-places-load : (s : List ℕ) (f : List ℕ) (t : List ℕ) (r : FinderAnswer) (t′ : List ℕ) → contract.stream-places-load s f t r t′ → Refuses (16 ∷ 1 ∷ 2 ∷ 3 ∷ 4 ∷ 5 ∷ 20 ∷ 21 ∷ 13 ∷ 22 ∷ []) (saidFinder r)
+  pub stream-places-load-wide : (s : List ℕ) (f : List ℕ) (t : List ℕ) (r : FinderAnswer) (t′ : List ℕ) → contract.stream-places-load-wide s f t r t′ → Refuses (16 ∷ 1 ∷ 2 ∷ 3 ∷ 4 ∷ 5 ∷ 20 ∷ 21 ∷ 13 ∷ 22 ∷ []) (saidFinder r)
   pub stream-places-save : (s : List ℕ) (f : ItemFinder) (t : List ℕ) (out : List ℕ) (r : SaveAnswer) (out′ : List ℕ) → contract.stream-places-save s f t out r out′ → Refuses (16 ∷ 1 ∷ 2 ∷ 3 ∷ 4 ∷ 5 ∷ 21 ∷ 26 ∷ 13 ∷ 19 ∷ []) (saidSave r)
+  pub stream-places-save-wide : (s : List ℕ) (f : ItemFinder) (t : List ℕ) (out : List ℕ) (r : SaveAnswer) (out′ : List ℕ) → contract.stream-places-save-wide s f t out r out′ → Refuses (16 ∷ 1 ∷ 2 ∷ 3 ∷ 4 ∷ 5 ∷ 21 ∷ 26 ∷ 13 ∷ 19 ∷ []) (saidSave r)
   pub record-reader-list-reader-step : (self : ListReader) (r : ElementAnswer) (self′ : ListReader) → contract.record-reader-list-reader-step self r self′ → Refuses (15 ∷ 1 ∷ 10 ∷ 11 ∷ []) (saidElement r)
   pub record-reader-step-of : (bytes : List ℕ) (cursor : ListCursor) (u : Stepped) → contract.record-reader-step-of bytes cursor u → Refuses (15 ∷ 1 ∷ 10 ∷ 11 ∷ []) (saidElement (u .answer))
   pub section-finder-create : (s : List ℕ) (t : List ℕ) (r : FinderAnswer) (t′ : List ℕ) → contract.section-finder-create s t r t′ → Refuses (16 ∷ 1 ∷ 25 ∷ 6 ∷ 7 ∷ 26 ∷ 13 ∷ []) (saidFinder r)

@@ -13,8 +13,8 @@ use Rattle.stream_item.specs.Links.{linkAt, chain, reached}
 use Rattle.stream_finder.specs.Finder.{State, state}
 use Rattle.stream_finder.specs.Places.{Placed}
 use Rattle.stream_finder.proofs.Examples.{finderBy, finderTo}
-use Rattle.stream_places.specs.File.{wide, wordBytes, trailerBytes, wordsAt, trailerAt, spells, checked, trailerBy, trailerOfEither}
-use Rattle.stream_places.specs.Places.{follows, onChain, loadFor, loadOf, loadWideOf, fileOf, saveFor, saveOf, saveWideOf}
+use Rattle.stream_places.specs.File.{wide, wordBytes, trailerBytes, wordsAt, trailerAt, spells, checked, trailerBy}
+use Rattle.stream_places.specs.Places.{follows, onChain, loadFor, loadBy, loadOf, loadWideOf, fileOf, saveFor, saveBy, saveOf, saveWideOf}
 
 abbrev word : ℕ → ℕ → List ℕ
 word low high = low ∷ high ∷ 0 ∷ 0 ∷ []
@@ -33,38 +33,38 @@ abbrev file0 : List ℕ
 file0 = word 56 0 ++ (word 66 0 ++ (word 78 0 ++ tailE 3 0 40))
 
 pub saved3 : saveOf streamE (state (finderTo 4098 1) (56 ∷ [])) 32 ≡ answered file3
-unfolding saveOf saveFor fileOf wordBytes trailerBytes bytes headerOf littleAt
+unfolding saveBy saveFor fileOf wordBytes trailerBytes bytes headerOf littleAt
 saved3 = refl
 
 pub saved0 : saveOf streamE (state (finderBy 0 4098 3) (56 ∷ 66 ∷ 78 ∷ 7 ∷ [])) 40 ≡ answered file0
-unfolding saveOf saveFor fileOf wordBytes trailerBytes bytes headerOf littleAt
+unfolding saveBy saveFor fileOf wordBytes trailerBytes bytes headerOf littleAt
 saved0 = refl
 
 pub loaded3 : loadOf streamE file3 (1 ∷ 2 ∷ []) ≡ answered (state (finderTo 4098 1) (56 ∷ 2 ∷ []))
-unfolding loadOf loadFor trailerBy checked trailerAt spells wordsAt onChain follows chain linkAt put headerOf littleAt
+unfolding loadBy loadFor trailerBy checked trailerAt spells wordsAt onChain follows chain linkAt put headerOf littleAt
 loaded3 = refl
 
 pub loaded0 : loadOf streamE file0 (1 ∷ 2 ∷ 3 ∷ 4 ∷ []) ≡ answered (state (finderBy 0 4098 3) (56 ∷ 66 ∷ 78 ∷ 4 ∷ []))
-unfolding loadOf loadFor trailerBy checked trailerAt spells wordsAt onChain follows chain linkAt put headerOf littleAt
+unfolding loadBy loadFor trailerBy checked trailerAt spells wordsAt onChain follows chain linkAt put headerOf littleAt
 loaded0 = refl
 
 -- a place one link on is 22, where the table has room, else 13
 pub off-the-chain : loadOf streamE (word 66 0 ++ tailE 1 3 32) (1 ∷ []) ≡ refused 22 []
-unfolding loadOf loadFor trailerBy checked trailerAt spells wordsAt onChain follows chain linkAt put headerOf littleAt
+unfolding loadBy loadFor trailerBy checked trailerAt spells wordsAt onChain follows chain linkAt put headerOf littleAt
 off-the-chain = refl
 
 pub short-table : loadOf streamE (word 66 0 ++ tailE 1 3 32) [] ≡ refused 13 []
-unfolding loadOf loadFor trailerBy checked trailerAt spells wordsAt headerOf littleAt
+unfolding loadBy loadFor trailerBy checked trailerAt spells wordsAt headerOf littleAt
 short-table = refl
 
 -- no places, though E counts records
 pub no-places : loadOf streamE (tailE 0 3 28) [] ≡ refused 20 []
-unfolding loadOf loadFor trailerBy checked trailerAt spells headerOf littleAt
+unfolding loadBy loadFor trailerBy checked trailerAt spells headerOf littleAt
 no-places = refl
 
 -- the empty stream has none: a file of its trailer alone
 pub nothing : loadOf [] ((0 ∷ 0 ∷ 3 ∷ 0 ∷ []) ++ (replicate 16 0 ++ (word 28 0 ++ (0x50 ∷ 0x54 ∷ 0x49 ∷ 0x58 ∷ [])))) [] ≡ answered (state (record { «minimum_index» = 0; «maximum_index» = 0; held = 0; shift = 3 }) [])
-unfolding loadOf loadFor trailerBy checked trailerAt spells wordsAt onChain put headerOf littleAt
+unfolding loadBy loadFor trailerBy checked trailerAt spells wordsAt onChain put headerOf littleAt
 nothing = refl
 
 -- the places that were saved are on the chain
@@ -100,11 +100,11 @@ abbrev fewE : List ℕ
 fewE = word 56 0 ++ tailWide (word 1 0) 34
 
 pub few-wide : (loadWideOf streamE fewE (1 ∷ []) ≡ refused 20 []) × (loadOf streamE fewE (1 ∷ []) ≡ refused 20 [])
-unfolding loadWideOf loadOf trailerOfEither trailerBy checked trailerAt spells headerOf littleAt
+unfolding loadBy trailerBy checked trailerAt spells headerOf littleAt
 few-wide = (refl, refl)
 
 -- an old file is written and taken as it was
 pub still-old : (saveWideOf streamE (state (finderTo 4098 1) (56 ∷ [])) 32 ≡ answered file3)
     × (loadWideOf streamE file3 (1 ∷ 2 ∷ []) ≡ answered (state (finderTo 4098 1) (56 ∷ 2 ∷ [])))
-unfolding saveWideOf saveFor fileOf wordBytes trailerBytes bytes loadWideOf loadFor trailerOfEither trailerBy checked trailerAt spells wordsAt onChain follows chain linkAt put headerOf littleAt
+unfolding saveBy saveFor fileOf wordBytes trailerBytes bytes loadBy loadFor trailerBy checked trailerAt spells wordsAt onChain follows chain linkAt put headerOf littleAt
 still-old = (refl, refl)

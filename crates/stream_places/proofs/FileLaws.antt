@@ -15,7 +15,7 @@ use Rattle.field.specs.Fields.{littleAt}
 use Rattle.field_put.specs.Bytes.{bytes, put, Room, Puts}
 use Rattle.field_put.proofs.PutLaws.{length-bytes, put-none, put-put}
 use Rattle.stream_item.proofs.NextLaws.{passed}
-use Rattle.stream_places.specs.File.{Form, narrow, wide, formIn, trailerSize, wordBytes, trailerBytes, wordsAt, trailerAt, spells, checked, trailerBy, trailerOfEither}
+use Rattle.stream_places.specs.File.{Form, narrow, wide, formIn, trailerSize, wordBytes, trailerBytes, wordsAt, trailerAt, spells, checked, trailerBy, formOf, trailerOfEither}
 use Rattle.stream_places.specs.declared.Width.{Width}
 use Rattle.stream_places.specs.declared.Width.the-variants as width
 use Rattle.stream_places.specs.declared.trailer.Trailer.{Trailer}
@@ -190,13 +190,11 @@ module _ (F : Form) (f : List ℕ) where
       sym (trailer-checked (omega arith) s ∙ ap (λ (q : ℕ). checked F f q (trailerAt F f q)) g ∙ ap (checked F f p) (sym e) ∙ c)
 
 -- of either form
-pub either-wide : (f : List ℕ) → spells f (length f - 4) (wide .letters) ≡ true → trailerOfEither f ≡ trailerBy wide f
-unfolding trailerOfEither
-either-wide f e = rw e
+pub form-wide : (f : List ℕ) → spells f (length f - 4) (wide .letters) ≡ true → formOf f ≡ wide
+form-wide f e = rw e
 
-pub either-narrow : (f : List ℕ) → spells f (length f - 4) (wide .letters) ≡ false → trailerOfEither f ≡ trailerBy narrow f
-unfolding trailerOfEither
-either-narrow f e = rw e
+pub form-narrow : (f : List ℕ) → spells f (length f - 4) (wide .letters) ≡ false → formOf f ≡ narrow
+form-narrow f e = rw e
 
 -- z: the zero byte's place
 module _ (F : Form) (f : List ℕ) (p : ℕ) (k : Trailer) (z : ℕ) (at : z ≡ p + F .width + 1) where
@@ -267,10 +265,9 @@ pub data Taken (f : List ℕ) (k : Trailer) : Type 0 where
   as-wide : spells f (length f - 4) (wide .letters) ≡ true → trailerBy wide f ≡ answered k → Taken f k
 
 pub taken-either : (f : List ℕ) (k : Trailer) → trailerOfEither f ≡ answered k → Taken f k
-unfolding trailerOfEither
 taken-either f k e = go (spells f (length f - 4) (wide .letters)) refl e
   where
-    go : (b : Bool) → spells f (length f - 4) (wide .letters) ≡ b → pick b (trailerBy wide f) (trailerBy narrow f) ≡ answered k → Taken f k
+    go : (b : Bool) → spells f (length f - 4) (wide .letters) ≡ b → trailerBy (pick b wide narrow) f ≡ answered k → Taken f k
     go true g h = as-wide g h
     go false g h = as-narrow g h
 

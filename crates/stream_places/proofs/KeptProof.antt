@@ -32,13 +32,13 @@ use Rattle.stream_finder.specs.Demand.{looked, numberGiven}
 use Rattle.stream_finder.specs.Shared.{Serves}
 use Rattle.stream_finder.proofs.PlaceLaws.{find-placed}
 use Rattle.stream_finder.proofs.DemandProof.{looked-number}
-use Rattle.stream_places.specs.File.{Form, narrow, wide, trailerSize, wordBytes, trailerBytes, wordsAt, trailerAt, spells, trailerBy, trailerOf, trailerOfEither}
-use Rattle.stream_places.specs.Places.{onChain, loadFor, loadOf, loadWideOf, trailerFor, fileOf, formFor, saveFor, saveOf, saveWideOf, bufferAfter}
+use Rattle.stream_places.specs.File.{Form, narrow, wide, trailerSize, wordBytes, trailerBytes, wordsAt, trailerAt, spells, trailerBy, trailerOf, formOf, trailerOfEither}
+use Rattle.stream_places.specs.Places.{onChain, loadFor, loadBy, loadOf, loadWideOf, trailerFor, fileOf, formFor, saveFor, saveBy, saveOf, saveWideOf, bufferAfter}
 use Rattle.stream_places.specs.Kept.{recordsOf, Loaded, Serving, LoadServes, WideServes, TripOf, RoundTrip, WideTrip, Encoding, OneEncoding, OneEncodingWide, LoadersAgree}
 use Rattle.stream_places.specs.declared.trailer.Trailer.{Trailer}
-use Rattle.stream_places.proofs.FileLaws.{length-words, length-word-bytes, length-trailer, one-tag, other-tag, trailer-letters, trailer-short, trailer-by, either-wide, either-narrow, checked-right, Trailed, trailed, Taken, as-narrow, as-wide, taken-either}
+use Rattle.stream_places.proofs.FileLaws.{length-words, length-word-bytes, length-trailer, one-tag, other-tag, trailer-letters, trailer-short, trailer-by, form-wide as letters-wide, form-narrow as letters-narrow, checked-right, Trailed, trailed, Taken, as-narrow, as-wide, taken-either}
 use Rattle.stream_places.proofs.BackLaws.{words-back, words-again, Fits, Back, trailer-back, trailer-again}
-use Rattle.stream_places.proofs.PlacesLaws.{Ours, load-header, load-trailer, load-wide-header, load-wide-trailer, load-done, Bounds, save-header, save-wide-header, save-done, header-short, header-fields}
+use Rattle.stream_places.proofs.PlacesLaws.{Ours, load-header, load-trailer, load-done, Bounds, save-header, save-by, save-done, header-short, header-fields}
 use Rattle.stream_places.proofs.ChainLaws.{Chained, chained, unchained, chained-placed, placed-chained}
 
 -- ---- what the proofs ask of a form: four letters, a count that holds the most places, a distance that fits
@@ -102,7 +102,7 @@ found F s f t h k τ r e =
 
 pub finds : (s f t : List ℕ) (h : Header) (τ : State) → headerOf s ≡ answered h → loadOf s f t ≡ answered τ → Finds narrow s f t h τ
 finds s f t h τ a e =
-    let y = then-answered (trailerOf f) (loadFor s f t h) τ (sym (load-header s f t (answered h) a) ∙ e) in
+    let y = then-answered (trailerOf f) (loadFor s f t h) τ (sym (load-header narrow s f t (answered h) a) ∙ e) in
     found narrow s f t h (y .0) τ (y .1 .0) (y .1 .1)
 
 -- of R-10's loader, by the form that it went by
@@ -114,7 +114,7 @@ finds-either : (s f t : List ℕ) (h : Header) (τ : State) → headerOf s ≡ a
 finds-either s f t h τ a e = go (y .0) (y .1 .1) (taken-either f (y .0) (y .1 .0))
   where
     y : (x : Trailer) × ((trailerOfEither f ≡ answered x) × (loadFor s f t h x ≡ answered τ))
-    y = then-answered (trailerOfEither f) (loadFor s f t h) τ (sym (load-wide-header s f t (answered h) a) ∙ e)
+    y = then-answered (trailerOfEither f) (loadFor s f t h) τ (sym (load-header (formOf f) s f t (answered h) a) ∙ e)
 
     go : (k : Trailer) → loadFor s f t h k ≡ answered τ → Taken f k → FindsEither s f t h τ
     go k g (as-narrow l r) = in-narrow (found narrow s f t h k τ r g)
@@ -245,18 +245,18 @@ wide-most s f t h τ oct x =
     omega (arith, y .whole, y .distance, distance-below wide f (x .trailer) oct y)
 
 pub one-encoding : OneEncoding
-unfolding Encoding loadOf
+unfolding Encoding loadBy
 one-encoding s f t τ space oct e l =
     let y = then-answered (headerOf s) (λ h. then (trailerOf f) (loadFor s f t h)) τ e in
     let x = finds s f t (y .0) τ (y .1 .0) e in
-    save-header s τ space (answered (y .0)) (y .1 .0) ∙ encodes narrow s f t (y .0) τ space narrow-sound oct (y .1 .0) x (narrow-most s f t (y .0) τ oct x) l
+    save-header narrow s τ space (answered (y .0)) (y .1 .0) ∙ encodes narrow s f t (y .0) τ space narrow-sound oct (y .1 .0) x (narrow-most s f t (y .0) τ oct x) l
 
 -- the state's own number of places, and so the form that it is written in
 held-is : (F : Form) (s f t : List ℕ) (h : Header) (τ : State) (x : Finds F s f t h τ) → τ .finder .held ≡ x .trailer .count
 held-is F s f t h τ x = ap (λ (ρ : State). ρ .finder .held) (sym (x .state-is))
 
 pub one-encoding-wide : OneEncodingWide
-unfolding Encoding loadWideOf
+unfolding Encoding loadBy
 one-encoding-wide s f t τ space oct e l = go (finds-either s f t h τ a e)
   where
     y : (h : Header) × ((headerOf s ≡ answered h) × (then (trailerOfEither f) (loadFor s f t h) ≡ answered τ))
@@ -269,7 +269,7 @@ one-encoding-wide s f t τ space oct e l = go (finds-either s f t h τ a e)
     a = y .1 .0
 
     by-form : (F : Form) → formFor (τ .finder .held) ≡ F → saveFor F (length s) τ space h ≡ answered f → saveWideOf s τ space ≡ answered f
-    by-form F g w = save-wide-header s τ space (answered h) a ∙ ap (λ (G : Form). saveFor G (length s) τ space h) g ∙ w
+    by-form F g w = save-by F (formFor (τ .finder .held)) s τ space h a (sym g) ∙ w
 
     go : FindsEither s f t h τ → saveWideOf s τ space ≡ answered f
     go (in-narrow x) =
@@ -405,8 +405,8 @@ module _ (F : Form) (sound : Sound F) (s t : List ℕ) (h : Header) (σ : State)
 
   -- R-10's loader takes it by the same form
   either-is : (F ≡ narrow) ⊎ (F ≡ wide) → trailerOfEither f ≡ answered tail
-  either-is (inl e) = either-narrow f (one-tag f (length f - 4) (subst (λ (G : Form). spells f (length f - 4) (G .letters) ≡ true) e tagged)) ∙ ap (λ (G : Form). trailerBy G f) (sym e) ∙ tail-is
-  either-is (inr e) = either-wide f (subst (λ (G : Form). spells f (length f - 4) (G .letters) ≡ true) e tagged) ∙ ap (λ (G : Form). trailerBy G f) (sym e) ∙ tail-is
+  either-is (inl e) = ap (λ (G : Form). trailerBy G f) (letters-narrow f (one-tag f (length f - 4) (subst (λ (G : Form). spells f (length f - 4) (G .letters) ≡ true) e tagged)) ∙ sym e) ∙ tail-is
+  either-is (inr e) = ap (λ (G : Form). trailerBy G f) (letters-wide f (subst (λ (G : Form). spells f (length f - 4) (G .letters) ≡ true) e tagged) ∙ sym e) ∙ tail-is
 
 -- the first bytes of the buffer are the file
 file-first : (o f : List ℕ) (a : Answer (List ℕ)) → a ≡ answered f → length f ≤ length o → take (length f) (bufferAfter o a) ≡ f
@@ -415,10 +415,10 @@ file-first o f a e l = ap (λ (w : Answer (List ℕ)). take (length f) (bufferAf
 pub round-trip : RoundTrip
 unfolding TripOf
 round-trip s o t h σ f oct a pl some e l =
-    let x : Kept narrow s h σ (length o) f = kept narrow s h σ (length o) f (sym (save-header s σ (length o) (answered h) a) ∙ e) in
+    let x : Kept narrow s h σ (length o) f = kept narrow s h σ (length o) f (sym (save-header narrow s σ (length o) (answered h) a) ∙ e) in
     let g : length f ≡ 4 * σ .finder .held + 28 = length-is narrow narrow-sound s t h σ f (length o) oct a pl some (omega arith) x l in
     ap (λ (bs : List ℕ). loadOf s bs t) (file-first o f _ e (omega (arith, x .room)))
-    ∙ load-trailer s f t h _ a (tail-is narrow narrow-sound s t h σ f (length o) oct a pl some (omega arith) x l)
+    ∙ load-trailer narrow s f t h _ a (tail-is narrow narrow-sound s t h σ f (length o) oct a pl some (omega arith) x l)
     ∙ again narrow narrow-sound s t h σ f (length o) oct a pl some (omega arith) x l
 
 -- of the form that the places are written in
@@ -427,11 +427,11 @@ trip-by : (F : Form) (s o t : List ℕ) (h : Header) (σ : State) (f : List ℕ)
     → saveWideOf s σ (length o) ≡ answered f → σ .finder .held ≤ length t
     → loadWideOf s (take (length f) (bufferAfter o (saveWideOf s σ (length o)))) t ≡ answered (state (σ .finder) (put t 0 (take (σ .finder .held) (σ .table))))
 trip-by F s o t h σ f sound either m g oct a pl some e l =
-    let w : saveFor F (length s) σ (length o) h ≡ answered f = ap (λ (G : Form). saveFor G (length s) σ (length o) h) (sym g) ∙ sym (save-wide-header s σ (length o) (answered h) a) ∙ e in
+    let w : saveFor F (length s) σ (length o) h ≡ answered f = sym (save-by F (formFor (σ .finder .held)) s σ (length o) h a (sym g)) ∙ e in
     let x : Kept F s h σ (length o) f = kept F s h σ (length o) f w in
     let n : length f ≡ 4 * σ .finder .held + trailerSize F = length-is F sound s t h σ f (length o) oct a pl some m x l in
     ap (λ (bs : List ℕ). loadWideOf s bs t) (file-first o f _ e (omega (arith, x .room)))
-    ∙ load-wide-trailer s f t h _ a (either-is F sound s t h σ f (length o) oct a pl some m x l either)
+    ∙ load-trailer (formOf f) s f t h _ a (either-is F sound s t h σ f (length o) oct a pl some m x l either)
     ∙ again F sound s t h σ f (length o) oct a pl some m x l
 
 pub wide-trip : WideTrip
@@ -450,15 +450,12 @@ wide-trip s o t h σ f oct a pl some e l = go (ltb 65535 (σ .finder .held)) ref
 -- ---- the two loaders
 pub loaders-agree : LoadersAgree
 loaders-agree = record {
-  on-narrow = λ s f t e. agree s f t (either-narrow f (one-tag f (length f - 4) e));
+  on-narrow = λ s f t e. ap (λ (F : Form). loadBy F s f t) (letters-narrow f (one-tag f (length f - 4) e));
   on-wide = λ s f t e. other s f t (not-narrow f e);
 }
   where
-    agree : (s f t : List ℕ) → trailerOfEither f ≡ trailerOf f → loadWideOf s f t ≡ loadOf s f t
-    agree s f t g = load-wide-header s f t (headerOf s) refl ∙ ap (λ (k : Answer Trailer). then (headerOf s) (λ h. then k (loadFor s f t h))) g ∙ sym (load-header s f t (headerOf s) refl)
-
     other : (s f t : List ℕ) → trailerOf f ≡ refused 20 [] → loadOf s f t ≡ then (headerOf s) (λ h. refused 20 [])
-    other s f t g = load-header s f t (headerOf s) refl ∙ ap (λ (k : Answer Trailer). then (headerOf s) (λ h. then k (loadFor s f t h))) g
+    other s f t g = load-header narrow s f t (headerOf s) refl ∙ ap (λ (k : Answer Trailer). then (headerOf s) (λ h. then k (loadFor s f t h))) g
 
     not-narrow : (f : List ℕ) → spells f (length f - 4) (wide .letters) ≡ true → trailerOf f ≡ refused 20 []
     not-narrow f e = go (ltb (length f) 28) refl

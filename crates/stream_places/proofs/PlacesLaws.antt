@@ -19,8 +19,8 @@ use Rattle.stream_item.specs.Links.{Walk, reached, broke, chain}
 use Rattle.stream_item.proofs.LinkLaws.{link-broken, chain-break, chain-stays, chain-bounds}
 use Rattle.stream_item.proofs.NextLaws.{passed}
 use Rattle.stream_finder.specs.Finder.{State, state, holding}
-use Rattle.stream_places.specs.File.{Form, narrow, trailerSize, wordBytes, trailerBytes, wordsAt, trailerOf, trailerOfEither}
-use Rattle.stream_places.specs.Places.{ends, follows, onChain, Takes, loadFor, loadOf, loadWideOf, trailerFor, fileOf, formFor, saveFor, saveOf, saveWideOf, sizeIn, bufferAfter, saidSave, Saves}
+use Rattle.stream_places.specs.File.{Form, trailerSize, wordBytes, trailerBytes, wordsAt, trailerBy}
+use Rattle.stream_places.specs.Places.{ends, follows, onChain, Takes, loadFor, loadBy, trailerFor, fileOf, saveFor, saveBy, sizeIn, bufferAfter, saidSave, Saves}
 use Rattle.stream_places.specs.declared.trailer.Trailer.{Trailer}
 use Rattle.stream_places.specs.declared.SaveAnswer.{SaveAnswer}
 use Rattle.stream_places.specs.declared.SaveAnswer.the-variants as save
@@ -144,21 +144,13 @@ module _ (s f t : List ℕ) (h : Header) (k : Trailer) where
   unfolding loadFor
   load-done o r e = simp (o .some, eq-eqb _ _ (o .minimum), eq-eqb _ _ (o .maximum), eq-eqb _ _ (o .bytes-are), eq-eqb _ _ (o .start), le-ltb _ _ r, e)
 
-pub load-header : (s f t : List ℕ) (a : Answer Header) → headerOf s ≡ a → loadOf s f t ≡ then a (λ h. then (trailerOf f) (loadFor s f t h))
-unfolding loadOf
-load-header s f t a e = rw e
+pub load-header : (F : Form) (s f t : List ℕ) (a : Answer Header) → headerOf s ≡ a → loadBy F s f t ≡ then a (λ h. then (trailerBy F f) (loadFor s f t h))
+unfolding loadBy
+load-header F s f t a e = rw e
 
-pub load-trailer : (s f t : List ℕ) (h : Header) (a : Answer Trailer) → headerOf s ≡ answered h → trailerOf f ≡ a → loadOf s f t ≡ then a (loadFor s f t h)
-unfolding loadOf
-load-trailer s f t h a e g = rw (e, g)
-
-pub load-wide-header : (s f t : List ℕ) (a : Answer Header) → headerOf s ≡ a → loadWideOf s f t ≡ then a (λ h. then (trailerOfEither f) (loadFor s f t h))
-unfolding loadWideOf
-load-wide-header s f t a e = rw e
-
-pub load-wide-trailer : (s f t : List ℕ) (h : Header) (a : Answer Trailer) → headerOf s ≡ answered h → trailerOfEither f ≡ a → loadWideOf s f t ≡ then a (loadFor s f t h)
-unfolding loadWideOf
-load-wide-trailer s f t h a e g = rw (e, g)
+pub load-trailer : (F : Form) (s f t : List ℕ) (h : Header) (a : Answer Trailer) → headerOf s ≡ answered h → trailerBy F f ≡ a → loadBy F s f t ≡ then a (loadFor s f t h)
+unfolding loadBy
+load-trailer F s f t h a e g = rw (e, g)
 
 -- ---- the outcomes of saving
 module _ (F : Form) (bytes : ℕ) (σ : State) (room : ℕ) (h : Header) where
@@ -197,14 +189,9 @@ module _ (F : Form) (bytes : ℕ) (σ : State) (room : ℕ) (h : Header) where
   unfolding saveFor
   save-done b a c d e = simp (eq-eqb _ _ (b .minimum), eq-eqb _ _ (b .maximum), le-ltb _ _ a, le-ltb _ _ c, le-ltb _ _ d, le-ltb _ _ e)
 
-pub save-header : (s : List ℕ) (σ : State) (room : ℕ) (a : Answer Header) → headerOf s ≡ a → saveOf s σ room ≡ then a (saveFor narrow (length s) σ room)
-unfolding saveOf
-save-header s σ room a e = rw e
-
-pub save-wide-header : (s : List ℕ) (σ : State) (room : ℕ) (a : Answer Header) → headerOf s ≡ a
-    → saveWideOf s σ room ≡ then a (saveFor (formFor (σ .finder .held)) (length s) σ room)
-unfolding saveWideOf
-save-wide-header s σ room a e = rw e
+pub save-header : (F : Form) (s : List ℕ) (σ : State) (room : ℕ) (a : Answer Header) → headerOf s ≡ a → saveBy F s σ room ≡ then a (saveFor F (length s) σ room)
+unfolding saveBy
+save-header F s σ room a e = rw e
 
 -- the file with its trailer as the code has it
 pub file-by : (F : Form) (bytes : ℕ) (σ : State) (h : Header) (d : ℕ) → d ≡ 4 * σ .finder .held + trailerSize F
@@ -223,8 +210,8 @@ unfolding fileOf
 file-by F bytes σ h d e = rw e
 
 -- by the form as the code has it
-pub save-wide-by : (F : Form) (s : List ℕ) (σ : State) (room : ℕ) (h : Header) → headerOf s ≡ answered h → F ≡ formFor (σ .finder .held) → saveWideOf s σ room ≡ saveFor F (length s) σ room h
-save-wide-by F s σ room h e g = save-wide-header s σ room (answered h) e ∙ ap (λ (G : Form). saveFor G (length s) σ room h) (sym g)
+pub save-by : (F G : Form) (s : List ℕ) (σ : State) (room : ℕ) (h : Header) → headerOf s ≡ answered h → F ≡ G → saveBy G s σ room ≡ saveFor F (length s) σ room h
+save-by F G s σ room h e g = ap (λ (H : Form). saveBy H s σ room) (sym g) ∙ save-header F s σ room (answered h) e
 
 -- the contract from the case that holds
 pub saves : (o : List ℕ) (x : Answer (List ℕ)) (r : SaveAnswer) (o′ : List ℕ) (a : Answer (List ℕ)) → x ≡ a → saidSave r ≡ sizeIn a → o′ ≡ bufferAfter o a → Saves o x r o′

@@ -104,8 +104,11 @@ abbrev pub trailerOf : List ℕ → Answer Trailer
 trailerOf = trailerBy narrow
 
 -- R-10's takes both: the last four letters say which
-unfoldable pub trailerOfEither : List ℕ → Answer Trailer
-trailerOfEither f = pick (spells f (length f - 4) (wide .letters)) (trailerBy wide f) (trailerBy narrow f)
+abbrev pub formOf : List ℕ → Form
+formOf f = pick (spells f (length f - 4) (wide .letters)) wide narrow
+
+abbrev pub trailerOfEither : List ℕ → Answer Trailer
+trailerOfEither f = trailerBy (formOf f) f
 
 -- what the answer says
 abbrev pub saidTrailer : TrailerAnswer → Answer Trailer

@@ -18,7 +18,7 @@ use Rattle.stream_header.specs.Header.{headerOf}
 use Rattle.stream_header.specs.declared.Header.{Header}
 use Rattle.stream_item.specs.Links.{Walk, reached, broke, chain}
 use Rattle.stream_finder.specs.Finder.{State, state, holding}
-use Rattle.stream_places.specs.File.{Form, narrow, wide, trailerSize, wordBytes, trailerBytes, wordsAt, trailerOf, trailerOfEither}
+use Rattle.stream_places.specs.File.{Form, narrow, wide, trailerSize, wordBytes, trailerBytes, wordsAt, trailerBy, formOf}
 use Rattle.stream_places.specs.declared.trailer.Trailer.{Trailer}
 use Rattle.stream_places.specs.declared.SaveAnswer.{SaveAnswer}
 use Rattle.stream_places.specs.declared.SaveAnswer.the-variants as save
@@ -61,12 +61,14 @@ loadFor s f t h k =
     (answered (state (holding h (k .shift) (k .count)) (put t 0 (wordsAt (k .count) f 0))))))))))
 
 -- the stream's own, then the file's, then those of both
-unfoldable pub loadOf : List ℕ → List ℕ → List ℕ → Answer State
-loadOf s f t = then (headerOf s) (λ h. then (trailerOf f) (loadFor s f t h))
+unfoldable pub loadBy : Form → List ℕ → List ℕ → List ℕ → Answer State
+loadBy form s f t = then (headerOf s) (λ h. then (trailerBy form f) (loadFor s f t h))
 
--- the same of either form
-unfoldable pub loadWideOf : List ℕ → List ℕ → List ℕ → Answer State
-loadWideOf s f t = then (headerOf s) (λ h. then (trailerOfEither f) (loadFor s f t h))
+abbrev pub loadOf : List ℕ → List ℕ → List ℕ → Answer State
+loadOf = loadBy narrow
+
+abbrev pub loadWideOf : List ℕ → List ℕ → List ℕ → Answer State
+loadWideOf s f t = loadBy (formOf f) s f t
 
 -- ---- saving
 
@@ -99,15 +101,18 @@ saveFor form bytes σ room h =
     (stop (ltb room (4 * σ .finder .held + trailerSize form)) 19
     (answered (fileOf form h bytes σ)))))))
 
-unfoldable pub saveOf : List ℕ → State → ℕ → Answer (List ℕ)
-saveOf s σ room = then (headerOf s) (saveFor narrow (length s) σ room)
+unfoldable pub saveBy : Form → List ℕ → State → ℕ → Answer (List ℕ)
+saveBy form s σ room = then (headerOf s) (saveFor form (length s) σ room)
+
+abbrev pub saveOf : List ℕ → State → ℕ → Answer (List ℕ)
+saveOf = saveBy narrow
 
 -- "a table that fits the old form is still written in the old form"
 abbrev pub formFor : ℕ → Form
 formFor n = pick (ltb 65535 n) wide narrow
 
-unfoldable pub saveWideOf : List ℕ → State → ℕ → Answer (List ℕ)
-saveWideOf s σ room = then (headerOf s) (saveFor (formFor (σ .finder .held)) (length s) σ room)
+abbrev pub saveWideOf : List ℕ → State → ℕ → Answer (List ℕ)
+saveWideOf s σ room = saveBy (formFor (σ .finder .held)) s σ room
 
 -- ---- what the answers say
 

@@ -17,13 +17,13 @@ loaded-requires c κs =
     (header-short _ _ (told saidHeader (c .before .before .before .before .before .before .before .before .parse .ensures) (c .before .before .before .before .before .before .h .given .1)), k .shift, omega arith, header-inside _ _ (told saidHeader (c .before .before .before .before .before .before .before .before .parse .ensures) (c .before .before .before .before .before .before .h .given .1)))
 
 returns : tie.Need-returns
-returns c = leaves-as _ _ _ _ _ (load-trailer _ _ _ _ _ (told saidHeader (c .before .before .before .before .before .before .before .before .before .before .before .parse .ensures) (c .before .before .before .before .before .before .before .before .before .h .given .1)) (told saidTrailer (c .before .before .before .before .before .before .before .parse2 .ensures) (c .before .before .before .before .before .k .given .1))) (c .before .before .loaded .ensures)
+returns c = leaves-as _ _ _ _ _ (load-trailer _ _ _ _ _ _ (told saidHeader (c .before .before .before .before .before .before .before .before .before .before .before .parse .ensures) (c .before .before .before .before .before .before .before .before .before .h .given .1)) (told saidTrailer (c .before .before .before .before .before .before .before .parse2 .ensures) (c .before .before .before .before .before .k .given .1))) (c .before .before .loaded .ensures)
 
 returns-2 : tie.Need-returns-2
-returns-2 c = leaves _ _ _ _ _ (load-trailer _ _ _ _ _ (told saidHeader (c .before .before .before .before .before .before .before .parse .ensures) (c .before .before .before .before .before .h .given .1)) (told saidTrailer (c .before .before .before .parse2 .ensures) (c .before .e .given .1))) refl refl
+returns-2 c = leaves _ _ _ _ _ (load-trailer _ _ _ _ _ _ (told saidHeader (c .before .before .before .before .before .before .before .parse .ensures) (c .before .before .before .before .before .h .given .1)) (told saidTrailer (c .before .before .before .parse2 .ensures) (c .before .e .given .1))) refl refl
 
 returns-3 : tie.Need-returns-3
-returns-3 c = leaves _ _ _ _ _ (load-header _ _ _ _ (told saidHeader (c .before .before .before .parse .ensures) (c .before .e2 .given .1))) refl refl
+returns-3 c = leaves _ _ _ _ _ (load-header _ _ _ _ _ (told saidHeader (c .before .before .before .parse .ensures) (c .before .e2 .given .1))) refl refl
 
 pub load-spec : {M : Type 1} → statement M
 load-spec =

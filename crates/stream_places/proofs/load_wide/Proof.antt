@@ -7,7 +7,7 @@ use Rattle.stream_header.specs.Header.{saidHeader}
 use Rattle.stream_finder.proofs.FinderLaws.{leaves, leaves-as}
 use Rattle.stream_places.specs.File.{saidTrailer}
 use Rattle.stream_places.proofs.FileLaws.{either-inside}
-use Rattle.stream_places.proofs.PlacesLaws.{load-wide-header, load-wide-trailer, header-inside, header-short}
+use Rattle.stream_places.proofs.PlacesLaws.{load-header, load-trailer, header-inside, header-short}
 use Rattle.stream_places.proofs.load_wide.Statement.{statement}
 use Rattle.stream_places.proofs.load_wide.Tie as tie
 
@@ -17,13 +17,13 @@ loaded-requires c κs =
     (header-short _ _ (told saidHeader (c .before .before .before .before .before .before .before .before .parse .ensures) (c .before .before .before .before .before .before .h .given .1)), k .0, k .1, header-inside _ _ (told saidHeader (c .before .before .before .before .before .before .before .before .parse .ensures) (c .before .before .before .before .before .before .h .given .1)))
 
 returns : tie.Need-returns
-returns c = leaves-as _ _ _ _ _ (load-wide-trailer _ _ _ _ _ (told saidHeader (c .before .before .before .before .before .before .before .before .before .before .before .parse .ensures) (c .before .before .before .before .before .before .before .before .before .h .given .1)) (told saidTrailer (c .before .before .before .before .before .before .before .parse-wide .ensures) (c .before .before .before .before .before .k .given .1))) (c .before .before .loaded .ensures)
+returns c = leaves-as _ _ _ _ _ (load-trailer _ _ _ _ _ _ (told saidHeader (c .before .before .before .before .before .before .before .before .before .before .before .parse .ensures) (c .before .before .before .before .before .before .before .before .before .h .given .1)) (told saidTrailer (c .before .before .before .before .before .before .before .parse-wide .ensures) (c .before .before .before .before .before .k .given .1))) (c .before .before .loaded .ensures)
 
 returns-2 : tie.Need-returns-2
-returns-2 c = leaves _ _ _ _ _ (load-wide-trailer _ _ _ _ _ (told saidHeader (c .before .before .before .before .before .before .before .parse .ensures) (c .before .before .before .before .before .h .given .1)) (told saidTrailer (c .before .before .before .parse-wide .ensures) (c .before .e .given .1))) refl refl
+returns-2 c = leaves _ _ _ _ _ (load-trailer _ _ _ _ _ _ (told saidHeader (c .before .before .before .before .before .before .before .parse .ensures) (c .before .before .before .before .before .h .given .1)) (told saidTrailer (c .before .before .before .parse-wide .ensures) (c .before .e .given .1))) refl refl
 
 returns-3 : tie.Need-returns-3
-returns-3 c = leaves _ _ _ _ _ (load-wide-header _ _ _ _ (told saidHeader (c .before .before .before .parse .ensures) (c .before .e2 .given .1))) refl refl
+returns-3 c = leaves _ _ _ _ _ (load-header _ _ _ _ _ (told saidHeader (c .before .before .before .parse .ensures) (c .before .e2 .given .1))) refl refl
 
 pub load-wide-spec : {M : Type 1} → statement M
 load-wide-spec =

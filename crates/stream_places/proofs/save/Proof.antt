@@ -11,10 +11,10 @@ saved-requires : tie.Need-saved-requires
 saved-requires c κs = header-short _ _ (told saidHeader (c .before .before .before .before .parse .ensures) (c .before .before .h .given .1))
 
 returns : tie.Need-returns
-returns c = saves-as _ _ _ _ _ (save-header _ _ _ _ (told saidHeader (c .before .before .before .before .before .before .before .parse .ensures) (c .before .before .before .before .before .h .given .1))) (c .before .before .saved .ensures)
+returns c = saves-as _ _ _ _ _ (save-header _ _ _ _ _ (told saidHeader (c .before .before .before .before .before .before .before .parse .ensures) (c .before .before .before .before .before .h .given .1))) (c .before .before .saved .ensures)
 
 returns-2 : tie.Need-returns-2
-returns-2 c = saves _ _ _ _ _ (save-header _ _ _ _ (told saidHeader (c .before .before .before .parse .ensures) (c .before .e .given .1))) refl refl
+returns-2 c = saves _ _ _ _ _ (save-header _ _ _ _ _ (told saidHeader (c .before .before .before .parse .ensures) (c .before .e .given .1))) refl refl
 
 pub save-spec : {M : Type 1} → statement M
 save-spec =

@@ -3,7 +3,7 @@ use borrow.Author.Needs.{needs}
 use mathlib.Core.Path.{refl}
 use Rattle.answer.proofs.Told.{told}
 use Rattle.stream_header.specs.Header.{saidHeader}
-use Rattle.stream_places.proofs.PlacesLaws.{save-wide-header, save-wide-by, saves, saves-as, header-short}
+use Rattle.stream_places.proofs.PlacesLaws.{save-header, save-by, saves, saves-as, header-short}
 use Rattle.stream_places.proofs.save_wide.Statement.{statement}
 use Rattle.stream_places.proofs.save_wide.Tie as tie
 
@@ -11,10 +11,10 @@ saved-requires : tie.Need-saved-requires
 saved-requires c κs = header-short _ _ (told saidHeader (c .before .before .before .before .before .parse .ensures) (c .before .before .before .h .given .1))
 
 returns : tie.Need-returns
-returns c = saves-as _ _ _ _ _ (save-wide-by _ _ _ _ _ (told saidHeader (c .before .before .before .before .before .before .before .before .parse .ensures) (c .before .before .before .before .before .before .h .given .1)) (c .before .before .before .before .width-for .ensures)) (c .before .before .saved .ensures)
+returns c = saves-as _ _ _ _ _ (save-by _ _ _ _ _ _ (told saidHeader (c .before .before .before .before .before .before .before .before .parse .ensures) (c .before .before .before .before .before .before .h .given .1)) (c .before .before .before .before .width-for .ensures)) (c .before .before .saved .ensures)
 
 returns-2 : tie.Need-returns-2
-returns-2 c = saves _ _ _ _ _ (save-wide-header _ _ _ _ (told saidHeader (c .before .before .before .parse .ensures) (c .before .e .given .1))) refl refl
+returns-2 c = saves _ _ _ _ _ (save-header _ _ _ _ _ (told saidHeader (c .before .before .before .parse .ensures) (c .before .e .given .1))) refl refl
 
 pub save-wide-spec : {M : Type 1} → statement M
 save-wide-spec =
