@@ -15,6 +15,7 @@ use Rattle.stream_item.specs.declared.Entry.the-variants as entry
 use Rattle.stream_item.specs.declared.iter.ItemIter.{ItemIter}
 use Rattle.stream_finder.specs.Finder.{State, state, Found, finderOf, tableAfter}
 use Rattle.stream_finder.specs.declared.ItemFinder.{ItemFinder}
+use Rattle.stream_places.specs.Places.{sizeIn, bufferAfter}
 use Rattle.word_primitive.specs.declared.PrimitiveType.{PrimitiveType}
 
 -- ---- what C gives
@@ -82,3 +83,17 @@ primitiveFields i p = (i % 2 ^ 8) ∷ (i / 2 ^ 8 % 2 ^ 4) ∷ []
 
 abbrev pub outPrimitive : ℕ → Answer PrimitiveType → ℕ × List ℕ
 outPrimitive i = handed 2 (primitiveFields i)
+
+-- a finder; and the table after the call
+abbrev pub finderFields : ItemFinder → List ℕ
+finderFields f = f .«minimum_index» ∷ f .«maximum_index» ∷ f .held ∷ f .shift ∷ []
+
+abbrev pub outLoad : List ℕ → Answer State → ℕ × List ℕ × List ℕ
+outLoad t a = (handed 4 finderFields (finderOf a) .0, handed 4 finderFields (finderOf a) .1, tableAfter t a)
+
+-- how many bytes a file has; and the buffer after the call
+abbrev pub sizeField : ℕ → List ℕ
+sizeField n = n ∷ []
+
+abbrev pub outSave : List ℕ → Answer (List ℕ) → ℕ × List ℕ × List ℕ
+outSave o a = (handed 1 sizeField (sizeIn a) .0, handed 1 sizeField (sizeIn a) .1, bufferAfter o a)

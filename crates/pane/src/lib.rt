@@ -1,18 +1,20 @@
 // The debugger's pane: header, next, update, find and primitive for a caller that is written in C (or in anything that calls C), through plain
-// numbers and byte slices. R-14 of document 02. c/pdb.h declares the five for C, rust/ wraps them for Rust.
+// numbers and byte slices, R-14 of document 02; and beside them the places of a finder kept in a file, R-3 and R-10. c/pdb.h declares all for C,
+// rust/ wraps the five for Rust.
 //
 // The result is the number of 01 or 02, 0 for an answer. Behind `out`, which is written whole by every call: the two detail values, then the
 // answer's fields, 0 where there is none. So what C gets is one value, and each contract is one equation between it and the definition that the
 // plain function's contract cites (specs/Out.antt).
 ghost use mathlib.Core.Path.{_≡_};
 ghost use mathlib.Core.List.{_∷_};
-ghost use lib.ListN.{getD};
+ghost use lib.ListN.{length, getD};
 ghost use Rattle.answer.specs.Refusals.{detailsOf};
 ghost use Rattle.stream_header.specs.Header.{headerOf};
 ghost use Rattle.stream_item.specs.Iterator.{nextOf};
 ghost use Rattle.stream_finder.specs.Finder.{updateOf, findOf};
+ghost use Rattle.stream_places.specs.Places.{loadWideOf, saveWideOf};
 ghost use Rattle.word_primitive.specs.Primitive.{primitiveOf};
-ghost use Rattle.pane.specs.Out.{bitsOf, headerFields, cursorAt, finderAt, typeAt, outHeader, outNext, outUpdate, outFind, outPrimitive};
+ghost use Rattle.pane.specs.Out.{bitsOf, headerFields, cursorAt, finderAt, typeAt, outHeader, outNext, outUpdate, outFind, outPrimitive, outLoad, outSave};
 use answer::Details;
 use answer::Refusal;
 use field::index::Stream;
@@ -25,6 +27,7 @@ use stream_header::HeaderAnswer;
 use stream_item::Entry;
 use stream_item::iter::ItemIter;
 use stream_item::iter::NextAnswer;
+use stream_places::SaveAnswer;
 use word_primitive::PrimitiveAnswer;
 
 // The first detail of a refusal, 0 where it has none.
@@ -251,6 +254,64 @@ pub extern "C" fn pdb_primitive(index: u32, out: &mut [u64; 4]) -> u32
         }
         PrimitiveAnswer::Refused(e) => {
             *out = [first(e), second(e), 0, 0];
+            e.number()
+        }
+    }
+}
+
+// The finder whose places a file keeps, of either form. Behind `out`: the details, the finder's minimum and maximum, how many places it holds, and its
+// shift. The table has the places first, or is as it was.
+#[no_mangle]
+pub extern "C" fn pdb_load(s: &[u8], file: &[u8], table: &mut [u32], out: &mut [u64; 6]) -> u32
+    ensures { λ r. ⌜ (r, now (out .exit), now (table .exit)) ≡ outLoad (now (table .entry)) (loadWideOf (now (s .entry)) (now (file .entry)) (now (table .entry))) ⌝ }
+{
+    match stream_places::load_wide(s, file, table) {
+        FinderAnswer::Answered(g) => {
+            *out = [
+                0,
+                0,
+                g.minimum_index as u64,
+                g.maximum_index as u64,
+                g.held as u64,
+                g.shift as u64,
+            ];
+            0
+        }
+        FinderAnswer::Refused(e) => {
+            *out = [first(e), second(e), 0, 0, 0, 0];
+            e.number()
+        }
+    }
+}
+
+// The file that keeps the places of a finder, in the first bytes of the buffer. Behind `out`: the details, and how many bytes the file has. At a refusal the
+// buffer is as it was.
+#[no_mangle]
+pub extern "C" fn pdb_save(
+    s: &[u8],
+    table: &[u32],
+    minimum: u32,
+    maximum: u32,
+    held: usize,
+    shift: u32,
+    buffer: &mut [u8],
+    out: &mut [u64; 3],
+) -> u32
+    ensures { λ r. ⌜ (r, now (out .exit), now (buffer .exit)) ≡ outSave (now (buffer .entry)) (saveWideOf (now (s .entry)) (finderAt minimum maximum held shift (now (table .entry))) (length (now (buffer .entry)))) ⌝ }
+{
+    let f = ItemFinder {
+        minimum_index: minimum,
+        maximum_index: maximum,
+        held: held,
+        shift: shift,
+    };
+    match stream_places::save_wide(s, f, table, buffer) {
+        SaveAnswer::Answered(n) => {
+            *out = [0, 0, n as u64];
+            0
+        }
+        SaveAnswer::Refused(e) => {
+            *out = [first(e), second(e), 0];
             e.number()
         }
     }
