@@ -1,9 +1,9 @@
-/* Types of program databases, for C: five proved functions in libpane.a, which `rt staticlib pane` writes. They need no other library.
+/* Types of program databases, for C: seven proved functions in libpane.a, which `rt staticlib pane` writes. They need no other library.
  *
  * What a caller owes, and nothing checks:
  *   1. every pointer is non-null and aligned, also where its count is 0;
- *   2. `s` points to s_len bytes, `table` to table_len elements, `out` to as many as its name says below;
- *   3. no two of these overlap, but that s may be read by several calls at once;
+ *   2. `s` points to s_len bytes, `file` to file_len, `buffer` to buffer_len, `table` to table_len elements, `out` to as many as its name says below;
+ *   3. no two of these overlap, but that what is only read may be read by several calls at once;
  *   4. nothing else writes them while a call runs.
  * Nothing is owed of their contents, nor of any number: every byte string and every number is answered or refused.
  *
@@ -65,6 +65,18 @@ uint32_t pdb_find(const uint8_t *s, size_t s_len, const uint32_t *table, size_t 
 /* The primitive type of an index below 0x1000: the low byte that names its kind, and its indirection, 0 for none, 1 to 7 as in bits 8 to 11. */
 enum { PDB_PRIMITIVE_KIND = 2, PDB_PRIMITIVE_INDIRECTION, PDB_PRIMITIVE_OUT };
 uint32_t pdb_primitive(uint32_t index, uint64_t out[PDB_PRIMITIVE_OUT]);
+
+/* The places of a finder kept in a file, so that a stream is walked once and not each morning. A file of n places has 4 n + 28 bytes, from 65,536 places
+ * on 4 n + 30; pdb_save writes it into the first bytes of `buffer`. At a refusal the buffer is as it was. */
+enum { PDB_SAVE_BYTES = 2, PDB_SAVE_OUT };
+uint32_t pdb_save(const uint8_t *s, size_t s_len, const uint32_t *table, size_t table_len, uint32_t minimum, uint32_t maximum, size_t held,
+                  uint32_t shift, uint8_t *buffer, size_t buffer_len, uint64_t out[PDB_SAVE_OUT]);
+
+/* The finder that such a file keeps, of either length: its places are the first of the table. Every place is looked at; a file that is cut, made for another
+ * stream or changed is refused (20, 21, 22), and then the table is as it was. */
+enum { PDB_LOAD_MINIMUM = 2, PDB_LOAD_MAXIMUM, PDB_LOAD_HELD, PDB_LOAD_SHIFT, PDB_LOAD_OUT };
+uint32_t pdb_load(const uint8_t *s, size_t s_len, const uint8_t *file, size_t file_len, uint32_t *table, size_t table_len,
+                  uint64_t out[PDB_LOAD_OUT]);
 
 #ifdef __cplusplus
 }

@@ -48,8 +48,10 @@ use Rattle.field_text.proofs.string_at.Met as field-text-string-at
 use Rattle.field_text.proofs.string_of.Met as field-text-string-of
 use Rattle.pane.proofs.pdb_find.Met as pane-pdb-find
 use Rattle.pane.proofs.pdb_header.Met as pane-pdb-header
+use Rattle.pane.proofs.pdb_load.Met as pane-pdb-load
 use Rattle.pane.proofs.pdb_next.Met as pane-pdb-next
 use Rattle.pane.proofs.pdb_primitive.Met as pane-pdb-primitive
+use Rattle.pane.proofs.pdb_save.Met as pane-pdb-save
 use Rattle.pane.proofs.pdb_update.Met as pane-pdb-update
 use Rattle.record_data.proofs.TypeData.name.Met as record-data-type-data-name
 use Rattle.record_data.proofs.type_data.Met as record-data-type-data
@@ -220,6 +222,8 @@ tied = record {
   pane-pdb-update = record { says = λ M 𝓤 H A mem run. refl; meets = λ M. pane-pdb-update.met };
   pane-pdb-find = record { says = λ M 𝓤 H A mem run. refl; meets = λ M. pane-pdb-find.met };
   pane-pdb-primitive = record { says = λ M 𝓤 H A mem run. refl; meets = λ M. pane-pdb-primitive.met };
+  pane-pdb-load = record { says = λ M 𝓤 H A mem run. refl; meets = λ M. pane-pdb-load.met };
+  pane-pdb-save = record { says = λ M 𝓤 H A mem run. refl; meets = λ M. pane-pdb-save.met };
   record-data-type-data-name = record { says = λ M 𝓤 H A mem run. refl; meets = λ M. record-data-type-data-name.met };
   record-data-type-data = record { says = λ M 𝓤 H A mem run. refl; meets = λ M. record-data-type-data.met };
   record-id-id-data = record { says = λ M 𝓤 H A mem run. refl; meets = λ M. record-id-id-data.met };

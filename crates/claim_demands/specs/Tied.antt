@@ -95,10 +95,14 @@ use Rattle.pane.proofs.pdb_find as pane-pdb-find-source
 use Rattle.pane.proofs.pdb_find.Symbol as pane-pdb-find-code
 use Rattle.pane.proofs.pdb_header as pane-pdb-header-source
 use Rattle.pane.proofs.pdb_header.Symbol as pane-pdb-header-code
+use Rattle.pane.proofs.pdb_load as pane-pdb-load-source
+use Rattle.pane.proofs.pdb_load.Symbol as pane-pdb-load-code
 use Rattle.pane.proofs.pdb_next as pane-pdb-next-source
 use Rattle.pane.proofs.pdb_next.Symbol as pane-pdb-next-code
 use Rattle.pane.proofs.pdb_primitive as pane-pdb-primitive-source
 use Rattle.pane.proofs.pdb_primitive.Symbol as pane-pdb-primitive-code
+use Rattle.pane.proofs.pdb_save as pane-pdb-save-source
+use Rattle.pane.proofs.pdb_save.Symbol as pane-pdb-save-code
 use Rattle.pane.proofs.pdb_update as pane-pdb-update-source
 use Rattle.pane.proofs.pdb_update.Symbol as pane-pdb-update-code
 use Rattle.record_data.proofs.TypeData.name as record-data-type-data-name-source
@@ -435,6 +439,10 @@ pub record Tied : Type 2 where
   pub pane-pdb-find : Tie pane-pdb-find-source.ended (λ M. pane-pdb-find-source.clauses) pane-pdb-find-code.routine (λ κs a r e. contract.pane-pdb-find (now (a .0)) (now (a .1 .0)) (a .1 .1 .0) (a .1 .1 .1 .0) (a .1 .1 .1 .1 .0) (a .1 .1 .1 .1 .1 .0) (a .1 .1 .1 .1 .1 .1 .0) r (now (e .1 .1 .1 .1 .1 .1 .1 .0)))
   -- pane::pdb_primitive
   pub pane-pdb-primitive : Tie pane-pdb-primitive-source.ended (λ M. pane-pdb-primitive-source.clauses) pane-pdb-primitive-code.routine (λ κs a r e. contract.pane-pdb-primitive (a .0) r (now (e .1 .0)))
+  -- pane::pdb_load
+  pub pane-pdb-load : Tie pane-pdb-load-source.ended (λ M. pane-pdb-load-source.clauses) pane-pdb-load-code.routine (λ κs a r e. contract.pane-pdb-load (now (a .0)) (now (a .1 .0)) (now (a .1 .1 .0)) r (now (e .1 .1 .0)) (now (e .1 .1 .1 .0)))
+  -- pane::pdb_save
+  pub pane-pdb-save : Tie pane-pdb-save-source.ended (λ M. pane-pdb-save-source.clauses) pane-pdb-save-code.routine (λ κs a r e. contract.pane-pdb-save (now (a .0)) (now (a .1 .0)) (a .1 .1 .0) (a .1 .1 .1 .0) (a .1 .1 .1 .1 .0) (a .1 .1 .1 .1 .1 .0) (now (a .1 .1 .1 .1 .1 .1 .0)) r (now (e .1 .1 .1 .1 .1 .1 .0)) (now (e .1 .1 .1 .1 .1 .1 .1 .0)))
   -- record_data::TypeData::name
   pub record-data-type-data-name : Tie record-data-type-data-name-source.ended (λ M. record-data-type-data-name-source.clauses) record-data-type-data-name-code.routine (λ κs a r e. contract.record-data-type-data-name (a .0) r)
   -- record_data::type_data

@@ -17,7 +17,7 @@ use Rattle.field.specs.declared.index.Stream.{Stream}
 use Rattle.field.specs.declared.index.TypeIndex.{TypeIndex}
 use Rattle.field_number.specs.Forms.{numeralAt, saidSize as saidSize-of-field-number, saidVariant, sizedAt}
 use Rattle.field_text.specs.Texts.{paddingAfter, saidString, stringAt, stringOf}
-use Rattle.pane.specs.Out.{cursorAt, finderAt, outFind, outHeader, outNext, outPrimitive, outUpdate, typeAt}
+use Rattle.pane.specs.Out.{cursorAt, finderAt, outFind, outHeader, outLoad, outNext, outPrimitive, outSave, outUpdate, typeAt}
 use Rattle.record_data.specs.Said.{saidTypeData, typeValues}
 use Rattle.record_data.specs.declared.TypeData.{TypeData}
 use Rattle.record_id.specs.Said.{idValues, saidIdData}
@@ -177,6 +177,8 @@ pub record Answers : Type 1 where
   pub pane-pdb-header : (s : List ℕ) (r : ℕ) (out′ : List ℕ) → contract.pane-pdb-header s r out′ → (r, out′) ≡ outHeader (headerOf s)
   pub pane-pdb-next : (s : List ℕ) (at : ℕ) (index : ℕ) (r : ℕ) (out′ : List ℕ) → contract.pane-pdb-next s at index r out′ → (r, out′) ≡ outNext (nextOf s (cursorAt at index))
   pub pane-pdb-update : (table : List ℕ) (minimum : ℕ) (maximum : ℕ) (held : ℕ) (shift : ℕ) (at : ℕ) (index : ℕ) (r : ℕ) (table′ : List ℕ) (out′ : List ℕ) → contract.pane-pdb-update table minimum maximum held shift at index r table′ out′ → (r, out′, table′) ≡ outUpdate table (updateOf (finderAt minimum maximum held shift table) (cursorAt at index))
+  pub pane-pdb-load : (s : List ℕ) (file : List ℕ) (table : List ℕ) (r : ℕ) (table′ : List ℕ) (out′ : List ℕ) → contract.pane-pdb-load s file table r table′ out′ → (r, out′, table′) ≡ outLoad table (loadWideOf s file table)
+  pub pane-pdb-save : (s : List ℕ) (table : List ℕ) (minimum : ℕ) (maximum : ℕ) (held : ℕ) (shift : ℕ) (buffer : List ℕ) (r : ℕ) (buffer′ : List ℕ) (out′ : List ℕ) → contract.pane-pdb-save s table minimum maximum held shift buffer r buffer′ out′ → (r, out′, buffer′) ≡ outSave buffer (saveWideOf s (finderAt minimum maximum held shift table) (length buffer))
   pub pane-pdb-find : (s : List ℕ) (table : List ℕ) (minimum : ℕ) (maximum : ℕ) (held : ℕ) (shift : ℕ) (index : ℕ) (r : ℕ) (out′ : List ℕ) → contract.pane-pdb-find s table minimum maximum held shift index r out′ → (r, out′) ≡ outFind (findOf s (finderAt minimum maximum held shift table) (typeAt index))
   pub pane-pdb-primitive : (index : ℕ) (r : ℕ) (out′ : List ℕ) → contract.pane-pdb-primitive index r out′ → (r, out′) ≡ outPrimitive index (primitiveOf index)
   -- attribute words: the crate's own methods

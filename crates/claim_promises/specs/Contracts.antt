@@ -61,7 +61,7 @@ use Rattle.field_text.specs.Texts.{paddingAfter, part, saidString, stringAt, st
 use Rattle.field_text.specs.declared.OptString.{OptString}
 use Rattle.field_text.specs.declared.RawString.{RawString}
 use Rattle.field_text.specs.declared.ReadString.{ReadString}
-use Rattle.pane.specs.Out.{cursorAt, finderAt, outFind, outHeader, outNext, outPrimitive, outUpdate, typeAt}
+use Rattle.pane.specs.Out.{cursorAt, finderAt, outFind, outHeader, outLoad, outNext, outPrimitive, outSave, outUpdate, typeAt}
 use Rattle.record_data.specs.Said.{saidTypeData, stringValue, typeName, typeValues}
 use Rattle.record_data.specs.declared.TypeAnswer.{TypeAnswer}
 use Rattle.record_data.specs.declared.TypeData.{TypeData}
@@ -352,6 +352,14 @@ pane-pdb-find s table minimum maximum held shift index r out′ = (r, out′) �
 -- pane::pdb_primitive
 abbrev pub pane-pdb-primitive : (index : ℕ) → ℕ → List ℕ → Type 0
 pane-pdb-primitive index r out′ = (r, out′) ≡ outPrimitive index (primitiveOf index)
+
+-- pane::pdb_load
+abbrev pub pane-pdb-load : (s : List ℕ) (file : List ℕ) (table : List ℕ) → ℕ → List ℕ → List ℕ → Type 0
+pane-pdb-load s file table r table′ out′ = (r, out′, table′) ≡ outLoad table (loadWideOf s file table)
+
+-- pane::pdb_save
+abbrev pub pane-pdb-save : (s : List ℕ) (table : List ℕ) (minimum : ℕ) (maximum : ℕ) (held : ℕ) (shift : ℕ) (buffer : List ℕ) → ℕ → List ℕ → List ℕ → Type 0
+pane-pdb-save s table minimum maximum held shift buffer r buffer′ out′ = (r, out′, buffer′) ≡ outSave buffer (saveWideOf s (finderAt minimum maximum held shift table) (length buffer))
 
 -- record_data::TypeData::name
 abbrev pub record-data-type-data-name : (self : TypeData) → OptString → Type 0

@@ -112,6 +112,8 @@ pub record OneOutcome : Type 1 where
   pub pane-pdb-update : (table : List ℕ) (minimum : ℕ) (maximum : ℕ) (held : ℕ) (shift : ℕ) (at : ℕ) (index : ℕ) → OnceLentTwo (contract.pane-pdb-update table minimum maximum held shift at index)
   pub pane-pdb-find : (s : List ℕ) (table : List ℕ) (minimum : ℕ) (maximum : ℕ) (held : ℕ) (shift : ℕ) (index : ℕ) → OnceLent (contract.pane-pdb-find s table minimum maximum held shift index)
   pub pane-pdb-primitive : (index : ℕ) → OnceLent (contract.pane-pdb-primitive index)
+  pub pane-pdb-load : (s : List ℕ) (file : List ℕ) (table : List ℕ) → OnceLentTwo (contract.pane-pdb-load s file table)
+  pub pane-pdb-save : (s : List ℕ) (table : List ℕ) (minimum : ℕ) (maximum : ℕ) (held : ℕ) (shift : ℕ) (buffer : List ℕ) → OnceLentTwo (contract.pane-pdb-save s table minimum maximum held shift buffer)
   -- record_data
   pub record-data-type-data-name : (self : TypeData) → Once (contract.record-data-type-data-name self)
   pub record-data-type-data : (s : List ℕ) → Once (contract.record-data-type-data s)

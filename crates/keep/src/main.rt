@@ -58,7 +58,7 @@ fn write(file: &[u8], n: usize) {
 }
 
 fn save(s: &[u8], f: ItemFinder, t: &[u32], file: &mut [u8]) {
-    match stream_places::save(s, f, t, file) {
+    match stream_places::save_wide(s, f, t, file) {
         SaveAnswer::Answered(n) => write(file, n),
         SaveAnswer::Refused(e) => put_refused(e),
     }
