@@ -1,0 +1,4 @@
+pub mod References
+pub mod Values
+pub mod Decoded
+pub mod Said
