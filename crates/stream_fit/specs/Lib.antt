@@ -1,0 +1,4 @@
+pub mod Fit
+pub mod Worst
+pub mod Sentences
+pub mod After
