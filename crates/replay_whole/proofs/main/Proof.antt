@@ -1,0 +1,17 @@
+-- `replay_whole::main` is safe and ends: its turns are counted down. Assumes nothing.
+use Prim.Native.Nat.{_-_}
+use borrow.Author.Needs.{needs}
+use Rattle.replay_whole.proofs.main.Statement.{statement}
+use Rattle.replay_whole.proofs.main.Tie as tie
+
+abbrev Inv-loop : tie.InvT-loop
+Inv-loop buffer₀ bytes₀ input₀ turns₀ buffer bytes input turns = Unit {0}
+
+abbrev μ-loop : tie.MeasureT-loop
+μ-loop buffer₀ bytes₀ input₀ turns₀ buffer bytes input turns = turns
+
+pub main-spec : {M : Type 1} → statement M
+main-spec =
+    tie.close (tie.spec
+    Inv-loop μ-loop (λ c. search needs) (λ c. search needs) (λ c κs. search needs) (λ c κs. search needs) (λ c. search needs)
+    (λ c. search needs) (λ c. search needs) (λ c. search needs))

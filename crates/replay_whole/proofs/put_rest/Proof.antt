@@ -1,0 +1,16 @@
+-- `replay_whole::put_rest` is safe and ends: its turns are counted down. Assumes nothing.
+use borrow.Author.Needs.{needs}
+use Rattle.replay_whole.proofs.put_rest.Statement.{statement}
+use Rattle.replay_whole.proofs.put_rest.Tie as tie
+
+abbrev Inv-loop : tie.InvT-loop
+Inv-loop buffer₀ input₀ turns₀ buffer input turns = Unit {0}
+
+abbrev μ-loop : tie.MeasureT-loop
+μ-loop buffer₀ input₀ turns₀ buffer input turns = turns
+
+pub put-rest-spec : {M : Type 1} → statement M
+put-rest-spec =
+    tie.close (tie.spec
+    Inv-loop μ-loop (λ c. search needs) (λ c. search needs) (λ c κs. search needs) (λ c κs. search needs) (λ c. search needs)
+    (λ c κs. search needs) (λ c κs. search needs) (λ c. search needs) (λ c. search needs) (λ c. search needs))
