@@ -4,6 +4,9 @@ use Rattle.record_layout.proofs.AsIn01.{as-in-01}
 use Rattle.claim_model.proofs.Demand2.{demand2}
 use Rattle.stream_finder.proofs.DemandProof.{demand3, demand3-every, not-indexed, not-indexed-every}
 use Rattle.stream_finder.proofs.SharedProof.{shared, of-runs}
+use Rattle.record_reference.proofs.DecodedLaws.{has-exactly}
+use Rattle.stream_fit.proofs.AfterLaws.{after-yes}
+use Rattle.stream_fit.proofs.SentenceLaws.{sentences}
 use Rattle.stream_places.proofs.KeptProof.{load-serves, wide-serves, round-trip, wide-trip, one-encoding, one-encoding-wide, loaders-agree}
 use Rattle.write_layout.proofs.RoundTripProof.{fields-read-back, record-reads-back}
 use Rattle.write_layout.proofs.Rewrite.{exactly-17}
@@ -49,6 +52,9 @@ demands = record {
   loaded = load-serves;
   saved-and-loaded = round-trip;
   one-file = one-encoding;
+  fitness = sentences;
+  after-fitness = after-yes;
+  references = has-exactly;
   wide-loaded = wide-serves;
   wide-saved-and-loaded = wide-trip;
   wide-one-file = one-encoding-wide;

@@ -68,6 +68,8 @@ use Rattle.record_reader.proofs.ListReader.new.Met as record-reader-list-reader
 use Rattle.record_reader.proofs.ListReader.step.Met as record-reader-list-reader-step
 use Rattle.record_reader.proofs.nth.Met as record-reader-nth
 use Rattle.record_reader.proofs.step_of.Met as record-reader-step-of
+use Rattle.record_reference.proofs.element_references.Met as record-reference-element-references
+use Rattle.record_reference.proofs.record_references.Met as record-reference-record-references
 use Rattle.section_finder.proofs.create.Met as section-finder-create
 use Rattle.section_finder.proofs.create_by.Met as section-finder-create-by
 use Rattle.section_finder.proofs.index_all.Met as section-finder-index-all
@@ -87,6 +89,7 @@ use Rattle.stream_finder.proofs.find_id.Met as stream-finder-find-id
 use Rattle.stream_finder.proofs.find_type.Met as stream-finder-find-type
 use Rattle.stream_finder.proofs.lent.update_local.Met as stream-finder-lent-update-local
 use Rattle.stream_finder.proofs.update.Met as stream-finder-update
+use Rattle.stream_fit.proofs.fit.Met as stream-fit-fit
 use Rattle.stream_header.proofs.Header.count.Met as stream-header-header-count
 use Rattle.stream_header.proofs.Header.parse.Met as stream-header-header-parse
 use Rattle.stream_index.proofs.index_all.Met as stream-index-index-all
@@ -239,6 +242,8 @@ tied = record {
   record-reader-list-reader-step = record { says = λ M 𝓤 H A mem run. refl; meets = λ M. record-reader-list-reader-step.met };
   record-reader-step-of = record { says = λ M 𝓤 H A mem run. refl; meets = λ M. record-reader-step-of.met };
   record-reader-nth = record { says = λ M 𝓤 H A mem run. refl; meets = λ M. record-reader-nth.met };
+  record-reference-record-references = record { says = λ M 𝓤 H A mem run. refl; meets = λ M. record-reference-record-references.met };
+  record-reference-element-references = record { says = λ M 𝓤 H A mem run. refl; meets = λ M. record-reference-element-references.met };
   section-finder-create = record { says = λ M 𝓤 H A mem run. refl; meets = λ M. section-finder-create.met };
   section-finder-create-by = record { says = λ M 𝓤 H A mem run. refl; meets = λ M. section-finder-create-by.met };
   section-finder-index-all = record { says = λ M 𝓤 H A mem run. refl; meets = λ M. section-finder-index-all.met };
@@ -258,6 +263,7 @@ tied = record {
   stream-finder-find-id = record { says = λ M 𝓤 H A mem run. refl; meets = λ M. stream-finder-find-id.met };
   stream-finder-lent-item-finder-update = record { says = λ M 𝓤 H A mem run. refl; meets = λ M. stream-finder-lent-item-finder-update.met };
   stream-finder-lent-update-local = record { says = λ M 𝓤 H A mem run. refl; meets = λ M. stream-finder-lent-update-local.met };
+  stream-fit-fit = record { says = λ M 𝓤 H A mem run. refl; meets = λ M. stream-fit-fit.met };
   stream-header-header-parse = record { says = λ M 𝓤 H A mem run. refl; meets = λ M. stream-header-header-parse.met };
   stream-header-header-count = record { says = λ M 𝓤 H A mem run. refl; meets = λ M. stream-header-header-count.met };
   stream-index-turn = record { says = λ M 𝓤 H A mem run. refl; meets = λ M. stream-index-turn.met };

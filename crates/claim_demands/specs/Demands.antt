@@ -8,6 +8,9 @@ use Rattle.record_layout.specs.Fields.{AsIn01}
 use Rattle.claim_model.specs.Demand2.{Demand2}
 use Rattle.stream_finder.specs.Demand.{Demand3, Demand3Every, NotIndexed, NotIndexedEvery}
 use Rattle.stream_finder.specs.Shared.{Shared}
+use Rattle.record_reference.specs.Decoded.{HasExactly}
+use Rattle.stream_fit.specs.After.{AfterYes}
+use Rattle.stream_fit.specs.Sentences.{Sentences}
 use Rattle.stream_places.specs.File.{Form}
 use Rattle.stream_places.specs.Kept.{LoadServes, WideServes, RoundTrip, WideTrip, OneEncoding, OneEncodingWide, LoadersAgree}
 use Rattle.write_layout.specs.RoundTrip.{FieldsReadBack, RecordReadsBack, Exactly17}
@@ -63,6 +66,12 @@ pub record Demands : Type 2 where
   pub width-said : WidthSaid
   pub numbers-as-before : AsBefore
   pub layouts-as-before : AsIn01
+  -- document 02, R-9: a stream is fit exactly when every sentence holds, and the no names the lowest faulty record and the first rule that it breaks:
+  -- crates/stream_fit/specs/Sentences.antt. After a yes a filled finder finds every record, and all of it reads: After.antt. A payload has its references
+  -- exactly if the record and every element decode: crates/record_reference/specs/Decoded.antt
+  pub fitness : Sentences
+  pub after-fitness : AfterYes
+  pub references : HasExactly
   -- document 02, R-3: a loaded finder is one "for which demand 3 reads with N = 2^s × (places − 1)"; what was saved is loaded as it was; of a file that
   -- is loaded, saving gives that file: crates/stream_places/specs/Kept.antt
   pub loaded : LoadServes

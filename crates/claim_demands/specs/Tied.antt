@@ -135,6 +135,10 @@ use Rattle.record_reader.proofs.nth as record-reader-nth-source
 use Rattle.record_reader.proofs.nth.Symbol as record-reader-nth-code
 use Rattle.record_reader.proofs.step_of as record-reader-step-of-source
 use Rattle.record_reader.proofs.step_of.Symbol as record-reader-step-of-code
+use Rattle.record_reference.proofs.element_references as record-reference-element-references-source
+use Rattle.record_reference.proofs.element_references.Symbol as record-reference-element-references-code
+use Rattle.record_reference.proofs.record_references as record-reference-record-references-source
+use Rattle.record_reference.proofs.record_references.Symbol as record-reference-record-references-code
 use Rattle.section_finder.proofs.create as section-finder-create-source
 use Rattle.section_finder.proofs.create.Symbol as section-finder-create-code
 use Rattle.section_finder.proofs.create_by as section-finder-create-by-source
@@ -173,6 +177,8 @@ use Rattle.stream_finder.proofs.lent.update_local as stream-finder-lent-update-
 use Rattle.stream_finder.proofs.lent.update_local.Symbol as stream-finder-lent-update-local-code
 use Rattle.stream_finder.proofs.update as stream-finder-update-source
 use Rattle.stream_finder.proofs.update.Symbol as stream-finder-update-code
+use Rattle.stream_fit.proofs.fit as stream-fit-fit-source
+use Rattle.stream_fit.proofs.fit.Symbol as stream-fit-fit-code
 use Rattle.stream_header.proofs.Header.count as stream-header-header-count-source
 use Rattle.stream_header.proofs.Header.count.Symbol as stream-header-header-count-code
 use Rattle.stream_header.proofs.Header.parse as stream-header-header-parse-source
@@ -473,6 +479,10 @@ pub record Tied : Type 2 where
   pub record-reader-step-of : Tie record-reader-step-of-source.ended (λ M. record-reader-step-of-source.clauses) record-reader-step-of-code.routine (λ κs a r e. contract.record-reader-step-of (now (a .0)) (a .1 .0) r)
   -- record_reader::nth
   pub record-reader-nth : Tie record-reader-nth-source.ended (λ M. record-reader-nth-source.clauses) record-reader-nth-code.routine (λ κs a r e. contract.record-reader-nth (a .0) (now (a .1 .0)) (a .1 .1 .0) r)
+  -- record_reference::record_references
+  pub record-reference-record-references : Tie record-reference-record-references-source.ended (λ M. record-reference-record-references-source.clauses) record-reference-record-references-code.routine (λ κs a r e. contract.record-reference-record-references (a .0) r)
+  -- record_reference::element_references
+  pub record-reference-element-references : Tie record-reference-element-references-source.ended (λ M. record-reference-element-references-source.clauses) record-reference-element-references-code.routine (λ κs a r e. contract.record-reference-element-references (a .0) r)
   -- section_finder::create
   pub section-finder-create : Tie section-finder-create-source.ended (λ M. section-finder-create-source.clauses) section-finder-create-code.routine (λ κs a r e. contract.section-finder-create (now (a .0)) (now (a .1 .0)) r (now (e .1 .0)))
   -- section_finder::create_by
@@ -511,6 +521,8 @@ pub record Tied : Type 2 where
   pub stream-finder-lent-item-finder-update : Tie stream-finder-lent-item-finder-update-source.ended (λ M. stream-finder-lent-item-finder-update-source.clauses) stream-finder-lent-item-finder-update-code.routine (λ κs a r e. contract.stream-finder-lent-item-finder-update (now (a .0)) (now (a .1 .0)) (a .1 .1 .0) r (now (e .0)) (now (e .1 .0)))
   -- stream_finder::lent::update_local
   pub stream-finder-lent-update-local : Tie stream-finder-lent-update-local-source.ended (λ M. stream-finder-lent-update-local-source.clauses) stream-finder-lent-update-local-code.routine (λ κs a r e. contract.stream-finder-lent-update-local (a .0) (now (a .1 .0)) (a .1 .1 .0) r (now (e .1 .0)))
+  -- stream_fit::fit
+  pub stream-fit-fit : Tie stream-fit-fit-source.ended (λ M. stream-fit-fit-source.clauses) stream-fit-fit-code.routine (λ κs a r e. contract.stream-fit-fit (now (a .0)) r)
   -- stream_header::Header::parse
   pub stream-header-header-parse : Tie stream-header-header-parse-source.ended (λ M. stream-header-header-parse-source.clauses) stream-header-header-parse-code.routine (λ κs a r e. contract.stream-header-header-parse (now (a .0)) r)
   -- stream_header::Header::count

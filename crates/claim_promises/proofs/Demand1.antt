@@ -8,7 +8,7 @@ use Rattle.stream_places.specs.File.{narrow, formOf}
 use Rattle.stream_places.specs.Places.{loadOf, loadWideOf, formFor, saveOf, saveWideOf}
 use Rattle.record_list.specs.Lists.{stepOf}
 use Rattle.claim_promises.proofs.ReadingRefuses.{fixed-refuses, signed-refuses, optional-refuses, string-refuses, counted-refuses, string-of-refuses, bytes-refuses, padding-refuses, numeral-refuses, sized-refuses}
-use Rattle.claim_promises.proofs.StreamRefuses.{primitive-refuses, kind-refuses, mode-refuses, to-member-refuses, reference-refuses, pointer-size-refuses, header-refuses, iter-refuses, len-refuses, is-empty-refuses, next-refuses, view-refuses, raw-kind-refuses, create-refuses, create-by-refuses, update-refuses, find-refuses, turn-refuses, type-refuses, id-refuses, member-refuses, method-refuses, start-refuses, step-refuses, element-by-refuses, element-refuses, element-ids-refuses, parse-refuses}
+use Rattle.claim_promises.proofs.StreamRefuses.{primitive-refuses, kind-refuses, mode-refuses, to-member-refuses, reference-refuses, pointer-size-refuses, header-refuses, iter-refuses, len-refuses, is-empty-refuses, next-refuses, view-refuses, raw-kind-refuses, fit-refuses, create-refuses, create-by-refuses, update-refuses, find-refuses, turn-refuses, type-refuses, id-refuses, member-refuses, method-refuses, start-refuses, step-refuses, element-by-refuses, element-refuses, element-ids-refuses, parse-refuses}
 use Rattle.claim_promises.proofs.LeftAlone.{leaves-alone, changes-nothing, leads-nowhere, steps-nowhere, saves-nothing}
 use Rattle.declare_type.specs.Declares.{declareOf}
 use Rattle.claim_promises.proofs.DeclareRefuses.{declare-says, declares-nothing}
@@ -48,6 +48,7 @@ demand1 = record {
   updates = update-refuses;
   finds = find-refuses;
   turns = turn-refuses;
+  fits = fit-refuses;
   trailers = trailer-refuses narrow;
   loads = load-refuses narrow;
   saves = save-refuses narrow;

@@ -62,6 +62,8 @@ use Rattle.declare_type.specs.Declares.{declareOf}
 use Rattle.declare_type.proofs.OneOutcome.{one-declares}
 use Rattle.claim_promises.specs.Contracts as contract
 use Rattle.claim_promises.specs.OneOutcome.{Once, OnceLent, OnceLentTwo, OneOutcome}
+use Rattle.record_reference.proofs.OneOutcome.{one-references, one-element-references}
+use Rattle.stream_fit.proofs.OneOutcome.{one-fit}
 
 one-update-lent : (f : ItemFinder) (t : List ℕ) (c : ItemIter) → OnceLentTwo (contract.stream-finder-lent-item-finder-update f t c)
 one-update-lent f t c r q g h m k x y =
@@ -172,6 +174,9 @@ one-outcome = record {
   stream-finder-lent-item-finder-update = one-update-lent;
   stream-finder-lent-update-local = one-update-step;
   stream-header-header-parse = λ s r q a b. one-header r q (a ∙ sym b);
+  record-reference-record-references = λ d r q a b. one-references r q (a ∙ sym b);
+  record-reference-element-references = λ e r q a b. one-element-references _ r q a b;
+  stream-fit-fit = λ s r q a b. one-fit r q (a ∙ sym b);
   stream-header-header-count = λ self r q a b. a ∙ sym b;
   stream-index-turn = λ s f t c. one-leads t (turnOf s (state f t) c);
   stream-index-index-on = λ s f t c. one-walks s c (state f t);

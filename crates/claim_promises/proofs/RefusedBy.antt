@@ -77,6 +77,7 @@ each-refused-by = record {
   section-read-parse = λ s entry. answers .section-read-parse s entry (Refuses (16 ∷ 1 ∷ 8 ∷ 10 ∷ 11 ∷ 12 ∷ [])) (sections-refuse .entries s entry);
   section-read-start = λ bytes. answers .section-read-start bytes (Refuses (1 ∷ 10 ∷ [])) (sections-refuse .lists bytes);
   stream-header-header-parse = λ s. answers .stream-header-header-parse s (Refuses (16 ∷ 1 ∷ 2 ∷ 3 ∷ 4 ∷ 5 ∷ [])) (demand1 .headers s);
+  stream-fit-fit = λ s. answers .stream-fit-fit s (Refuses (16 ∷ 1 ∷ 2 ∷ 3 ∷ 4 ∷ 5 ∷ [])) (demand1 .fits s);
   stream-item-information-len = λ s. answers .stream-item-information-len s (Refuses (16 ∷ 1 ∷ 2 ∷ 3 ∷ 4 ∷ 5 ∷ [])) (demand1 .counts s);
   stream-item-information-is-empty = λ s. answers .stream-item-information-is-empty s (Refuses (16 ∷ 1 ∷ 2 ∷ 3 ∷ 4 ∷ 5 ∷ [])) (demand1 .empties s);
   stream-item-iter-iter = λ stream s. answers .stream-item-iter-iter stream s (Refuses (16 ∷ 1 ∷ 2 ∷ 3 ∷ 4 ∷ 5 ∷ [])) (demand1 .iterators stream s);

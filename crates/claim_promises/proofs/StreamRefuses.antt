@@ -21,6 +21,7 @@ use Rattle.stream_header.specs.declared.Header.{Header}
 use Rattle.field.specs.Indices.{numberIn}
 use Rattle.stream_item.specs.Links.{linkOf}
 use Rattle.stream_item.specs.Iterator.{iterOf, Next, done, yielded, nextOf}
+use Rattle.stream_fit.specs.Fit.{fitOf}
 use Rattle.stream_view.specs.Views.{partOf, named, shortOf, entryOf, viewOf, kindAt, entryKind as kindIn, rawKindOf}
 use Rattle.stream_item.specs.Information.{lenOf, isEmptyOf}
 use Rattle.field.specs.declared.index.Stream.{Stream}
@@ -109,6 +110,10 @@ iter-refuses tag s = by-then (header-refuses s) (λ h. gives)
 pub len-refuses : (s : List ℕ) → Refuses ofHeaders (lenOf s)
 unfolding lenOf
 len-refuses s = by-then (header-refuses s) (λ h. gives)
+
+pub fit-refuses : (s : List ℕ) → Refuses ofHeaders (fitOf s)
+unfolding fitOf
+fit-refuses s = by-then (header-refuses s) (λ h. by-then (iter-refuses stream.Types s) (λ c. gives))
 
 pub is-empty-refuses : (s : List ℕ) → Refuses ofHeaders (isEmptyOf s)
 unfolding isEmptyOf

@@ -80,6 +80,9 @@ use Rattle.write_row.specs.Rows.{memberRows, methodRows}
 use Rattle.field.specs.declared.index.ItemIndex.the-variants as item-index
 use Rattle.claim_model.specs.TpiWords as crate
 use Rattle.claim_promises.specs.Contracts as contract
+use Rattle.record_reference.specs.Said.{saidReferences}
+use Rattle.record_reference.specs.Values.{slots, slotsBy}
+use Rattle.stream_fit.specs.Fit.{fitOf, saidFit}
 
 -- what an answer by the contract C says is a: whatever holds of a holds of it
 abbrev pub Says : {R A : Type 0} → (R → Type 0) → (R → A) → A → Type 1
@@ -118,6 +121,8 @@ pub record Answers : Type 1 where
   pub stream-finder-lent-item-finder-update : (self : ItemFinder) (t : List ℕ) (c : ItemIter) (r : UpdateAnswer) (self′ : ItemFinder) (t′ : List ℕ) → contract.stream-finder-lent-item-finder-update self t c r self′ t′ → Updates (state self t) c r (state self′ t′)
   pub stream-finder-lent-update-local : (f : ItemFinder) (t : List ℕ) (c : ItemIter) (u : UpdateStep) (t′ : List ℕ) → contract.stream-finder-lent-update-local f t c u t′ → Updates (state f t) c (u .answer) (state (u .finder) t′)
   pub stream-header-header-parse : (s : List ℕ) → Says (contract.stream-header-header-parse s) saidHeader (headerOf s)
+  pub stream-fit-fit : (s : List ℕ) → Says (contract.stream-fit-fit s) saidFit (fitOf s)
+  pub record-reference-record-references : (d : TypeData) → Says (contract.record-reference-record-references d) saidReferences (slots 4 (slotsBy typeLeaves (typeValues d) 2))
   pub stream-index-turn : (s : List ℕ) (f : ItemFinder) (t : List ℕ) (c : ItemIter) (r : TurnAnswer) (t′ : List ℕ) → contract.stream-index-turn s f t c r t′ → Leads t (turnOf s (state f t) c) r t′
   pub stream-index-index-on : (s : List ℕ) (f : ItemFinder) (t : List ℕ) (c : ItemIter) (r : Tour) (t′ : List ℕ) → contract.stream-index-index-on s f t c r t′ → Walks s c (state f t) r t′
   pub stream-index-index-all : (stream : Stream) (s : List ℕ) (t : List ℕ) (r : IndexAnswer) (t′ : List ℕ) → contract.stream-index-index-all stream s t r t′ → IndexesBy-of-stream-index 3 stream s t r t′

@@ -71,7 +71,8 @@ use Rattle.record_id.specs.declared.IdData.{IdData}
 use Rattle.record_layout.specs.Fields.{readFields, run, types}
 use Rattle.record_layout.specs.Layouts.{S, idLeaves, memberLeaves, method, readRecord, recordOf, typeLeaves}
 use Rattle.record_list.specs.Lists.{elementBy, elementOf, startOf as startOf-of-record-list, stepOf as stepOf-of-record-list}
-use Rattle.record_list.specs.Said.{saidElement, saidStart, saidStep}
+use Rattle.record_list.specs.Said.{elementValues, saidElement, saidStart, saidStep}
+use Rattle.record_list.specs.declared.Element.{Element}
 use Rattle.record_list.specs.declared.ElementAnswer.{ElementAnswer}
 use Rattle.record_list.specs.declared.ListCursor.{ListCursor}
 use Rattle.record_list.specs.declared.StartAnswer.{StartAnswer}
@@ -86,6 +87,10 @@ use Rattle.record_parse.specs.declared.ParseAnswer.{ParseAnswer}
 use Rattle.record_reader.specs.Reader.{Steps}
 use Rattle.record_reader.specs.declared.ListReader.{ListReader}
 use Rattle.record_reader.specs.declared.Stepped.{Stepped}
+use Rattle.record_reference.specs.Said.{saidOfElement, saidReferences}
+use Rattle.record_reference.specs.Values.{elementRefs, slots, slotsBy}
+use Rattle.record_reference.specs.declared.ElementReferences.{ElementReferences}
+use Rattle.record_reference.specs.declared.References.{References}
 use Rattle.section_finder.specs.Finders.{Indexes as Indexes-of-section-finder, IndexesBy as IndexesBy-of-section-finder, createBy as createBy-of-section-finder, createOf as createOf-of-section-finder}
 use Rattle.section_item.specs.Sections.{countOf, startOf as startOf-of-section-item}
 use Rattle.section_read.specs.Readers.{readOf, readerAt}
@@ -98,6 +103,8 @@ use Rattle.stream_finder.specs.declared.ItemFinder.{ItemFinder}
 use Rattle.stream_finder.specs.declared.Run.{Run}
 use Rattle.stream_finder.specs.declared.lent.UpdateAnswer.{UpdateAnswer}
 use Rattle.stream_finder.specs.declared.lent.UpdateStep.{UpdateStep}
+use Rattle.stream_fit.specs.Fit.{fitOf, saidFit}
+use Rattle.stream_fit.specs.declared.FitAnswer.{FitAnswer}
 use Rattle.stream_header.specs.Header.{headerOf, saidHeader}
 use Rattle.stream_header.specs.declared.Header.{Header}
 use Rattle.stream_header.specs.declared.HeaderAnswer.{HeaderAnswer}
@@ -421,6 +428,14 @@ record-reader-step-of bytes cursor u = Steps cursor (stepOf-of-record-list bytes
 abbrev pub record-reader-nth : (stream : Stream) (s : List ℕ) (k : ℕ) → ElementAnswer → Type 0
 record-reader-nth stream s k r = saidElement r ≡ elementOf stream s k
 
+-- record_reference::record_references
+abbrev pub record-reference-record-references : (d : TypeData) → References → Type 0
+record-reference-record-references d r = saidReferences r ≡ slots 4 (slotsBy typeLeaves (typeValues d) 2)
+
+-- record_reference::element_references
+abbrev pub record-reference-element-references : (e : Element) → ElementReferences → Type 0
+record-reference-element-references e r = ((p : ℕ) → saidOfElement r p ≡ elementRefs (elementValues e) p)
+
 -- section_finder::create
 abbrev pub section-finder-create : (s : List ℕ) (t : List ℕ) → FinderAnswer → List ℕ → Type 0
 section-finder-create s t r t′ = Fills t (createOf-of-section-finder s t) r t′
@@ -496,6 +511,10 @@ stream-finder-lent-item-finder-update self t c r self′ t′ = Updates (state s
 -- stream_finder::lent::update_local
 abbrev pub stream-finder-lent-update-local : (f : ItemFinder) (t : List ℕ) (c : ItemIter) → UpdateStep → List ℕ → Type 0
 stream-finder-lent-update-local f t c u t′ = Updates (state f t) c (u .answer) (state (u .finder) t′)
+
+-- stream_fit::fit
+abbrev pub stream-fit-fit : (s : List ℕ) → FitAnswer → Type 0
+stream-fit-fit s r = saidFit r ≡ fitOf s
 
 -- stream_header::Header::parse
 abbrev pub stream-header-header-parse : (s : List ℕ) → HeaderAnswer → Type 0

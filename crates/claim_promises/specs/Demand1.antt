@@ -38,6 +38,7 @@ use Rattle.stream_index.specs.declared.Tour.{Tour}
 use Rattle.stream_index.specs.declared.End.the-variants as end
 use Rattle.stream_index.specs.declared.TurnAnswer.{TurnAnswer}
 use Rattle.stream_index.specs.declared.IndexAnswer.the-variants as walk
+use Rattle.stream_fit.specs.Fit.{fitOf}
 use Rattle.stream_places.specs.File.{trailerOf, trailerOfEither}
 use Rattle.stream_places.specs.Places.{loadOf, loadWideOf, saveOf, saveWideOf, saidSave, Saves}
 use Rattle.stream_places.specs.declared.SaveAnswer.{SaveAnswer}
@@ -99,6 +100,8 @@ pub record Demand1 : Type 0 where
   pub updates : (σ : State) (c : ItemIter) → Refuses (16 ∷ 26 ∷ 13 ∷ 14 ∷ []) (updateOf σ c)
   pub finds : (s : List ℕ) (σ : State) (i : ItemIndex) → FindRefuses (16 ∷ 26 ∷ 13 ∷ 8 ∷ 9 ∷ 1 ∷ []) (findOf s σ i)
   pub turns : (s : List ℕ) (σ : State) (c : ItemIter) → Refuses (16 ∷ 1 ∷ 6 ∷ 7 ∷ 26 ∷ 13 ∷ 14 ∷ []) (turnOf s σ c)
+  -- document 02, R-9: the check of a stream; yes and no are answers
+  pub fits : (s : List ℕ) → Refuses (16 ∷ 1 ∷ 2 ∷ 3 ∷ 4 ∷ 5 ∷ []) (fitOf s)
   -- document 02, R-3: a places file's trailer, its loading for a stream, and the writer
   pub trailers : (f : List ℕ) → Refuses (20 ∷ []) (trailerOf f)
   pub loads : (s f t : List ℕ) → Refuses (16 ∷ 1 ∷ 2 ∷ 3 ∷ 4 ∷ 5 ∷ 20 ∷ 21 ∷ 13 ∷ 22 ∷ []) (loadOf s f t)

@@ -15,6 +15,7 @@ use Rattle.field.specs.declared.index.TypeIndex.{TypeIndex}
 use Rattle.field_text.specs.declared.RawString.{RawString}
 use Rattle.record_data.specs.declared.TypeData.{TypeData}
 use Rattle.record_id.specs.declared.IdData.{IdData}
+use Rattle.record_list.specs.declared.Element.{Element}
 use Rattle.record_list.specs.declared.ListCursor.{ListCursor}
 use Rattle.record_member.specs.declared.Member.{Member}
 use Rattle.record_member.specs.declared.MethodListEntry.{MethodListEntry}
@@ -135,6 +136,9 @@ pub record OneOutcome : Type 1 where
   pub record-reader-list-reader-step : (self : ListReader) → OnceLent (contract.record-reader-list-reader-step self)
   pub record-reader-step-of : (bytes : List ℕ) (cursor : ListCursor) → Once (contract.record-reader-step-of bytes cursor)
   pub record-reader-nth : (stream : Stream) (s : List ℕ) (k : ℕ) → Once (contract.record-reader-nth stream s k)
+  -- record_reference
+  pub record-reference-record-references : (d : TypeData) → Once (contract.record-reference-record-references d)
+  pub record-reference-element-references : (e : Element) → Once (contract.record-reference-element-references e)
   -- section_finder
   pub section-finder-create : (s : List ℕ) (t : List ℕ) → OnceLent (contract.section-finder-create s t)
   pub section-finder-create-by : (s : List ℕ) (t : List ℕ) (shift : ℕ) → OnceLent (contract.section-finder-create-by s t shift)
@@ -159,6 +163,8 @@ pub record OneOutcome : Type 1 where
   pub stream-finder-find-id : (s : List ℕ) (f : ItemFinder) (t : List ℕ) (i : IdIndex) → Once (contract.stream-finder-find-id s f t i)
   pub stream-finder-lent-item-finder-update : (self : ItemFinder) (t : List ℕ) (c : ItemIter) → OnceLentTwo (contract.stream-finder-lent-item-finder-update self t c)
   pub stream-finder-lent-update-local : (f : ItemFinder) (t : List ℕ) (c : ItemIter) → OnceLent (contract.stream-finder-lent-update-local f t c)
+  -- stream_fit
+  pub stream-fit-fit : (s : List ℕ) → Once (contract.stream-fit-fit s)
   -- stream_header
   pub stream-header-header-parse : (s : List ℕ) → Once (contract.stream-header-header-parse s)
   pub stream-header-header-count : (self : Header) → Once (contract.stream-header-header-count self)

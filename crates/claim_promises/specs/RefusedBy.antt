@@ -48,6 +48,7 @@ use Rattle.write_pieces.specs.declared.WriteAnswer.{WriteAnswer}
 use Rattle.answer.specs.Answer.{Answer}
 use Rattle.claim_promises.specs.ByTable.{Refuses, FindRefuses}
 use Rattle.claim_promises.specs.Contracts as contract
+use Rattle.stream_fit.specs.Fit.{saidFit}
 
 -- an answer by the contract C is given, or refused by one of the numbers ns
 abbrev pub RefusedBy : {R A : Type 0} → List ℕ → (R → Type 0) → (R → Answer A) → Type 0
@@ -88,6 +89,7 @@ pub record EachRefusedBy : Type 0 where
   pub section-read-parse : (s : List ℕ) (entry : Entry) → RefusedBy (16 ∷ 1 ∷ 8 ∷ 10 ∷ 11 ∷ 12 ∷ []) (contract.section-read-parse s entry) saidParse
   pub section-read-start : (bytes : List ℕ) → RefusedBy (1 ∷ 10 ∷ []) (contract.section-read-start bytes) saidStart
   pub stream-header-header-parse : (s : List ℕ) → RefusedBy (16 ∷ 1 ∷ 2 ∷ 3 ∷ 4 ∷ 5 ∷ []) (contract.stream-header-header-parse s) saidHeader
+  pub stream-fit-fit : (s : List ℕ) → RefusedBy (16 ∷ 1 ∷ 2 ∷ 3 ∷ 4 ∷ 5 ∷ []) (contract.stream-fit-fit s) saidFit
   pub stream-item-information-len : (s : List ℕ) → RefusedBy (16 ∷ 1 ∷ 2 ∷ 3 ∷ 4 ∷ 5 ∷ []) (contract.stream-item-information-len s) saidLen
   pub stream-item-information-is-empty : (s : List ℕ) → RefusedBy (16 ∷ 1 ∷ 2 ∷ 3 ∷ 4 ∷ 5 ∷ []) (contract.stream-item-information-is-empty s) saidEmpty
   pub stream-item-iter-iter : (stream : Stream) (s : List ℕ) → RefusedBy (16 ∷ 1 ∷ 2 ∷ 3 ∷ 4 ∷ 5 ∷ []) (contract.stream-item-iter-iter stream s) saidIter
