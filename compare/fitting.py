@@ -2,7 +2,8 @@
 """Document 02's R-9 written again in Python, from its text alone: is a type stream fit to bind?
 
     fitting.py STREAM..                      prints `0 yes`, `0 no RECORD RULE` or the refusal's number for each
-    fitting.py --vectors STDIN STDOUT        writes commands for the program replay_whole to the one file and their answers to the other
+    fitting.py --vectors STDIN STDOUT        writes commands for the program replay_whole to the one file and their answers to the other,
+                                              those of places.py (R-3 and R-10) with them
     fitting.py --damage STREAM PROGRAM..     sets each byte of STREAM to 0x00, to 0xff and to its complement, one at a time, and holds the program,
                                              `tools/program replay_whole`, to what is worked out here
 
@@ -203,9 +204,9 @@ def main():
     if words[:1] == ["--vectors"] and len(words) == 3:
         streams = list(tries())
         with open(words[1], "w", encoding="utf-8") as f:
-            f.writelines([line(s) for s in streams] + [a for a, _ in BAD])
+            f.writelines([line(s) for s in streams] + [command + "\n" for command in places.vectors()] + [a for a, _ in BAD])
         with open(words[2], "w", encoding="utf-8") as f:
-            f.writelines([verdict(s) + "\n" for s in streams] + [b for _, b in BAD])
+            f.writelines([verdict(s) + "\n" for s in streams] + [places.answer(command) + "\n" for command in places.vectors()] + [b for _, b in BAD])
         return 0
     if words[:1] == ["--damage"] and len(words) > 2:
         with open(words[1], "rb") as f:

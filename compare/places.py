@@ -144,6 +144,84 @@ def walked(s, shift):
     return places
 
 
+# ---- short words (PROTOCOL.md): what replay_whole takes
+
+def numbers(piece):
+    """A number, or A/D/N: N numbers from A on by steps of D."""
+    if "/" not in piece:
+        return [int(piece)]
+    first, by, n = (int(word) for word in piece.split("/"))
+    return [(first + k * by) % 2 ** 32 for k in range(n)]
+
+
+def short_bytes(word):
+    """Pieces joined by +: hex, HEX*N, or A/D/N as u32 each."""
+    out = b""
+    for piece in [] if word == "-" else word.split("+"):
+        if "/" in piece:
+            values = numbers(piece)
+            out += struct.pack(f"<{len(values)}I", *values)
+        elif "*" in piece:
+            digits, n = piece.split("*")
+            out += bytes.fromhex(digits) * int(n)
+        else:
+            out += bytes.fromhex(piece)
+    return out
+
+
+def short_table(word):
+    return [] if word == "-" else [n for piece in word.split(",") for n in numbers(piece)]
+
+
+def answer(line):
+    """What replay_whole answers to a line of these four commands."""
+    name, *words = line.split(" ")
+    if name.startswith("save"):
+        room, shift, s, low, high, held, table = words
+        return save_line(int(room), int(shift), short_bytes(s), int(low), int(high), int(held), short_table(table), save_wide if name == "savewide" else save)
+    s, file, table = words
+    return load_line(short_bytes(s), short_bytes(file), short_table(table), load_wide if name == "loadwide" else load)
+
+
+def vectors():
+    """Lines for replay_whole: around 65,535 places, on a stream of links without payload, which a chain passes; each refusal of the new pair; and the old
+    pair on both forms."""
+    def head(count):
+        return struct.pack("<IIII", 20040203, 56, 4096, 4096 + count).hex() + "00" * 40
+
+    def trailer(count, shift=0, low=4096, high=4096 + 65540, length=56 + 131080, size=56, distance=None, letters=b"PTIY", zero=0):
+        wide = letters == b"PTIY"
+        whole = 4 * count + (30 if wide else 28) if distance is None else distance
+        return (struct.pack("<IBB5I" if wide else "<HBB5I", count, shift, zero, low, high, length, size, whole) + letters).hex()
+
+    s = head(65540) + "+0000*65540"
+    bounds = "4096 69636"
+    for command in ("savewide", "save"):
+        for room in (262174, 262173, 0):
+            yield f"{command} {room} 0 {s} {bounds} 65536 56/2/65536" if (command, room) != ("savewide", 262174) else f"{command} {room} 0 {s} {bounds} 65536 56/2/65537"
+        yield f"{command} 262167 0 {s} {bounds} 65535 56/2/65535"
+        yield f"{command} 263000 7 {s} {bounds} 65536 56/2/65536"
+        yield f"{command} 263000 0 {s} 4097 69636 65536 56/2/65536"
+        yield f"{command} 263000 0 {s} {bounds} 65537 56/2/65536"
+        yield f"{command} 263000 0 {s} {bounds} 1073741817 56/2/65536"
+        yield f"{command} 263000 0 {s} {bounds} 18446744073709551615 -"
+        yield f"{command} 263000 3 {head(65540)[:-2]} {bounds} 1 56"
+        yield f"{command} 36 3 {s} {bounds} 2 56,72"
+        yield f"{command} 28 3 - 0 0 0 -"
+    good = f"56/2/65536+{trailer(65536)}"
+    yield f"loadwide {s} {good} 9/0/65536"
+    yield f"loadwide {s} 56/2/65535+133/0/1+{trailer(65536)} 1/0/65536"
+    yield f"load {s} {good} 9,8,7"
+    for command in ("loadwide", "load"):
+        for file in (good, f"56/2/65535+{trailer(65535)}", f"56/2/65536+{trailer(65536, distance=262172)}", f"56/2/65536+{trailer(65536, zero=1)}", f"56/2/65536+{trailer(65536, shift=7)}",
+                     f"56/2/65536+{trailer(65537)}", f"56/2/65535+133/0/1+{trailer(65536)}", f"56/2/65536+{trailer(65536, low=4097)}", f"56/2/65536+{trailer(65536, length=131135)}",
+                     f"56/8/16384+{trailer(16384, shift=2, letters=b'PTIX')}", f"56/2/3+{trailer(3, letters=b'PTIX')}", trailer(0), trailer(0, letters=b"PTIX"), trailer(65536)[2:], "50544959", "-"):
+            yield f"{command} {s} {file} 5,6,7"
+        yield f"{command} {s} 56/2/3+{trailer(3, letters=b'PTIX')} 1/1/6"
+        yield f"{command} - {trailer(0, 3, 0, 0, 0, 0, letters=b'PTIX')} 4,4"
+        yield f"{command} {head(2)[:-2]} {good} -"
+
+
 # ---- as lines of PROTOCOL.md
 
 def save_line(room, shift, s, low, high, held, table, by=save):

@@ -92,7 +92,7 @@ pub fn ends_word(code: u16) -> bool {
 }
 
 // Past the blanks.
-fn blanks(buffer: &mut [u8; 65536], from: Input) -> Input {
+pub fn blanks(buffer: &mut [u8; 65536], from: Input) -> Input {
     let mut input = from;
     let mut turns = TURNS;
     while 0 < turns {
@@ -108,7 +108,7 @@ fn blanks(buffer: &mut [u8; 65536], from: Input) -> Input {
 }
 
 // Past what is left of a word.
-fn word_end(buffer: &mut [u8; 65536], from: Input) -> Input {
+pub fn word_end(buffer: &mut [u8; 65536], from: Input) -> Input {
     let mut input = from;
     let mut turns = TURNS;
     while 0 < turns {
@@ -177,7 +177,7 @@ pub struct Bytes {
 }
 
 // A hex digit's value, or 16.
-fn nibble(code: u16) -> u8 {
+pub fn nibble(code: u16) -> u8 {
     if 48 <= code {
         if code <= 57 {
             return (code - 48) as u8;

@@ -1,6 +1,8 @@
-// Answers the commands of compare/PROTOCOL.md that take whole streams, document 02's R-9 and what comes after it: reads them from standard
+// Answers the commands of compare/PROTOCOL.md that take whole streams, document 02's R-9 and R-10: reads them from standard
 // input, one to a line, and prints the port's answers. Apart from `replay`, so that neither is proved again for the other.
 mod input;
+mod place_lines;
+mod short;
 
 use answer::Details;
 use answer::Refusal;
@@ -52,8 +54,31 @@ fn part(a: &[u8; 65536], n: usize) -> &[u8] {
     &s[0..0]
 }
 
-fn is_fit(letters: &[u8; 16], n: usize) -> bool {
-    n == 3 && letters[0] == 102 && letters[1] == 105 && letters[2] == 116
+// The number of matched letters of a word after one more letter of a name; 17 once one differs.
+fn matched(letters: &[u8; 16], n: usize, m: usize, letter: u8) -> usize {
+    if n <= m {
+        return 17;
+    }
+    if 16 <= m {
+        return 17;
+    }
+    if letters[m] != letter {
+        return 17;
+    }
+    m + 1
+}
+
+// Whether a word is this name.
+fn named(letters: &[u8; 16], n: usize, name: &[u8]) -> bool {
+    let mut i: usize = 0;
+    while i < name.len() {
+        let m = matched(letters, n, i, name[i]);
+        if 16 < m {
+            return false;
+        }
+        i += 1;
+    }
+    i == n
 }
 
 // A word that is no command.
@@ -97,7 +122,19 @@ fn command(buffer: &mut [u8; 65536], from: Input, bytes: &mut [u8; 65536]) -> In
     if w.len == 0 {
         return w.input;
     }
-    if !is_fit(&letters, w.len) {
+    if named(&letters, w.len, b"save") {
+        return place_lines::save(buffer, w.input, false);
+    }
+    if named(&letters, w.len, b"savewide") {
+        return place_lines::save(buffer, w.input, true);
+    }
+    if named(&letters, w.len, b"load") {
+        return place_lines::load(buffer, w.input, false);
+    }
+    if named(&letters, w.len, b"loadwide") {
+        return place_lines::load(buffer, w.input, true);
+    }
+    if !named(&letters, w.len, b"fit") {
         return unknown(buffer, w.input, &letters, w.len);
     }
     let b = input::read_bytes(buffer, w.input, bytes);
