@@ -3,3 +3,6 @@ pub mod CountLaws
 pub mod WalkLaws
 pub mod SettleLaws
 pub mod OneOutcome
+pub mod SumLaws
+pub mod MadeSums
+pub mod Examples

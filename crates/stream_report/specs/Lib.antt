@@ -1,2 +1,3 @@
 pub mod Report
 pub mod Held
+pub mod Sums
