@@ -8,6 +8,8 @@ use Rattle.record_reference.proofs.DecodedLaws.{has-exactly}
 use Rattle.stream_fit.proofs.AfterLaws.{after-yes}
 use Rattle.stream_fit.proofs.SentenceLaws.{sentences}
 use Rattle.stream_places.proofs.KeptProof.{load-serves, wide-serves, round-trip, wide-trip, one-encoding, one-encoding-wide, loaders-agree}
+use Rattle.stream_report.proofs.SumLaws.{adds-up, exactly}
+use Rattle.stream_report.proofs.MadeSums.{made-sums}
 use Rattle.write_layout.proofs.RoundTripProof.{fields-read-back, record-reads-back}
 use Rattle.write_layout.proofs.Rewrite.{exactly-17}
 use Rattle.write_row.proofs.RowLaws.{rows-show}
@@ -60,6 +62,9 @@ demands = record {
   wide-one-file = one-encoding-wide;
   loaders = loaders-agree;
   given-places = places-when;
+  adds-up = adds-up;
+  reports-refuse = exactly;
+  reports-sum = made-sums;
   fields-read-back = fields-read-back;
   records-read-back = record-reads-back;
   exactly-17 = exactly-17;

@@ -110,6 +110,8 @@ use Rattle.stream_places.proofs.save.Met as stream-places-save
 use Rattle.stream_places.proofs.save_wide.Met as stream-places-save-wide
 use Rattle.stream_places.proofs.trailer.Trailer.parse.Met as stream-places-trailer-trailer-parse
 use Rattle.stream_places.proofs.trailer.Trailer.parse_wide.Met as stream-places-trailer-trailer-parse-wide
+use Rattle.stream_report.proofs.add.Met as stream-report-add
+use Rattle.stream_report.proofs.new.Met as stream-report-new
 use Rattle.stream_view.proofs.bytes_of.Met as stream-view-bytes-of
 use Rattle.stream_view.proofs.raw_kind.Met as stream-view-raw-kind
 use Rattle.stream_view.proofs.view.Met as stream-view-view
@@ -284,6 +286,8 @@ tied = record {
   stream-places-save-wide = record { says = λ M 𝓤 H A mem run. refl; meets = λ M. stream-places-save-wide.met };
   stream-places-trailer-trailer-parse = record { says = λ M 𝓤 H A mem run. refl; meets = λ M. stream-places-trailer-trailer-parse.met };
   stream-places-trailer-trailer-parse-wide = record { says = λ M 𝓤 H A mem run. refl; meets = λ M. stream-places-trailer-trailer-parse-wide.met };
+  stream-report-new = record { says = λ M 𝓤 H A mem run. refl; meets = λ M. stream-report-new.met };
+  stream-report-add = record { says = λ M 𝓤 H A mem run. refl; meets = λ M. stream-report-add.met };
   stream-view-bytes-of = record { says = λ M 𝓤 H A mem run. refl; meets = λ M. stream-view-bytes-of.met };
   stream-view-view = record { says = λ M 𝓤 H A mem run. refl; meets = λ M. stream-view-view.met };
   stream-view-why = record { says = λ M 𝓤 H A mem run. refl; meets = λ M. stream-view-why.met };

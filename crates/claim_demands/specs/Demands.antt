@@ -13,6 +13,7 @@ use Rattle.stream_fit.specs.After.{AfterYes}
 use Rattle.stream_fit.specs.Sentences.{Sentences}
 use Rattle.stream_places.specs.File.{Form}
 use Rattle.stream_places.specs.Kept.{LoadServes, WideServes, RoundTrip, WideTrip, OneEncoding, OneEncodingWide, LoadersAgree}
+use Rattle.stream_report.specs.Sums.{AddsUp, Exactly, MadeSums}
 use Rattle.write_layout.specs.RoundTrip.{FieldsReadBack, RecordReadsBack, Exactly17}
 use Rattle.write_row.specs.Rows.{RowsShow}
 use Rattle.write_list.specs.ListsBack.{ListsReadBack}
@@ -85,6 +86,11 @@ pub record Demands : Type 2 where
   pub loaders : LoadersAgree
   -- and when each of their numbers is given, of either form: PlacesWhen.antt
   pub given-places : (form : Form) → PlacesWhen form
+  -- document 02, R-12: "header bytes, two per record, and payload bytes add up to the stream's length"; 27 and 28 exactly when; "the report's totals are
+  -- those of the streams it counted", and its entries too: crates/stream_report/specs/Sums.antt
+  pub adds-up : AddsUp
+  pub reports-refuse : Exactly
+  pub reports-sum : MadeSums
   -- document 02, R-1: "Reading back gives the fields, and writing those the same bytes", of every layout and of a record of every table; 17 exactly
   -- where no bytes read back: crates/write_layout/specs/RoundTrip.antt. Of the elements of the two lists, which are given as rows:
   -- crates/write_list/specs/ListsBack.antt, crates/write_row/specs/Rows.antt. Of a header, and of a stream of a written header and written records:

@@ -219,6 +219,10 @@ use Rattle.stream_places.proofs.trailer.Trailer.parse as stream-places-trailer-
 use Rattle.stream_places.proofs.trailer.Trailer.parse.Symbol as stream-places-trailer-trailer-parse-code
 use Rattle.stream_places.proofs.trailer.Trailer.parse_wide as stream-places-trailer-trailer-parse-wide-source
 use Rattle.stream_places.proofs.trailer.Trailer.parse_wide.Symbol as stream-places-trailer-trailer-parse-wide-code
+use Rattle.stream_report.proofs.add as stream-report-add-source
+use Rattle.stream_report.proofs.add.Symbol as stream-report-add-code
+use Rattle.stream_report.proofs.new as stream-report-new-source
+use Rattle.stream_report.proofs.new.Symbol as stream-report-new-code
 use Rattle.stream_view.proofs.bytes_of as stream-view-bytes-of-source
 use Rattle.stream_view.proofs.bytes_of.Symbol as stream-view-bytes-of-code
 use Rattle.stream_view.proofs.raw_kind as stream-view-raw-kind-source
@@ -563,6 +567,10 @@ pub record Tied : Type 2 where
   pub stream-places-trailer-trailer-parse : Tie stream-places-trailer-trailer-parse-source.ended (λ M. stream-places-trailer-trailer-parse-source.clauses) stream-places-trailer-trailer-parse-code.routine (λ κs a r e. contract.stream-places-trailer-trailer-parse (now (a .0)) r)
   -- stream_places::trailer::Trailer::parse_wide
   pub stream-places-trailer-trailer-parse-wide : Tie stream-places-trailer-trailer-parse-wide-source.ended (λ M. stream-places-trailer-trailer-parse-wide-source.clauses) stream-places-trailer-trailer-parse-wide-code.routine (λ κs a r e. contract.stream-places-trailer-trailer-parse-wide (now (a .0)) r)
+  -- stream_report::new
+  pub stream-report-new : Tie stream-report-new-source.ended (λ M. stream-report-new-source.clauses) stream-report-new-code.routine (λ κs a r e. contract.stream-report-new r)
+  -- stream_report::add
+  pub stream-report-add : Tie stream-report-add-source.ended (λ M. stream-report-add-source.clauses) stream-report-add-code.routine (λ κs a r e. contract.stream-report-add (a .0) (now (a .1 .0)) (now (a .1 .1 .0)) r (now (e .1 .0)))
   -- stream_view::bytes_of
   pub stream-view-bytes-of : Tie stream-view-bytes-of-source.ended (λ M. stream-view-bytes-of-source.clauses) stream-view-bytes-of-code.routine (λ κs a r e. contract.stream-view-bytes-of (now (a .0)) (now (a .1 .0)) (a .1 .1 .0) (now r))
   -- stream_view::view

@@ -12,6 +12,8 @@ use Rattle.claim_promises.proofs.StreamRefuses.{primitive-refuses, kind
 use Rattle.claim_promises.proofs.LeftAlone.{leaves-alone, changes-nothing, leads-nowhere, steps-nowhere, saves-nothing}
 use Rattle.declare_type.specs.Declares.{declareOf}
 use Rattle.claim_promises.proofs.DeclareRefuses.{declare-says, declares-nothing}
+use Rattle.stream_report.specs.Report.{addOf}
+use Rattle.claim_promises.proofs.ReportRefuses.{add-refuses, reports-nothing}
 use Rattle.claim_promises.proofs.PlacesRefuse.{trailer-refuses, load-refuses, save-refuses}
 use Rattle.write_pieces.specs.Pieces.{saidWrite}
 use Rattle.claim_promises.proofs.WritersRefuse.{header-laid-refuses, record-laid-refuses, field-list-laid-refuses, method-list-laid-refuses, pieces-refuse, plain-laid-refuses, filled-laid-refuses, pieces-laid-refuses, writes-nothing}
@@ -55,6 +57,7 @@ demand1 = record {
   wide-trailers = λ f. trailer-refuses (formOf f) f;
   wide-loads = λ s f t. load-refuses (formOf f) s f t;
   wide-saves = λ s σ room. save-refuses (formFor (σ .finder .held)) s σ room;
+  additions = add-refuses;
   declares = declare-says;
   types = type-refuses;
   ids = id-refuses;
@@ -80,6 +83,7 @@ demand1 = record {
   save-keeps = λ s σ o. saves-nothing o (saveOf s σ (length o));
   wide-load-keeps = λ s f t. leaves-alone t (loadWideOf s f t);
   wide-save-keeps = λ s σ o. saves-nothing o (saveWideOf s σ (length o));
+  add-keeps = λ ρ s t. reports-nothing t (addOf ρ s);
   write-keeps = λ o w r. writes-nothing o w (saidWrite r);
   declare-keeps = λ s σ i o. declares-nothing o (declareOf s σ i (length o));
   turn-keeps = λ s f t c. leads-nowhere t (turnOf s (state f t) c);

@@ -2,6 +2,7 @@ pub mod ByTable
 pub mod ReadingRefuses
 pub mod StreamRefuses
 pub mod PlacesRefuse
+pub mod ReportRefuses
 pub mod WritersRefuse
 pub mod DeclareRefuses
 pub mod Digits

@@ -20,6 +20,8 @@ use Rattle.field_put.proofs.OneOutcome.{one-lays}
 use Rattle.stream_finder.proofs.OneOutcome.{one-change, one-find, one-fills}
 use Rattle.stream_places.specs.Places.{loadOf, loadWideOf, saveOf, saveWideOf}
 use Rattle.stream_places.proofs.OneOutcome.{one-trailer, one-saves}
+use Rattle.stream_report.specs.Report.{addOf, reportIn}
+use Rattle.stream_report.proofs.OneOutcome.{one-reports}
 use lib.ListN.{length}
 use Rattle.stream_index.proofs.OneOutcome.{one-leads}
 use Rattle.stream_index.proofs.OneWalk.{one-walks, one-indexes}
@@ -196,6 +198,8 @@ one-outcome = record {
   stream-places-save-wide = λ s f t out. one-saves out (saveWideOf s (state f t) (length out));
   stream-places-trailer-trailer-parse = λ f r q a b. one-trailer r q (a ∙ sym b);
   stream-places-trailer-trailer-parse-wide = λ f r q a b. one-trailer r q (a ∙ sym b);
+  stream-report-new = λ r q a b. a ∙ sym b;
+  stream-report-add = λ totals table s. one-reports table (addOf (reportIn totals table) s);
   stream-view-bytes-of = λ tpi ipi entry r q a b. a ∙ sym b;
   stream-view-view = λ tpi ipi entry r q a b. one-entry-view r q a b;
   stream-view-why = λ tpi ipi entry r q a b. one-view r q (a ∙ sym b);

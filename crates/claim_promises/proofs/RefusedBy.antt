@@ -6,6 +6,7 @@ use Rattle.answer.specs.Answer.{Answer, answered, refused}
 use Rattle.stream_finder.specs.Finder.{State, finderOf}
 use Rattle.stream_finder.specs.Lent.{outcome}
 use Rattle.stream_places.specs.Places.{sizeIn}
+use Rattle.stream_report.specs.Report.{Report, totalsIn, reportIn}
 use Rattle.record_list.specs.Lists.{Step}
 use Rattle.record_reader.specs.Reader.{elementIn}
 use Rattle.write_layout.specs.Buffer.{Written, placeAfter}
@@ -36,6 +37,10 @@ of-outcome (refuses e) = refuses e
 of-size : {ns : List ℕ} {a : Answer (List ℕ)} → Refuses ns a → Refuses ns (sizeIn a)
 of-size gives = gives
 of-size (refuses e) = refuses e
+
+of-totals : {ns : List ℕ} {a : Answer Report} → Refuses ns a → Refuses ns (totalsIn a)
+of-totals gives = gives
+of-totals (refuses e) = refuses e
 
 of-element : {ns : List ℕ} {a : Answer Step} → Refuses ns a → Refuses ns (elementIn a)
 of-element gives = gives
@@ -105,6 +110,7 @@ each-refused-by = record {
   stream-places-load-wide = λ s f t r t′ it. along (Refuses (16 ∷ 1 ∷ 2 ∷ 3 ∷ 4 ∷ 5 ∷ 20 ∷ 21 ∷ 13 ∷ 22 ∷ [])) (it .answer) (of-finder (demand1 .wide-loads s f t));
   stream-places-save = λ s f t out r out′ it. along (Refuses (16 ∷ 1 ∷ 2 ∷ 3 ∷ 4 ∷ 5 ∷ 21 ∷ 26 ∷ 13 ∷ 19 ∷ [])) (it .answer) (of-size (demand1 .saves s (state f t) (length out)));
   stream-places-save-wide = λ s f t out r out′ it. along (Refuses (16 ∷ 1 ∷ 2 ∷ 3 ∷ 4 ∷ 5 ∷ 21 ∷ 26 ∷ 13 ∷ 19 ∷ [])) (it .answer) (of-size (demand1 .wide-saves s (state f t) (length out)));
+  stream-report-add = λ totals table s r table′ it. along (Refuses (27 ∷ 28 ∷ [])) (it .answer) (of-totals (demand1 .additions (reportIn totals table) s));
   record-reader-list-reader-step = λ self r self′ it. along (Refuses (15 ∷ 1 ∷ 10 ∷ 11 ∷ [])) (it .0 .answer) (of-element (demand1 .steps (now (self .bytes)) (self .cursor)));
   record-reader-step-of = λ bytes cursor u it. along (Refuses (15 ∷ 1 ∷ 10 ∷ 11 ∷ [])) (it .answer) (of-element (demand1 .steps bytes cursor));
   section-finder-create = λ s t r t′ it. along (Refuses (16 ∷ 1 ∷ 25 ∷ 6 ∷ 7 ∷ 26 ∷ 13 ∷ [])) (it .answer) (of-finder (sections-refuse .creations 3 s t));

@@ -59,6 +59,9 @@ use Rattle.stream_item.specs.declared.iter.ItemIter.{ItemIter}
 use Rattle.stream_places.specs.File.{saidTrailer, trailerOf, trailerOfEither}
 use Rattle.stream_places.specs.Places.{Saves, loadOf, loadWideOf, saveOf, saveWideOf}
 use Rattle.stream_places.specs.declared.SaveAnswer.{SaveAnswer}
+use Rattle.stream_report.specs.Report.{Reports, addOf, fresh, reportIn, totalsOf}
+use Rattle.stream_report.specs.declared.ReportAnswer.{ReportAnswer}
+use Rattle.stream_report.specs.declared.Totals.{Totals}
 use Rattle.stream_view.specs.Views.{rawKindOf, saidRawKind, saidView, viewBytes, viewOf}
 use Rattle.word_attributes.specs.Bits.{bit, bits}
 use Rattle.word_attributes.specs.Pointers.{kindOf, modeOf, referenceOf, sizeOf, toMemberOf}
@@ -109,7 +112,7 @@ pub record Answers : Type 1 where
   pub field-text-string-of : (leaf : ℕ) (s : List ℕ) (p : ℕ) → Says (contract.field-text-string-of leaf s p) saidString (stringOf leaf s p)
   pub field-text-after-padding : (s : List ℕ) (p : ℕ) → Says (contract.field-text-after-padding s p) saidAfter (paddingAfter s p)
   pub word-primitive-primitive : (index : TypeIndex) → Says (contract.word-primitive-primitive index) saidPrimitive (primitiveOf (index .0))
-  -- streams: header, count, iterator, items; the finder, by value and lent; places that are kept
+  -- streams: header, count, iterator, items; the finder, by value and lent; places that are kept; reports
   pub stream-finder-create : (s : List ℕ) (t : List ℕ) (r : FinderAnswer) (t′ : List ℕ) → contract.stream-finder-create s t r t′ → Fills t (createOf-of-stream-finder s t) r t′
   pub stream-finder-create-by : (s : List ℕ) (t : List ℕ) (shift : ℕ) (r : FinderAnswer) (t′ : List ℕ) → contract.stream-finder-create-by s t shift r t′ → Fills t (createBy-of-stream-finder shift s t) r t′
   pub stream-finder-begin : (t : List ℕ) (records : Run) (shift : ℕ) (r : FinderAnswer) (t′ : List ℕ) → contract.stream-finder-begin t records shift r t′ → Fills t (begunIn shift t records) r t′
@@ -141,6 +144,8 @@ pub record Answers : Type 1 where
   pub stream-places-save-wide : (s : List ℕ) (f : ItemFinder) (t : List ℕ) (out : List ℕ) (r : SaveAnswer) (out′ : List ℕ) → contract.stream-places-save-wide s f t out r out′ → Saves out (saveWideOf s (state f t) (length out)) r out′
   pub stream-places-trailer-trailer-parse : (f : List ℕ) → Says (contract.stream-places-trailer-trailer-parse f) saidTrailer (trailerOf f)
   pub stream-places-trailer-trailer-parse-wide : (f : List ℕ) → Says (contract.stream-places-trailer-trailer-parse-wide f) saidTrailer (trailerOfEither f)
+  pub stream-report-new : Says contract.stream-report-new (λ r. r) (totalsOf fresh)
+  pub stream-report-add : (totals : Totals) (table : List ℕ) (s : List ℕ) (r : ReportAnswer) (table′ : List ℕ) → contract.stream-report-add totals table s r table′ → Reports table (addOf (reportIn totals table) s) r table′
   pub stream-view-bytes-of : (tpi : List ℕ) (ipi : List ℕ) (entry : Entry) → Says (contract.stream-view-bytes-of tpi ipi entry) (λ r. r) (viewBytes tpi ipi entry)
   pub stream-view-view : (tpi : List ℕ) (ipi : List ℕ) (entry : Entry) → Says (contract.stream-view-view tpi ipi entry) (λ r. saidView (r .answer)) (viewOf tpi ipi entry)
   pub stream-view-why : (tpi : List ℕ) (ipi : List ℕ) (entry : Entry) → Says (contract.stream-view-why tpi ipi entry) saidView (viewOf tpi ipi entry)

@@ -127,6 +127,9 @@ use Rattle.stream_places.specs.File.{saidTrailer, trailerOf, trailerOfEither}
 use Rattle.stream_places.specs.Places.{Saves, loadOf, loadWideOf, saveOf, saveWideOf}
 use Rattle.stream_places.specs.declared.SaveAnswer.{SaveAnswer}
 use Rattle.stream_places.specs.declared.trailer.TrailerAnswer.{TrailerAnswer}
+use Rattle.stream_report.specs.Report.{Reports, addOf, fresh, reportIn, totalsOf}
+use Rattle.stream_report.specs.declared.ReportAnswer.{ReportAnswer}
+use Rattle.stream_report.specs.declared.Totals.{Totals}
 use Rattle.stream_view.specs.Views.{rawKindOf, saidRawKind, saidView, viewBytes, viewOf}
 use Rattle.stream_view.specs.declared.EntryView.{EntryView}
 use Rattle.stream_view.specs.declared.RawKindAnswer.{RawKindAnswer}
@@ -595,6 +598,14 @@ stream-places-trailer-trailer-parse f r = saidTrailer r ≡ trailerOf f
 -- stream_places::trailer::Trailer::parse_wide
 abbrev pub stream-places-trailer-trailer-parse-wide : (f : List ℕ) → TrailerAnswer → Type 0
 stream-places-trailer-trailer-parse-wide f r = saidTrailer r ≡ trailerOfEither f
+
+-- stream_report::new
+abbrev pub stream-report-new : Totals → Type 0
+stream-report-new r = r ≡ totalsOf fresh
+
+-- stream_report::add
+abbrev pub stream-report-add : (totals : Totals) (table : List ℕ) (s : List ℕ) → ReportAnswer → List ℕ → Type 0
+stream-report-add totals table s r table′ = Reports table (addOf (reportIn totals table) s) r table′
 
 -- stream_view::bytes_of
 abbrev pub stream-view-bytes-of : (tpi : List ℕ) (ipi : List ℕ) (entry : Entry) → List ℕ → Type 0

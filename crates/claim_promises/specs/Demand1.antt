@@ -42,6 +42,8 @@ use Rattle.stream_fit.specs.Fit.{fitOf}
 use Rattle.stream_places.specs.File.{trailerOf, trailerOfEither}
 use Rattle.stream_places.specs.Places.{loadOf, loadWideOf, saveOf, saveWideOf, saidSave, Saves}
 use Rattle.stream_places.specs.declared.SaveAnswer.{SaveAnswer}
+use Rattle.stream_report.specs.Report.{Report, addOf, saidReport, Reports}
+use Rattle.stream_report.specs.declared.ReportAnswer.{ReportAnswer}
 use Rattle.answer.specs.Tables.{among}
 use Rattle.declare_type.specs.Declares.{declareOf, saidDeclare, Declares}
 use Rattle.declare_type.specs.declared.DeclareAnswer.{DeclareAnswer}
@@ -110,6 +112,8 @@ pub record Demand1 : Type 0 where
   pub wide-trailers : (f : List ℕ) → Refuses (20 ∷ []) (trailerOfEither f)
   pub wide-loads : (s f t : List ℕ) → Refuses (16 ∷ 1 ∷ 2 ∷ 3 ∷ 4 ∷ 5 ∷ 20 ∷ 21 ∷ 13 ∷ 22 ∷ []) (loadWideOf s f t)
   pub wide-saves : (s : List ℕ) (σ : State) (room : ℕ) → Refuses (16 ∷ 1 ∷ 2 ∷ 3 ∷ 4 ∷ 5 ∷ 21 ∷ 26 ∷ 13 ∷ 19 ∷ []) (saveWideOf s σ room)
+  -- R-12: an addition to a report; a stream that is refused is answered
+  pub additions : (ρ : Report) (s : List ℕ) → Refuses (27 ∷ 28 ∷ []) (addOf ρ s)
   -- document 02, R-5: a declaration. 1 has the lookup's links passed, or none where a reader gives it
   pub declares : (s : List ℕ) (σ : State) (i room n : ℕ) (d : List ℕ) → declareOf s σ i room ≡ refused n d
       → (among n (19 ∷ 16 ∷ 26 ∷ 13 ∷ 8 ∷ 9 ∷ 1 ∷ 10 ∷ 11 ∷ 12 ∷ 23 ∷ 24 ∷ []) ≡ true) × (listed n d ≡ true)
@@ -148,6 +152,8 @@ pub record Demand1 : Type 0 where
   pub wide-load-keeps : (s f t : List ℕ) (r : FinderAnswer) (t′ : List ℕ) (n : ℕ) (d : List ℕ) → Fills t (loadWideOf s f t) r t′ → saidFinder r ≡ refused n d → t′ ≡ t
   pub wide-save-keeps : (s : List ℕ) (σ : State) (o : List ℕ) (r : SaveAnswer) (o′ : List ℕ) (n : ℕ) (d : List ℕ)
       → Saves o (saveWideOf s σ (length o)) r o′ → saidSave r ≡ refused n d → o′ ≡ o
+  -- the table, lent to `add`
+  pub add-keeps : (ρ : Report) (s t : List ℕ) (r : ReportAnswer) (t′ : List ℕ) (n : ℕ) (d : List ℕ) → Reports t (addOf ρ s) r t′ → saidReport r ≡ refused n d → t′ ≡ t
   -- the buffer, lent to any writer: w is what its definition answers
   pub write-keeps : (o : List ℕ) (w : Answer Written) (r : WriteAnswer) (o′ : List ℕ) (n : ℕ) (d : List ℕ) → Writes o w (saidWrite r) o′ → saidWrite r ≡ refused n d → o′ ≡ o
   -- the buffer, lent to `declare`

@@ -25,6 +25,7 @@ use Rattle.stream_finder.specs.declared.Run.{Run}
 use Rattle.stream_header.specs.declared.Header.{Header}
 use Rattle.stream_item.specs.declared.Entry.{Entry}
 use Rattle.stream_item.specs.declared.iter.ItemIter.{ItemIter}
+use Rattle.stream_report.specs.declared.Totals.{Totals}
 use Rattle.stream_view.specs.declared.EntryView.{EntryView}
 use Rattle.word_attributes.specs.declared.FieldAttributes.{FieldAttributes}
 use Rattle.word_attributes.specs.declared.FunctionAttributes.{FunctionAttributes}
@@ -189,6 +190,9 @@ pub record OneOutcome : Type 1 where
   pub stream-places-save-wide : (s : List ℕ) (f : ItemFinder) (t : List ℕ) (out : List ℕ) → OnceLent (contract.stream-places-save-wide s f t out)
   pub stream-places-trailer-trailer-parse : (f : List ℕ) → Once (contract.stream-places-trailer-trailer-parse f)
   pub stream-places-trailer-trailer-parse-wide : (f : List ℕ) → Once (contract.stream-places-trailer-trailer-parse-wide f)
+  -- stream_report
+  pub stream-report-new : Once (contract.stream-report-new)
+  pub stream-report-add : (totals : Totals) (table : List ℕ) (s : List ℕ) → OnceLent (contract.stream-report-add totals table s)
   -- stream_view
   pub stream-view-bytes-of : (tpi : List ℕ) (ipi : List ℕ) (entry : Entry) → Once (contract.stream-view-bytes-of tpi ipi entry)
   pub stream-view-view : (tpi : List ℕ) (ipi : List ℕ) (entry : Entry) (r q : EntryView) → contract.stream-view-view tpi ipi entry r → contract.stream-view-view tpi ipi entry q → (now (r .bytes) ≡ now (q .bytes)) × (r .answer ≡ q .answer)

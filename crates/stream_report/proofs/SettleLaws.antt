@@ -14,7 +14,7 @@ use Rattle.field.specs.declared.index.Stream.the-variants as stream
 use Rattle.stream_item.specs.Iterator.{iterOf}
 use Rattle.stream_item.specs.declared.iter.ItemIter.{ItemIter}
 use Rattle.stream_report.specs.Report.{Entry, Report, runOf, walkOf, addOf, begun, refusing, most, passes, tooLarge, settled, concluded, rows, atMost64, reportIn, totalsOf, flat, totalsIn, tableAfter, saidReport, Reports}
-use Rattle.stream_report.specs.Held.{Known, Exact, Past, Kept, Finished, Refuses, Sound, Told, Walks, totalsAfter, settledOf, refusedOf, Sized}
+use Rattle.stream_report.specs.Held.{Known, Exact, Past, Kept, Finished, Refuses, Sound, Told, Walks, totalsAfter, settledOf, refusedOf, Fits64}
 use Rattle.stream_report.specs.declared.Totals.{Totals}
 use Rattle.stream_report.specs.declared.Count.{Count}
 use Rattle.stream_report.specs.declared.Walked.{Walked}
@@ -242,7 +242,7 @@ module _ (τ : Totals) (t : List ℕ) (s : List ℕ) (c : ItemIter) (n : ℕ) (e
   walk-refused : r ≡ walk.Refused → Refuses s (τ .taken) c (begun (reportIn τ t) (c .at))
   walk-refused q = subst (λ (x : WalkAnswer). Told s (τ .taken) c (begun (reportIn τ t) (c .at)) t x t′) q (k .from (begun (reportIn τ t) (c .at)) t start-kept start-largest)
 
-  pub midway-reports : r ≡ walk.Refused → Known t → Sized τ → (x : ReportAnswer) → saidReport x ≡ refusedOf τ
+  pub midway-reports : r ≡ walk.Refused → Known t → Fits64 τ → (x : ReportAnswer) → saidReport x ≡ refusedOf τ
       → Reports t (concluded (reportIn τ t) (runOf s (τ .taken) c (begun (reportIn τ t) (c .at)))) x t
   midway-reports q kn z x h =
       refusing-reports τ t kn (z .headers) (z .records) (z .bytes) (concluded (reportIn τ t) (runOf s (τ .taken) c (begun (reportIn τ t) (c .at))))
@@ -254,6 +254,6 @@ module _ (τ : Totals) (t : List ℕ) (s : List ℕ) where
   unfolding addOf walkOf reportIn
   begins c e = rw e
 
-  pub header-reports : (n : ℕ) (d : List ℕ) → iterOf stream.Types s ≡ refused n d → Known t → Sized τ → (x : ReportAnswer) → saidReport x ≡ refusedOf τ → Reports t (addOf (reportIn τ t) s) x t
+  pub header-reports : (n : ℕ) (d : List ℕ) → iterOf stream.Types s ≡ refused n d → Known t → Fits64 τ → (x : ReportAnswer) → saidReport x ≡ refusedOf τ → Reports t (addOf (reportIn τ t) s) x t
   unfolding addOf walkOf
   header-reports n d e kn z x h = refusing-reports τ t kn (z .headers) (z .records) (z .bytes) (addOf (reportIn τ t) s) (rw e) x h

@@ -145,7 +145,7 @@ refusedOf τ =
     })))
 
 -- numbers of 64 bits
-pub record Sized (τ : Totals) : Type 0 where
+pub record Fits64 (τ : Totals) : Type 0 where
   pub refused : τ .refused ≤ most
   pub headers : τ .headers ≤ most
   pub records : τ .records ≤ most

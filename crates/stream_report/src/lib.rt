@@ -6,7 +6,7 @@ ghost use lib.Dec.{ltb};
 ghost use lib.ListN.{length};
 ghost use Rattle.field.specs.Fields.{littleAt};
 ghost use Rattle.stream_report.specs.Report.{fresh, totalsOf, larger, most, atMost64, runOf, begun, concluded, reportIn, addOf, saidReport, Reports};
-ghost use Rattle.stream_report.specs.Held.{First, Foremost, Known, newTable, Grows, Sound, Counts, Walks, Sized, refusedOf, settledOf};
+ghost use Rattle.stream_report.specs.Held.{First, Foremost, Known, newTable, Grows, Sound, Counts, Walks, Fits64, refusedOf, settledOf};
 use answer::Refusal;
 use field::index::Stream;
 use stream_item::iter;
@@ -209,7 +209,7 @@ fn known(t: &[u64])
 
 // And of all totals: each is a number of 64 bits.
 fn sized(totals: Totals)
-    ensures { λ r. ⌜ Sized totals ⌝ }
+    ensures { λ r. ⌜ Fits64 totals ⌝ }
 {
     let _taken = totals.taken;
 }
