@@ -110,44 +110,47 @@ def stream(records, low=0x1000, high=None, size=56):
     return head + b"".join(struct.pack("<H", len(p)) + p for p in records)
 
 
+# Payloads of each leaf that may hold a reference. HOLDERS: each place of a reference, as a payload with that one in it and primitives at its others.
+u32 = lambda *xs: struct.pack(f"<{len(xs)}I", *xs)
+modifier = lambda t: struct.pack("<HIH", 0x1001, t, 1)
+pointer = lambda t, word=0x1000c: struct.pack("<HII", 0x1002, t, word)
+to_member = lambda t, c: pointer(t, 0x1004c) + u32(c)
+arguments = lambda *ts: struct.pack("<HI", 0x1201, len(ts)) + u32(*ts)
+procedure = lambda ret, args: struct.pack("<HIHHI", 0x1008, ret, 0, 0, args)
+method = lambda ret, cls, this, args: struct.pack("<HIIIHHII", 0x1009, ret, cls, this, 0, 0, args, 0)
+cls = lambda leaf, f, d, v: struct.pack("<HHHIIIH", leaf, 0, 0, f, d, v, 4) + b"c\0"
+struct19 = lambda f, d, v: struct.pack("<HIIIIHH", 0x1609, 0, f, d, v, 0, 4) + b"c\0"
+union = lambda f: struct.pack("<HHHIH", 0x1506, 0, 0, f, 4) + b"u\0"
+enum = lambda t, f: struct.pack("<HHHII", 0x1507, 0, 0, t, f) + b"e\0"
+array = lambda e, i: struct.pack("<HIIH", 0x1503, e, i, 8) + b"\0"
+bits = lambda t: struct.pack("<HIBB", 0x1205, t, 1, 0)
+shape = struct.pack("<HHB", 0x000a, 1, 0)
+fields = lambda *ms: struct.pack("<H", 0x1203) + b"".join(ms)
+methods = lambda *ts: struct.pack("<H", 0x1206) + b"".join(struct.pack("<HHI", 3, 0, t) for t in ts)
+member = lambda t: struct.pack("<HHIH", 0x150d, 3, t, 0) + b"m\0"
+MEMBER = {
+    "base": lambda t: struct.pack("<HHIH", 0x1400, 3, t, 0), "index": lambda t: struct.pack("<HHI", 0x1404, 0, t), "table": lambda t: struct.pack("<HHI", 0x1409, 0, t),
+    "member": member, "static": lambda t: struct.pack("<HHI", 0x150e, 3, t) + b"s\0", "overloads": lambda t: struct.pack("<HHI", 0x150f, 2, t) + b"o\0",
+    "nested": lambda t: struct.pack("<HHI", 0x1510, 0, t) + b"n\0", "method": lambda t: struct.pack("<HHI", 0x1511, 3, t) + b"f\0",
+    "virtual": lambda t: struct.pack("<HHIIHH", 0x1401, 3, t, 0x74, 0, 0), "pointer of virtual": lambda t: struct.pack("<HHIIHH", 0x1402, 3, 0x74, t, 0, 0),
+}
+enumerator = struct.pack("<HHH", 0x1502, 3, 7) + b"v\0"
+HOLDERS = [modifier, pointer, lambda t: to_member(0x74, t), arguments, lambda t: arguments(0x74, t), lambda t: procedure(t, 0x74), lambda t: procedure(0x74, t)]
+HOLDERS += [lambda t, k=k: method(*(t if j == k else 0x74 for j in range(4))) for k in range(4)]
+HOLDERS += [lambda t, leaf=leaf, k=k: cls(leaf, *(t if j == k else 0 for j in range(3))) for leaf in (0x1504, 0x1505, 0x1519) for k in range(3)]
+HOLDERS += [lambda t, k=k: struct19(*(t if j == k else 0 for j in range(3))) for k in range(3)]
+HOLDERS += [union, lambda t: enum(t, 0), lambda t: enum(0x74, t), lambda t: array(t, 0x23), lambda t: array(0x74, t), bits, methods, lambda t: methods(0x74, t)]
+HOLDERS += [lambda t, m=m: fields(enumerator, b"\xf2\xf1" + m(t)) for m in MEMBER.values()]
+
+
 def tries():
     """Streams by hand: each rule, alone and before or behind another, and each edge of it."""
-    u32 = lambda *xs: struct.pack(f"<{len(xs)}I", *xs)
-    modifier = lambda t: struct.pack("<HIH", 0x1001, t, 1)
-    pointer = lambda t, word=0x1000c: struct.pack("<HII", 0x1002, t, word)
-    to_member = lambda t, c: pointer(t, 0x1004c) + u32(c)
-    arguments = lambda *ts: struct.pack("<HI", 0x1201, len(ts)) + u32(*ts)
-    procedure = lambda ret, args: struct.pack("<HIHHI", 0x1008, ret, 0, 0, args)
-    method = lambda ret, cls, this, args: struct.pack("<HIIIHHII", 0x1009, ret, cls, this, 0, 0, args, 0)
-    cls = lambda leaf, f, d, v: struct.pack("<HHHIIIH", leaf, 0, 0, f, d, v, 4) + b"c\0"
-    struct19 = lambda f, d, v: struct.pack("<HIIIIHH", 0x1609, 0, f, d, v, 0, 4) + b"c\0"
-    union = lambda f: struct.pack("<HHHIH", 0x1506, 0, 0, f, 4) + b"u\0"
-    enum = lambda t, f: struct.pack("<HHHII", 0x1507, 0, 0, t, f) + b"e\0"
-    array = lambda e, i: struct.pack("<HIIH", 0x1503, e, i, 8) + b"\0"
-    bits = lambda t: struct.pack("<HIBB", 0x1205, t, 1, 0)
-    shape = struct.pack("<HHB", 0x000a, 1, 0)
-    fields = lambda *ms: struct.pack("<H", 0x1203) + b"".join(ms)
-    methods = lambda *ts: struct.pack("<H", 0x1206) + b"".join(struct.pack("<HHI", 3, 0, t) for t in ts)
-    member = lambda t: struct.pack("<HHIH", 0x150d, 3, t, 0) + b"m\0"
-    one = {
-        "base": lambda t: struct.pack("<HHIH", 0x1400, 3, t, 0), "index": lambda t: struct.pack("<HHI", 0x1404, 0, t), "table": lambda t: struct.pack("<HHI", 0x1409, 0, t),
-        "member": member, "static": lambda t: struct.pack("<HHI", 0x150e, 3, t) + b"s\0", "overloads": lambda t: struct.pack("<HHI", 0x150f, 2, t) + b"o\0",
-        "nested": lambda t: struct.pack("<HHI", 0x1510, 0, t) + b"n\0", "method": lambda t: struct.pack("<HHI", 0x1511, 3, t) + b"f\0",
-        "virtual": lambda t: struct.pack("<HHIIHH", 0x1401, 3, t, 0x74, 0, 0), "pointer of virtual": lambda t: struct.pack("<HHIIHH", 0x1402, 3, 0x74, t, 0, 0),
-    }
-    enumerator = struct.pack("<HHH", 0x1502, 3, 7) + b"v\0"
-    of_one = [modifier, pointer, lambda t: to_member(0x74, t), arguments, lambda t: arguments(0x74, t), lambda t: procedure(t, 0x74), lambda t: procedure(0x74, t)]
-    of_one += [lambda t, k=k: method(*(t if j == k else 0x74 for j in range(4))) for k in range(4)]
-    of_one += [lambda t, leaf=leaf, k=k: cls(leaf, *(t if j == k else 0 for j in range(3))) for leaf in (0x1504, 0x1505, 0x1519) for k in range(3)]
-    of_one += [lambda t, k=k: struct19(*(t if j == k else 0 for j in range(3))) for k in range(3)]
-    of_one += [union, lambda t: enum(t, 0), lambda t: enum(0x74, t), lambda t: array(t, 0x23), lambda t: array(0x74, t), bits, methods, lambda t: methods(0x74, t)]
-    of_one += [lambda t, m=m: fields(enumerator, b"\xf2\xf1" + m(t)) for m in one.values()]
     yield b""
     yield stream([])
     yield stream([], high=0x1001)
     yield stream([], low=0x1005)
     yield stream([shape])
-    for make in of_one:
+    for make in HOLDERS:
         # itself, the next, the one before, a good and a bad primitive, NoType, 0xffff, and, with a higher minimum, the gap and its ends
         for t in (0x1001, 0x1002, 0x1000, 0x74, 0x674, 0x67c, 0x04, 0x874, 0, 0xffff, 0xfff, 0xffffffff):
             yield stream([shape, make(t)])
@@ -164,13 +167,13 @@ def tries():
     yield stream([arguments(0x04, 0x1000)])
     yield stream([arguments(0x1000, 0x04)], low=0x2000)
     yield stream([arguments(0x1000, 0x2000)], low=0x2000)
-    yield stream([fields(one["index"](0x74), b"\0\0")])
+    yield stream([fields(MEMBER["index"](0x74), b"\0\0")])
     yield stream([fields(member(0x74), b"\xf8")])
     yield stream([fields(member(0x74), b"\xf3\xf2\xf1")])
     yield stream([fields()])
     yield stream([methods()])
     yield stream([arguments()])
-    yield stream([fields(one["index"](0x74))[2:]])
+    yield stream([fields(MEMBER["index"](0x74))[2:]])
     yield stream([struct.pack("<HIII", 0x1605, 0, 0, 0)])
     whole = stream([shape, pointer(0x1000)])
     for end in range(len(whole) + 1):
