@@ -3,7 +3,7 @@
 
     fitting.py STREAM..                      prints `0 yes`, `0 no RECORD RULE` or the refusal's number for each
     fitting.py --vectors STDIN STDOUT        writes commands for the program replay_whole to the one file and their answers to the other,
-                                              those of places.py (R-3 and R-10) with them
+                                             those of places.py (R-3 and R-10) and reporting.py (R-12) with them
     fitting.py --damage STREAM PROGRAM..     sets each byte of STREAM to 0x00, to 0xff and to its complement, one at a time, and holds the program,
                                              `tools/program replay_whole`, to what is worked out here
 
@@ -19,6 +19,7 @@ sys.path.insert(0, os.path.dirname(os.path.abspath(__file__)))
 import declaring
 import layouts
 import places
+import reporting
 
 COUNT, DECODE, ORDER, PRIMITIVE, GAP = 1, 2, 3, 4, 5
 FIRST = 0x1000
@@ -205,11 +206,13 @@ def line(s):
 def main():
     words = sys.argv[1:]
     if words[:1] == ["--vectors"] and len(words) == 3:
-        streams = list(tries())
-        with open(words[1], "w", encoding="utf-8") as f:
-            f.writelines([line(s) for s in streams] + [command + "\n" for command in places.vectors()] + [a for a, _ in BAD])
-        with open(words[2], "w", encoding="utf-8") as f:
-            f.writelines([verdict(s) + "\n" for s in streams] + [places.answer(command) + "\n" for command in places.vectors()] + [b for _, b in BAD])
+        both = [(line(s), verdict(s) + "\n") for s in tries()]
+        for part in (reporting, places):
+            both += [(command + "\n", part.answer(command) + "\n") for command in part.vectors()]
+        both += [(command + "\n", "? bytes\n") for command in reporting.BAD] + list(BAD)
+        for name, said in zip(words[1:], zip(*both)):
+            with open(name, "w", encoding="utf-8") as f:
+                f.writelines(said)
         return 0
     if words[:1] == ["--damage"] and len(words) > 2:
         with open(words[1], "rb") as f:

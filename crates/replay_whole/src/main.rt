@@ -1,7 +1,8 @@
-// Answers the commands of compare/PROTOCOL.md that take whole streams, document 02's R-9 and R-10: reads them from standard
-// input, one to a line, and prints the port's answers. Apart from `replay`, so that neither is proved again for the other.
+// Answers the commands of compare/PROTOCOL.md that take whole streams, document 02's R-9, R-10 and R-12: reads them from
+// standard input, one to a line, and prints the port's answers. Apart from `replay`, so that neither is proved again for the other.
 mod input;
 mod place_lines;
+mod report_lines;
 mod short;
 
 use answer::Details;
@@ -133,6 +134,12 @@ fn command(buffer: &mut [u8; 65536], from: Input, bytes: &mut [u8; 65536]) -> In
     }
     if named(&letters, w.len, b"loadwide") {
         return place_lines::load(buffer, w.input, true);
+    }
+    if named(&letters, w.len, b"report") {
+        return report_lines::report(buffer, w.input, bytes);
+    }
+    if named(&letters, w.len, b"reportfrom") {
+        return report_lines::report_from(buffer, w.input, bytes);
     }
     if !named(&letters, w.len, b"fit") {
         return unknown(buffer, w.input, &letters, w.len);

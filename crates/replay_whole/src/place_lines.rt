@@ -18,7 +18,7 @@ fn stream() -> [u8; 140000]
     [0u8; 140000]
 }
 
-fn file() -> [u8; 263000]
+pub fn file() -> [u8; 263000]
     ensures { λ r. ⌜ 263000 ≡ length r ⌝ }
 {
     [0u8; 263000]
@@ -88,7 +88,7 @@ fn table_part(a: &[u32; 66000], n: usize) -> &[u32] {
     first_places(t, n)
 }
 
-fn first_bytes(s: &[u8], n: usize) -> &[u8] {
+pub fn first_bytes(s: &[u8], n: usize) -> &[u8] {
     if n <= s.len() {
         return &s[0..n];
     }

@@ -20,16 +20,17 @@ pub struct Numeral {
 }
 
 fn grown(value: u64, digit: u64) -> u64 {
-    if value > 1844674407370955160 {
+    if digit > 9 {
+        return value;
+    }
+    if value < 1844674407370955161 {
+        return 10 * value + digit;
+    }
+    if value > 1844674407370955161 {
         return 18446744073709551615;
     }
     if digit > 5 {
-        if value > 1844674407370955159 {
-            return 18446744073709551615;
-        }
-    }
-    if digit > 9 {
-        return value;
+        return 18446744073709551615;
     }
     10 * value + digit
 }
@@ -72,11 +73,11 @@ pub fn read_number(buffer: &mut [u8; 65536], from: Input) -> Numeral {
     }
 }
 
-// A number behind a `/`.
-fn read_behind(buffer: &mut [u8; 65536], from: Input) -> Numeral {
+// A number behind a mark.
+pub fn read_behind(buffer: &mut [u8; 65536], from: Input, mark: u16) -> Numeral {
     let seen = input::peek(buffer, from);
     let input = seen.input;
-    if seen.code == 47 {
+    if seen.code == mark {
         return read_numeral(buffer, input::past(input));
     }
     Numeral {
@@ -106,7 +107,7 @@ fn stored(out: &mut [u8], len: usize, b: u8) -> bool {
     false
 }
 
-fn more(len: usize, fits: bool) -> usize {
+pub fn more(len: usize, fits: bool) -> usize {
     if fits {
         if len < 1000000 {
             return len + 1;
@@ -328,9 +329,9 @@ fn counted(
     good: bool,
     out: &mut [u8],
 ) -> Taken {
-    let by = read_behind(buffer, from);
+    let by = read_behind(buffer, from, 47);
     let rest = by.input;
-    let n = read_behind(buffer, rest);
+    let n = read_behind(buffer, rest, 47);
     let input = n.input;
     let f = steps(out, start, low32(first), low32(by.value), n.value);
     Taken {
@@ -362,7 +363,7 @@ fn piece(buffer: &mut [u8; 65536], from: Input, start: usize, out: &mut [u8]) ->
 }
 
 // The end of a word: good if nothing is left of it.
-fn ended(buffer: &mut [u8; 65536], from: Input, len: usize, good: bool) -> Taken {
+pub fn ended(buffer: &mut [u8; 65536], from: Input, len: usize, good: bool) -> Taken {
     let seen = input::peek(buffer, from);
     let whole = input::ends_word(seen.code);
     let rest = seen.input;
@@ -402,7 +403,7 @@ pub fn read_bytes(buffer: &mut [u8; 65536], from: Input, out: &mut [u8]) -> Take
     ended(buffer, input, len, good)
 }
 
-fn goes_on(good: bool, code: u16, joint: u16) -> bool {
+pub fn goes_on(good: bool, code: u16, joint: u16) -> bool {
     good && code == joint
 }
 
@@ -445,9 +446,9 @@ fn stepped(
     first: Numeral,
     out: &mut [u32],
 ) -> Taken {
-    let by = read_behind(buffer, from);
+    let by = read_behind(buffer, from, 47);
     let rest = by.input;
-    let n = read_behind(buffer, rest);
+    let n = read_behind(buffer, rest, 47);
     let input = n.input;
     let f = row(out, start, low32(first.value), low32(by.value), n.value);
     Taken {
