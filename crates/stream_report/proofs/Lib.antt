@@ -4,5 +4,6 @@ pub mod WalkLaws
 pub mod SettleLaws
 pub mod OneOutcome
 pub mod SumLaws
+pub mod LargestLaws
 pub mod MadeSums
 pub mod Examples

@@ -11,6 +11,7 @@ use Rattle.answer.specs.Answer.{Answer, answered, refused, stop}
 use Rattle.stream_report.specs.Report.{Entry, Report, fresh, begun, refusing, tooLarge, settled, addOf}
 use Rattle.stream_report.specs.Sums.{Stream, streamOf, bytesIn, recordsWith, bytesWith, AddsUp, countAll, byRecords, tallyAll, Made, new, added, each, sum, lengths, one, refusals, recordsFor, bytesFor, allRecords, allBytes, distinct, Sums, MadeSums}
 use Rattle.stream_report.proofs.SumLaws.{adds-up, exactly, Plain, plain, open-entries, full-leaves, all-tallied, each-tallied, distinct-tallied}
+use Rattle.stream_report.proofs.LargestLaws.{LargestIs, fresh-largest, refused-largest, counted-largest}
 
 -- an addition that was answered
 settled-is : (a f : Bool) (ρ ρ′ : Report) → stop a 27 (stop f 28 (answered ρ)) ≡ answered ρ′ → (f ≡ false) × (ρ ≡ ρ′)
@@ -41,6 +42,8 @@ module _ (ρ : Report) (ss : List (List ℕ)) (s : List ℕ) (m : Sums ρ ss) wh
           each-records = λ leaf. ap (λ (es : List Entry). recordsFor es leaf) q ∙ rw e (omega (arith, m .each-records leaf, each-tallied leaf (z .records) (ρ .entries) .0));
           each-bytes = λ leaf. ap (λ (es : List Entry). bytesFor es leaf) q ∙ rw e (omega (arith, m .each-bytes leaf, each-tallied leaf (z .records) (ρ .entries) .1));
           few = rw q (ltb-false 64 _ (sym l ∙ o));
+          largest =
+              subst (λ (number : ℕ). LargestIs (countAll number (begun ρ (z .header)) (z .records) .report .largest) (s ∷ ss)) (sym (m .taken)) (counted-largest ss s z e (begun ρ (z .header)) (m .largest));
         }
 
   -- and of one that was refused
@@ -60,6 +63,7 @@ module _ (ρ : Report) (ss : List (List ℕ)) (s : List ℕ) (m : Sums ρ ss) wh
       each-records = λ leaf. rw e (omega (arith, m .each-records leaf));
       each-bytes = λ leaf. rw e (omega (arith, m .each-bytes leaf));
       few = m .few;
+      largest = refused-largest (ρ .largest) ss s n d e (m .largest);
     }
 
   added-sums : (ρ′ : Report) → addOf ρ s ≡ answered ρ′ → Sums ρ′ (s ∷ ss)
@@ -88,6 +92,7 @@ fresh-sums = record {
   each-records = λ leaf. refl;
   each-bytes = λ leaf. refl;
   few = omega arith;
+  largest = fresh-largest;
 }
 
 pub made-sums : MadeSums

@@ -17,10 +17,10 @@ use Rattle.stream_report.specs.Report.{Entry, Report, fresh, Counting, c
 use Rattle.stream_report.specs.Sums.{Seen, Stream, seeing, seenBy, streamOf, bytesIn, recordsWith, bytesWith, AddsUp, countAll, byRecords, tallyAll, Exactly, recordsFor, bytesFor, allRecords, allBytes, distinct}
 use Rattle.stream_report.proofs.WalkLaws.{Further, further, over-end, run-step}
 
-never : {A : Type 0} {X : Type 0} (a : A) (n : ℕ) (x : List ℕ) → _≡_ {A = Answer A} (refused n x) (answered a) → X
+pub never : {A : Type 0} {X : Type 0} (a : A) (n : ℕ) (x : List ℕ) → _≡_ {A = Answer A} (refused n x) (answered a) → X
 never a n x e = let z : _≡_ {A = ℕ} 0 1 = cc in absurd (omega arith)
 
-seen-step : (k : ℕ) (s : List ℕ) (c : ItemIter) (a : Answer Next) → nextOf s c ≡ a → seenBy (suc k) s c ≡ then a (seeing (seenBy k s) s c)
+pub seen-step : (k : ℕ) (s : List ℕ) (c : ItemIter) (a : Answer Next) → nextOf s c ≡ a → seenBy (suc k) s c ≡ then a (seeing (seenBy k s) s c)
 unfolding seenBy
 seen-step k s c a e = rw e
 

@@ -1,9 +1,10 @@
 -- R-12 of document 02, what is promised: "For each accepted stream whose walk ends in done, header bytes, two per record, and payload bytes add up to
 -- the stream's length, and the report's totals are those of the streams it counted." Over the list of a stream's records.
-use Prim.Native.Nat.{ℕ, zero, suc, _+_, _*_, _≤_}
+use Prim.Native.Nat.{ℕ, zero, suc, _+_, _*_, _≤_, _<_}
 use mathlib.Core.Path.{_≡_}
 use mathlib.Core.Bool.{Bool, true, false}
 use mathlib.Core.List.{List, [], _∷_}
+use mathlib.Core.Logic.{_⊎_}
 use lib.ListN.{length}
 use lib.Dec.{ltb, eqb}
 use Rattle.answer.specs.Answer.{Answer, answered, refused, pick, then}
@@ -12,6 +13,7 @@ use Rattle.field.specs.declared.index.Stream.the-variants as stream
 use Rattle.stream_item.specs.Iterator.{iterOf, Next, done, yielded, nextOf}
 use Rattle.stream_item.specs.declared.iter.ItemIter.{ItemIter}
 use Rattle.stream_report.specs.Report.{Entry, Report, fresh, Counting, counted, tally, has, begun, refusing, tooLarge, settled, addOf}
+use Rattle.stream_report.specs.declared.Largest.{Largest}
 
 -- ---- the records of a stream
 
@@ -126,6 +128,38 @@ unfoldable pub distinct : List Entry → Bool
 distinct [] = true
 distinct (e ∷ es) = pick (has es (e .leaf)) false (distinct es)
 
+-- ---- the largest payload
+
+pub data Among : List Seen → Seen → Type 0 where
+  first : {x : Seen} {xs : List Seen} → Among (x ∷ xs) x
+  later : {x y : Seen} {xs : List Seen} → Among xs y → Among (x ∷ xs) y
+
+-- a record of the stream with this number, which was counted; the last stream stands first in the list
+pub data RecordIn : List (List ℕ) → ℕ → Seen → Type 0 where
+  in-last : {s : List ℕ} {ss : List (List ℕ)} {z : Stream} {y : Seen} → streamOf s ≡ answered z → Among (z .records) y → RecordIn (s ∷ ss) (length ss) y
+  in-earlier : {s : List ℕ} {ss : List (List ℕ)} {number : ℕ} {y : Seen} → RecordIn ss number y → RecordIn (s ∷ ss) number y
+
+-- an earlier stream, or the same and a lower index
+abbrev pub Precedes : ℕ → ℕ → ℕ → ℕ → Type 0
+Precedes number index number′ index′ = (number < number′) ⊎ ((number ≡ number′) × (index < index′))
+
+-- no record was counted, and all is 0
+pub record NoRecord (l : Largest) (ss : List (List ℕ)) : Type 0 where
+  pub length : l .length ≡ 0
+  pub stream : l .stream ≡ 0
+  pub index : l .index ≡ 0
+  pub none : (number : ℕ) (y : Seen) → RecordIn ss number y → ⊥
+
+-- "largest payload with the first stream (numbered from 0, refused ones too) and index that have it": that of a counted record, none is longer, and every
+-- one before it is shorter
+pub record FirstLongest (l : Largest) (ss : List (List ℕ)) : Type 0 where
+  pub has : Seen
+  pub there : RecordIn ss (l .stream) has
+  pub index : has .index ≡ l .index
+  pub length : has .bytes ≡ l .length
+  pub longest : (number : ℕ) (y : Seen) → RecordIn ss number y → y .bytes ≤ l .length
+  pub before : (number : ℕ) (y : Seen) → RecordIn ss number y → Precedes number (y .index) (l .stream) (l .index) → y .bytes < l .length
+
 -- what is true of it
 pub record Sums (ρ : Report) (ss : List (List ℕ)) : Type 0 where
   pub taken : ρ .taken ≡ length ss
@@ -142,6 +176,7 @@ pub record Sums (ρ : Report) (ss : List (List ℕ)) : Type 0 where
   pub each-records : (leaf : ℕ) → recordsFor (ρ .entries) leaf ≡ sum (λ z. recordsWith leaf (z .records)) ss
   pub each-bytes : (leaf : ℕ) → bytesFor (ρ .entries) leaf ≡ sum (λ z. bytesWith leaf (z .records)) ss
   pub few : length (ρ .entries) ≤ 64
+  pub largest : NoRecord (ρ .largest) ss ⊎ FirstLongest (ρ .largest) ss
 
 unfoldable pub MadeSums : Type 0
 MadeSums = (ρ : Report) (ss : List (List ℕ)) → Made ρ ss → Sums ρ ss
