@@ -9,7 +9,8 @@
 # Wanted: the port's program measure, which `rt check measure` makes; and valgrind, on x86-64.
 # Each operation is done 10 times and 20 times; the difference over 10 times the records is what one record costs, and what both runs do
 # once (starting, reading the input, a finder for `find`, a places file for `load`) is not in it. `header` is counted by the header and not by the
-# record, `primitives` by the 4,096 indices. The crate has no `load`: load0, load and load6 are the port's alone, at the shifts 0, 3 and 6.
+# record, `primitives` by the 4,096 indices. The crate has no `load` and no `report`: load0, load and load6, at the shifts 0, 3 and
+# 6, and report are the port's alone.
 # valgrind's callgrind counts every instruction of the program, so that a run can be repeated and gives the same numbers.
 # On another processor the port, which is compiled for x86-64, runs under the toolchain's emulator, one instruction a line of its log, once and
 # twice. The crate is then not counted: its own build is for that processor (SPEED may be `-`).
@@ -53,7 +54,7 @@ for stream; do
   records=$(($(word "$stream" 12) - $(word "$stream" 8)))
   case $stream in
     *.ipi) operations="parseids" ;;
-    *) operations="header walk index load0 load load6 find parse elements primitives" ;;
+    *) operations="header walk index load0 load load6 find parse elements primitives report" ;;
   esac
   for op in $operations; do
     n=$fewest over=$((fewest * records))
@@ -68,7 +69,7 @@ for stream; do
       *) name=$op ;;
     esac
     port=$(($(count "$measure" $op $((2 * n)) "$stream") - $(count "$measure" $op $n "$stream")))
-    case $op in load*) asked=- ;; *) asked=$speed ;; esac
+    case $op in load* | report) asked=- ;; *) asked=$speed ;; esac
     if [ "$asked" = - ]; then
       awk -v s="$(basename "$stream")" -v op=$name -v p=$port -v over=$over 'BEGIN { printf "| %s | %s | %.1f | | | |\n", s, op, p / over }'
       continue

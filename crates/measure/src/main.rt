@@ -27,6 +27,7 @@ use stream_item::Item;
 use stream_item::iter::ItemIter;
 use stream_item::iter::IterAnswer;
 use stream_item::iter::NextAnswer;
+use stream_report::ReportAnswer;
 use stream_view::RawKindAnswer;
 use sums::add;
 use word_primitive::PrimitiveAnswer;
@@ -49,6 +50,8 @@ const LOAD: u8 = b'l';
 const PRIMITIVES: u8 = b't';
 
 const ELEMENTS: u8 = b'e';
+
+const REPORT: u8 = b'r';
 
 // A word that is no operation.
 const NONE: u8 = 0;
@@ -266,6 +269,25 @@ fn load_once(s: &[u8], file: &[u8], t: &mut [u32; PLACES]) -> u64 {
     }
 }
 
+// Adds the stream to a fresh report; the sum is over its totals and all rows of its table.
+fn report_once(s: &[u8]) -> u64 {
+    let mut table = [0u64; 192];
+    match stream_report::add(stream_report::new(), &mut table, s) {
+        ReportAnswer::Added(t) => add(sums::totals(t), rows(&table)),
+        ReportAnswer::Refused(_) => 0,
+    }
+}
+
+fn rows(table: &[u64; 192]) -> u64 {
+    let mut i: usize = 0;
+    let mut sum: u64 = 0;
+    while i < 192 {
+        sum = add(sum, table[i]);
+        i += 1;
+    }
+    sum
+}
+
 // Looks up each index of the stream.
 fn find_once(s: &[u8], t: &[u32; PLACES], f: ItemFinder) -> u64 {
     let mut n = f.minimum_index;
@@ -357,6 +379,21 @@ fn repeat_load(times: u64, stream: &mut [u8], file: &[u8], t: &mut [u32; PLACES]
     sum
 }
 
+// The same for `report`, apart from the others: beside them in `once` it cost a walk two instructions a record, and a header 16.
+fn repeat_report(times: u64, stream: &mut [u8]) -> u64 {
+    if stream.len() == 0 {
+        return 0;
+    }
+    let mut sum: u64 = 0;
+    let mut i: u64 = 0;
+    while i < times {
+        stream[0] = (i % 256) as u8;
+        sum = add(sum, report_once(stream));
+        i += 1;
+    }
+    sum
+}
+
 // The same for `primitives`, which needs no stream.
 fn repeat_primitives(times: u64) -> u64 {
     let mut sum: u64 = 0;
@@ -397,6 +434,9 @@ fn run(op: u8, times: u64, at: usize, stream: &mut [u8], t: &mut [u32; PLACES]) 
     }
     if op == PRIMITIVES {
         return repeat_primitives(times);
+    }
+    if op == REPORT {
+        return repeat_report(times, stream);
     }
     repeat(op, times, at, stream, t)
 }
@@ -446,6 +486,9 @@ fn operation(word: &[u8; 16], n: usize) -> u8 {
     }
     if spells(word, n, b"primitives") {
         return PRIMITIVES;
+    }
+    if spells(word, n, b"report") {
+        return REPORT;
     }
     NONE
 }
@@ -515,7 +558,7 @@ fn main() {
     if op == NONE {
         io::write_all(
             STDERR_FILENO,
-            b"measure: the operation is header, walk, index, load, find, parse, elements, parseids or primitives\n",
+            b"measure: the operation is header, walk, index, load, find, parse, elements, parseids, primitives or report\n",
         );
         return;
     }

@@ -30,6 +30,7 @@ use record_member::VirtualBaseClassType;
 use stream_header::Header;
 use stream_header::Slice;
 use stream_item::Item;
+use stream_report::Totals;
 use word_attributes::FieldAttributes;
 use word_primitive::Indirection;
 use word_primitive::PrimitiveKind;
@@ -353,6 +354,13 @@ pub fn element(e: Element) -> u64 {
         Element::Method(m) => entry(m),
         Element::Member(m) => member(m),
     }
+}
+
+pub fn totals(t: Totals) -> u64 {
+    let l = t.largest;
+    let a = add(add(t.taken, t.refused), add(t.headers, t.records));
+    let b = add(add(t.bytes, l.length), add(l.stream, wide(l.index)));
+    add(a, add(b, t.rows))
 }
 
 pub fn primitive(p: PrimitiveType) -> u64 {
