@@ -8,6 +8,7 @@ use mathlib.Core.List.{List, [], _∷_, _++_}
 use mathlib.Core.Option.{Option, none, some}
 use lib.ListN.{length}
 use lib.Dec.{leb, eqb}
+use borrow.Author.Tests.{eqb-true}
 use Rattle.answer.specs.Answer.{Answer, answered, refused, Read, got, ended, pick, both, stop, then, and-then}
 use Rattle.answer.specs.Tables.{_is_, find}
 use Rattle.field.specs.Fields.{littleAt, fixedAt}
@@ -19,7 +20,7 @@ use Rattle.record_member.specs.Said.{leafIn}
 use Rattle.record_list.specs.declared.ListCursor.{ListCursor}
 use Rattle.record_list.specs.Lists.{ElementValues, typeElement, idElement, methodElement, memberElement, Step, stepTo, inCounted, toTheEnd, afterMember, countedStep, methodStep, leftAfter, memberStep, nextMember, startTypes, stepOf}
 use Rattle.record_reference.specs.References.{Ref, refsField, refsFields, byRefs, refsLeaf, refsRecord, orNone, refsAt, refsList, refsOf}
-use Rattle.record_reference.specs.Values.{widthOf, refers, onBy, refsIn, noneRefers, orBare, fixedFirst, allFixed, behind, inLayout, refsBy, elementRefs}
+use Rattle.record_reference.specs.Values.{widthOf, refers, onBy, refsIn, noneRefers, orBare, fixedFirst, allFixed, behind, inLayout, refsBy, elementRefs, orBehind, fieldsAt}
 
 true-false : {X : Type 0} → true ≡ false → X
 true-false e = let z : _≡_ {A = ℕ} 0 1 = cc in absurd (omega arith)
@@ -202,11 +203,6 @@ payload-tell s = rw (record-tell typeLeaves types-fixed s 0) (go (leb (0 + 2) (l
 pub no-answer : {X A : Type 0} {n : ℕ} {d : List ℕ} {a : A} → _≡_ {A = Answer A} (refused n d) (answered a) → X
 no-answer {X} {A} {n} {d} {a} h = let z : _≡_ {A = ℕ} 0 1 = cc in absurd (omega arith)
 
--- where the fields of the element at the cursor stand, and that its references are those of its values
-pub record Stands (s : List ℕ) (c : ListCursor) (x : Step) : Type 0 where
-  pub place : ℕ
-  pub are : refsAt s c ≡ elementRefs (x .element) place
-
 element-tell : (b : Bool) (a : Read (List Shown)) (el : List Shown → ElementValues) (nx : List Shown → ℕ → ListCursor) (x : Step) (p : ℕ) (r : Read (List Ref))
     → r ≡ and-then a (λ vs e. got (elementRefs (el vs) p) e) → stop b 15 (and-then a (λ vs e. stepTo (el vs) (nx vs e))) ≡ answered x → orNone r ≡ elementRefs (x .element) p
 element-tell true a el nx x p r e h = no-answer h
@@ -216,8 +212,9 @@ element-tell false (answered g) el nx x p r e h = ap orNone e ∙ ap (λ (y : St
     taken i = cc
 element-tell false (refused n d) el nx x p r e h = no-answer h
 
-pub step-tell : (s : List ℕ) (c : ListCursor) (x : Step) → stepOf s c ≡ answered x → Stands s c x
-unfolding stepOf countedStep methodStep nextMember memberStep refsAt elementRefs
+-- the references of an element that is read are those of its values
+pub step-tell : (s : List ℕ) (c : ListCursor) (x : Step) → stepOf s c ≡ answered x → refsAt s c ≡ elementRefs (x .element) (fieldsAt s c)
+unfolding stepOf countedStep methodStep nextMember memberStep readRecord fixedAt refsAt elementRefs fieldsAt
 step-tell s c x = go (eqb (c .leaf) 0x1201) (eqb (c .leaf) 0x1206) (eqb (c .leaf) 0x1203) (eqb (c .leaf) 0x1603) (eqb (c .leaf) 0x1604) refl refl refl refl refl
   where
     types : (leaf : ℕ) → countedStep T typeElement leaf s (c .at) (c .left) ≡ answered x → orNone (refsFields (T ∷ []) 0 s (c .at)) ≡ elementRefs (x .element) (c .at)
@@ -226,29 +223,37 @@ step-tell s c x = go (eqb (c .leaf) 0x1201) (eqb (c .leaf) 0x1206) (eqb (c .leaf
     member : (q : ℕ) → memberStep s q ≡ answered x → orNone (refsRecord memberLeaves s q) ≡ elementRefs (x .element) (q + 2)
     member q = element-tell (leb (length s) q) (readRecord memberLeaves s q) memberElement (λ vs e. afterMember e (leftAfter vs)) x (q + 2) _ (record-tell memberLeaves members-fixed s q)
 
+    -- the leaf of a member that is read is there
+    leaf-there : (q : ℕ) (a b : Bool) → stop a 15 (and-then (and-then (pick b (got (littleAt 2 s q) (q + 2)) ended) (λ leaf e. readLeaf memberLeaves leaf s e))
+        (λ vs e. stepTo (memberElement vs) (afterMember e (leftAfter vs)))) ≡ answered x → q + 2 ≡ pick b (q + 2) 0
+    leaf-there q true b h = no-answer h
+    leaf-there q false true h = refl
+    leaf-there q false false h = no-answer h
+
     next : (b : Bool) (a : Answer ℕ) → stop b 15 (then a (λ q. memberStep s q)) ≡ answered x
-        → refsAt s c ≡ orNone (then a (λ q. refsRecord memberLeaves s q)) → Stands s c x
-    next true a h e = no-answer h
-    next false (answered q) h e = record { place = q + 2; are = e ∙ member q h }
-    next false (refused n d) h e = no-answer h
+        → orNone (then a (λ q. refsRecord memberLeaves s q)) ≡ elementRefs (x .element) (orBehind (length s) a)
+    next true a h = no-answer h
+    next false (answered q) h = member q h ∙ ap (elementRefs (x .element)) (leaf-there q (leb (length s) q) (leb (q + 2) (length s)) h)
+    next false (refused n d) h = no-answer h
+
+    -- no leaf of another list is a member list's
+    other : (n : ℕ) → eqb (c .leaf) n ≡ true → eqb n 0x1203 ≡ false → eqb (c .leaf) 0x1203 ≡ false
+    other n h k = rw (eqb-true (c .leaf) n h) k
 
     go : (a b d e g : Bool) → eqb (c .leaf) 0x1201 ≡ a → eqb (c .leaf) 0x1206 ≡ b → eqb (c .leaf) 0x1203 ≡ d → eqb (c .leaf) 0x1603 ≡ e → eqb (c .leaf) 0x1604 ≡ g
         → pick a (countedStep T typeElement 0x1201 s (c .at) (c .left)) (pick b (methodStep s (c .at)) (pick d (nextMember s (c .at) (c .left) (c .padded))
         (pick e (countedStep id idElement 0x1603 s (c .at) (c .left)) (pick g (countedStep T typeElement 0x1604 s (c .at) (c .left)) (refused 10 (c .leaf ∷ [])))))) ≡ answered x
-        → Stands s c x
-    go true b d e g i j k l m h = record { place = c .at; are = rw i (types 0x1201 h) }
+        → refsAt s c ≡ elementRefs (x .element) (fieldsAt s c)
+    go true b d e g i j k l m h = rw (i, other 0x1201 i refl) (types 0x1201 h)
     go false true d e g i j k l m h =
-        record {
-          place = c .at;
-          are = rw (i, j)
-              (element-tell (leb (length s) (c .at)) (readFields method 0 s (c .at)) methodElement (λ vs e. toTheEnd 0x1206 e) x (c .at) _ (fields-tell method 0 s (c .at) refl) h);
-        }
-    go false false true e g i j k l m h = next (eqb (c .left) 0) (pick (c .padded) (paddingAfter s (c .at)) (answered (c .at))) h (rw (i, j, k))
-    go false false false true g i j k l m h = record { place = c .at; are = rw (i, j, k, l) (ids (eqb (c .left) 0) (readFields (id ∷ []) 0 s (c .at)) h) }
+        rw (i, j, other 0x1206 j refl)
+        (element-tell (leb (length s) (c .at)) (readFields method 0 s (c .at)) methodElement (λ vs e. toTheEnd 0x1206 e) x (c .at) _ (fields-tell method 0 s (c .at) refl) h)
+    go false false true e g i j k l m h = rw (i, j, k) (next (eqb (c .left) 0) (pick (c .padded) (paddingAfter s (c .at)) (answered (c .at))) h)
+    go false false false true g i j k l m h = rw (i, j, k, l) (ids (eqb (c .left) 0) (readFields (id ∷ []) 0 s (c .at)) h)
       where
         ids : (b : Bool) (a : Read (List Shown)) → stop b 15 (and-then a (λ vs e. stepTo (idElement vs) (inCounted 0x1603 e (c .left - 1)))) ≡ answered x → [] ≡ elementRefs (x .element) (c .at)
         ids true a h = no-answer h
         ids false (answered v) h = let z : record { element = idElement (v .value); next = inCounted 0x1603 (v .next) (c .left - 1) } ≡ x = cc in ap (λ (y : Step). elementRefs (y .element) (c .at)) z
         ids false (refused n d) h = no-answer h
-    go false false false false true i j k l m h = record { place = c .at; are = rw (i, j, k, l) (types 0x1604 h) }
+    go false false false false true i j k l m h = rw (i, j, k, l) (types 0x1604 h)
     go false false false false false i j k l m h = no-answer h

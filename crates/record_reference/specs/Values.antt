@@ -4,11 +4,15 @@ use Prim.Native.Nat.{ℕ, zero, suc, _+_}
 use mathlib.Core.Bool.{Bool, true, false}
 use mathlib.Core.List.{List, [], _∷_, _++_}
 use mathlib.Core.Option.{Option, none, some}
-use Rattle.answer.specs.Answer.{pick, both}
+use lib.ListN.{length}
+use lib.Dec.{leb, eqb}
+use Rattle.answer.specs.Answer.{Answer, answered, refused, pick, both}
 use Rattle.answer.specs.Tables.{_is_, find}
+use Rattle.field_text.specs.Texts.{paddingAfter}
 use Rattle.record_layout.specs.Fields.{Shown, Field, fixed, type, id, stringReference, optionalType, optionalId, word, gap, numeric, size, string, run, methods, members, when}
 use Rattle.record_layout.specs.Layouts.{Layout, Table, T, memberLeaves, method}
 use Rattle.record_member.specs.Said.{leafIn}
+use Rattle.record_list.specs.declared.ListCursor.{ListCursor}
 use Rattle.record_list.specs.Lists.{ElementValues, typeElement, idElement, methodElement, memberElement}
 use Rattle.record_reference.specs.References.{Ref, refsField}
 
@@ -117,3 +121,14 @@ elementRefs (typeElement vs) p = refsIn (T ∷ []) vs p
 elementRefs (idElement vs) p = []
 elementRefs (methodElement vs) p = refsIn method vs p
 elementRefs (memberElement vs) p = refsBy memberLeaves vs p
+
+-- where the fields of the element at a cursor stand: at the cursor; a member's behind its leaf, which stands behind the padding
+abbrev pub behindLeaf : ℕ → ℕ → ℕ
+behindLeaf n q = pick (leb (q + 2) n) (q + 2) 0
+
+abbrev pub orBehind : ℕ → Answer ℕ → ℕ
+orBehind n (answered q) = behindLeaf n q
+orBehind n (refused m d) = 0
+
+unfoldable pub fieldsAt : List ℕ → ListCursor → ℕ
+fieldsAt s c = pick (eqb (c .leaf) 0x1203) (orBehind (length s) (pick (c .padded) (paddingAfter s (c .at)) (answered (c .at)))) (c .at)

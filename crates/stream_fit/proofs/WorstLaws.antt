@@ -13,7 +13,7 @@ use Rattle.record_layout.specs.Layouts.{typeLeaves, recordOf}
 use Rattle.record_list.specs.declared.ListCursor.{ListCursor}
 use Rattle.record_list.specs.Lists.{Step, startTypes, stepOf}
 use Rattle.record_reference.specs.References.{Ref, refsAt, refsFrom, refsList, refsOf}
-use Rattle.record_reference.specs.Values.{refsBy, elementRefs}
+use Rattle.record_reference.specs.Values.{refsBy, elementRefs, fieldsAt}
 use Rattle.record_reference.proofs.ValueLaws.{payload-tell, step-tell}
 use Rattle.stream_fit.specs.Fit.{disorderly, badPrimitive, inGap, someRef, ruleIn, ruleOf}
 use Rattle.stream_fit.specs.Worst.{leastRule, faultOf, lesser, worst, worstIn, worstFrom, worstOf, asRule}
@@ -105,8 +105,7 @@ module _ (minimum index : ℕ) where
       where
         go : (a : Answer (List Ref)) → worstIn minimum index w (then a (λ rs. answered (refsAt s c ++ rs))) ≡ worstIn minimum index v a
         go (answered rs) =
-            let t = step-tell s c x e in
-            worst-both w (refsAt s c) rs ∙ ap (λ l. worst minimum index (worst minimum index w l) rs) (t .are) ∙ ap (λ u. worst minimum index u rs) (sym (f (t .place)))
+            worst-both w (refsAt s c) rs ∙ ap (λ l. worst minimum index (worst minimum index w l) rs) (step-tell s c x e) ∙ ap (λ u. worst minimum index u rs) (sym (f (fieldsAt s c)))
         go (refused m d) = refl
 
     pub from-end : (w n m : ℕ) (d : List ℕ) (c : ListCursor) → 0 < n → stepOf s c ≡ refused m d → m ≡ 15 → worstFrom minimum index w n s c ≡ w
