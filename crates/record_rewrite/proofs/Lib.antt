@@ -1,0 +1,12 @@
+pub mod Taken
+pub mod Settled
+pub mod Places
+pub mod Carried
+pub mod Owned
+pub mod Not15
+pub mod Steps
+pub mod Lists
+pub mod Records
+pub mod Rewritten
+pub mod InPlace
+pub mod Examples
