@@ -1,0 +1,9 @@
+pub mod Numbers
+pub mod MarkLaws
+pub mod LinkLaws
+pub mod Walks
+pub mod PrunedLaws
+pub mod HeadLaws
+pub mod NewStream
+pub mod DroppedLaws
+pub mod Examples

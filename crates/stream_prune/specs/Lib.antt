@@ -1,0 +1,3 @@
+pub mod Links
+pub mod Pruned
+pub mod Dropped
