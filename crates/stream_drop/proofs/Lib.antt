@@ -1,0 +1,14 @@
+pub mod EachLaws
+pub mod DoneLaws
+pub mod PassLaws
+pub mod StepLaws
+pub mod TableLaws
+pub mod DownLaws
+pub mod UpLaws
+pub mod WriteLaws
+pub mod DropLaws
+pub mod ThroughLaws
+pub mod OneOutcome
+pub mod OutcomeLaws
+pub mod SentenceLaws
+pub mod Examples

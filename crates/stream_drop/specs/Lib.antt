@@ -1,0 +1,4 @@
+pub mod Each
+pub mod Passes
+pub mod Drop
+pub mod Sentences
