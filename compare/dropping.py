@@ -7,6 +7,9 @@
     dropping.py --port STREAM.. -- PROGRAM.. has the program, `tools/program replay_whole`, answer the vectors, and the streams that fit a line (none may
                                              be named) with those roots and short rooms, and holds it to what is worked out here, line by line
 
+    dropping.py --files STREAM.. -- PROGRAM.. the same of the C program c/fit.c, on streams of any size: each with 1, 10 and 300 roots and with all, what it
+                                             writes dropped from again with the renumbered roots
+
 Whether a stream is fit is asked of fitting.py. Where a record's references stand is written here a second time, by their places; that it has the same
 indices as fitting.py finds by the layouts is looked at for every record.
 """
@@ -16,6 +19,7 @@ import random
 import struct
 import subprocess
 import sys
+import tempfile
 
 sys.path.insert(0, os.path.dirname(os.path.abspath(__file__)))
 import fitting
@@ -453,6 +457,48 @@ def port(names, program):
     return int(theirs != ours)
 
 
+def from_file(program, name, roots):
+    """What the C program writes, and prints of each root; or what it says where it refuses."""
+    with tempfile.TemporaryDirectory() as folder:
+        into = os.path.join(folder, "new")
+        run = subprocess.run([*program, name, into, *map(str, roots)], capture_output=True, text=True, check=False)
+        if run.returncode:
+            return run.stderr, None
+        with open(into, "rb") as f:
+            return [tuple(map(int, row.split())) for row in run.stdout.splitlines()], f.read()
+
+
+def file_wanted(name, s, roots):
+    """The same by what is worked out here."""
+    low, high, _ = places.header(s)
+    refused, out, table = drop(s, roots, [0] * (high - low), len(s))
+    if refused:
+        details = [*refused[1:], 0, 0][:2]
+        return f"{name}: refused by {refused[0]}, details {details[0]} {details[1]}\n", None
+    return [(root, table[root - low] if root >= low else root) for root in roots], out
+
+
+def files(names, program):
+    """Droppings of whole files that differ between the C program and this one."""
+    tried = wrong = 0
+    for name in names:
+        with open(name, "rb") as f:
+            s = f.read()
+        low, high, _ = places.header(s)
+        for n in (1, 10, 300, min(high - low, 20000)):
+            roots = spread(low, high, n)
+            theirs, ours = from_file(program, name, roots), file_wanted(name, s, roots)
+            tried, wrong = tried + 1, wrong + (theirs != ours)
+            if theirs == ours and ours[1]:
+                with tempfile.NamedTemporaryFile() as new:
+                    new.write(ours[1])
+                    new.flush()
+                    again = [b for _, b in ours[0]]
+                    tried, wrong = tried + 1, wrong + (from_file(program, new.name, again) != ([(b, b) for b in again], ours[1]))
+    print(f"{tried} droppings of {len(names)} files, {wrong} differ")
+    return int(wrong > 0)
+
+
 def main():
     words = sys.argv[1:]
     if words[:1] == ["--vectors"] and len(words) == 3:
@@ -467,6 +513,9 @@ def main():
     if words[:1] == ["--port"] and "--" in words[:-1]:
         at = words.index("--")
         return port(words[1:at], words[at + 1:])
+    if words[:1] == ["--files"] and "--" in words[:-1]:
+        at = words.index("--")
+        return files(words[1:at], words[at + 1:])
     print(__doc__)
     return 2
 

@@ -3,7 +3,7 @@
 
     fitting.py STREAM..                      prints `0 yes`, `0 no RECORD RULE` or the refusal's number for each
     fitting.py --vectors STDIN STDOUT        writes commands for the program replay_whole to the one file and their answers to the other,
-                                             those of places.py (R-3 and R-10) and reporting.py (R-12) with them
+                                             those of dropping.py (R-13), reporting.py (R-12) and places.py (R-3 and R-10) with them
     fitting.py --damage STREAM PROGRAM..     sets each byte of STREAM to 0x00, to 0xff and to its complement, one at a time, and holds the program,
                                              `tools/program replay_whole`, to what is worked out here
 
@@ -206,8 +206,10 @@ def line(s):
 def main():
     words = sys.argv[1:]
     if words[:1] == ["--vectors"] and len(words) == 3:
+        import dropping  # which asks this module whether a stream is fit
+
         both = [(line(s), verdict(s) + "\n") for s in tries()]
-        for part in (reporting, places):
+        for part in (dropping, reporting, places):
             both += [(command + "\n", part.answer(command) + "\n") for command in part.vectors()]
         both += [(command + "\n", "? bytes\n") for command in reporting.BAD] + list(BAD)
         for name, said in zip(words[1:], zip(*both)):

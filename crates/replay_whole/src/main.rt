@@ -1,5 +1,6 @@
-// Answers the commands of compare/PROTOCOL.md that take whole streams, document 02's R-9, R-10 and R-12: reads them from
+// Answers the commands of compare/PROTOCOL.md that take whole streams, document 02's R-9, R-10, R-12 and R-13: reads them from
 // standard input, one to a line, and prints the port's answers. Apart from `replay`, so that neither is proved again for the other.
+mod drop_lines;
 mod input;
 mod place_lines;
 mod report_lines;
@@ -140,6 +141,9 @@ fn command(buffer: &mut [u8; 65536], from: Input, bytes: &mut [u8; 65536]) -> In
     }
     if named(&letters, w.len, b"reportfrom") {
         return report_lines::report_from(buffer, w.input, bytes);
+    }
+    if named(&letters, w.len, b"drop") {
+        return drop_lines::drop(buffer, w.input, bytes);
     }
     if !named(&letters, w.len, b"fit") {
         return unknown(buffer, w.input, &letters, w.len);

@@ -24,7 +24,7 @@ pub fn file() -> [u8; 263000]
     [0u8; 263000]
 }
 
-fn table() -> [u32; 66000]
+pub fn table() -> [u32; 66000]
     ensures { λ r. ⌜ 66000 ≡ length r ⌝ }
 {
     [0u32; 66000]
@@ -38,7 +38,7 @@ fn wide32(n: u32) -> u64 {
     n as u64
 }
 
-fn put_hex(s: &[u8]) {
+pub fn put_hex(s: &[u8]) {
     let mut i: usize = 0;
     while i < s.len() {
         io::print_hex(STDOUT_FILENO, wide8(s[i]), 2);
@@ -95,7 +95,7 @@ pub fn first_bytes(s: &[u8], n: usize) -> &[u8] {
     &s[0..0]
 }
 
-fn first_places(t: &[u32], n: usize) -> &[u32] {
+pub fn first_places(t: &[u32], n: usize) -> &[u32] {
     if n <= t.len() {
         return &t[0..n];
     }
@@ -156,7 +156,7 @@ fn put_finder(a: FinderAnswer) {
 }
 
 // The lent table after the call.
-fn put_table(t: &[u32]) {
+pub fn put_table(t: &[u32]) {
     put(b" ;");
     if t.len() == 0 {
         put(b" -");
