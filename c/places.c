@@ -13,60 +13,19 @@ static int usage(void)
     return 2;
 }
 
-/* A decimal number of at most `most`. 0, or -1 where it is none. */
-static int number_of(const char *word, uint64_t most, uint32_t *n)
+/* Walks the stream with an update at each record. 0, or the exit status; `places` is how many the table holds. */
+static int fill(const char *path, const struct stream *s, uint32_t shift, uint32_t *table, size_t room, size_t *places)
 {
-    char *end;
-    unsigned long long value;
-    if (*word < '0' || *word > '9')
-        return -1;
-    value = strtoull(word, &end, 10);
-    if (*end != '\0' || value > most)
-        return -1;
-    *n = (uint32_t)value;
-    return 0;
-}
-
-/* Opens a stream and reads its header. 0, or the exit status. */
-static int open_stream(const char *path, struct stream *s)
-{
-    uint64_t header[PDB_HEADER_OUT];
-    uint32_t number;
-    if (map(path, s) != 0) {
-        perror(path);
-        return 2;
-    }
-    number = pdb_header(s->bytes, s->length, header);
-    if (number != 0)
-        return refused(stderr, path, number, header);
-    s->minimum = (uint32_t)header[PDB_HEADER_MINIMUM];
-    s->maximum = (uint32_t)header[PDB_HEADER_MAXIMUM];
-    s->start = (size_t)header[PDB_HEADER_SIZE];
-    return 0;
-}
-
-static int keep(const char *path, const char *into, uint32_t shift)
-{
-    struct stream s = {0};
-    uint64_t out[PDB_NEXT_OUT], held[PDB_UPDATE_OUT] = {0}, saved[PDB_SAVE_OUT];
-    uint32_t number = 0, index, *table;
-    size_t at, places = 0, room, longest;
-    uint8_t *buffer;
-    FILE *file;
-    int status = open_stream(path, &s);
-    if (status != 0)
-        return status;
-    /* A record takes four bytes at least; one place more for the start of a block behind the last record. */
-    room = (s.length / 4 >> shift) + 2;
-    table = array(room, sizeof *table);
-    at = s.start;
-    index = s.minimum;
-    while (s.minimum < s.maximum) {
-        number = pdb_update(table, room, s.minimum, s.maximum, places, shift, at, index, held);
+    uint64_t out[PDB_NEXT_OUT], held[PDB_UPDATE_OUT] = {0};
+    size_t at = s->start;
+    uint32_t number, index = s->minimum;
+    *places = 0;
+    while (s->minimum < s->maximum) {
+        number = pdb_update(table, room, s->minimum, s->maximum, *places, shift, at, index, held);
         if (number != 0)
             return refused(stderr, path, number, held);
-        places = (size_t)held[PDB_UPDATE_HELD];
-        number = pdb_next(s.bytes, s.length, at, index, out);
+        *places = (size_t)held[PDB_UPDATE_HELD];
+        number = pdb_next(s->bytes, s->length, at, index, out);
         if (number != 0)
             return refused(stderr, path, number, out);
         if (out[PDB_NEXT_IS_ITEM] == 0)
@@ -74,26 +33,79 @@ static int keep(const char *path, const char *into, uint32_t shift)
         at = (size_t)out[PDB_NEXT_AT];
         index = (uint32_t)out[PDB_NEXT_NEXT_INDEX];
     }
-    longest = 4 * places + 30;
-    buffer = array(longest, 1);
-    number = pdb_save(s.bytes, s.length, table, room, s.minimum, s.maximum, places, shift, buffer, longest, saved);
-    if (number != 0)
-        return refused(stderr, path, number, saved);
-    file = fopen(into, "wb");
-    if (file == NULL || fwrite(buffer, 1, (size_t)saved[PDB_SAVE_BYTES], file) != saved[PDB_SAVE_BYTES] || fclose(file) != 0) {
-        perror(into);
-        return 2;
+    return 0;
+}
+
+/* Writes the places of the table into a file. 0, or the exit status. */
+static int save(const char *path, const struct stream *s, uint32_t shift, const uint32_t *table, size_t room, size_t places, const char *into)
+{
+    uint64_t saved[PDB_SAVE_OUT];
+    size_t longest = 4 * places + 30;
+    uint8_t *buffer = array(longest, 1);
+    uint32_t number = pdb_save(s->bytes, s->length, table, room, s->minimum, s->maximum, places, shift, buffer, longest, saved);
+    int status = 0;
+    if (number != 0) {
+        status = refused(stderr, path, number, saved);
+    } else {
+        FILE *file = fopen(into, "wb");
+        size_t bytes = (size_t)saved[PDB_SAVE_BYTES];
+        int whole = file != NULL && fwrite(buffer, 1, bytes, file) == bytes;
+        if (file != NULL && fclose(file) != 0)
+            whole = 0;
+        if (!whole) {
+            perror(into);
+            status = 2;
+        }
     }
     free(buffer);
+    return status;
+}
+
+static int keep(const char *path, const char *into, uint32_t shift)
+{
+    struct stream s = {0};
+    uint32_t *table;
+    size_t room, places;
+    int status = open_stream(path, &s);
+    if (status != 0)
+        return status;
+    /* A record takes four bytes at least; one place more for the start of a block behind the last record. */
+    room = (s.length / 4 >> shift) + 2;
+    table = array(room, sizeof *table);
+    status = fill(path, &s, shift, table, room, &places);
+    if (status == 0)
+        status = save(path, &s, shift, table, room, places, into);
     free(table);
+    return status;
+}
+
+/* Prints the record of an index, or says why there is none. 0, or the exit status. */
+static int print(const struct stream *s, const uint32_t *table, size_t room, const uint64_t *loaded, const char *word)
+{
+    uint64_t out[PDB_FIND_OUT];
+    uint32_t number, index;
+    if (number_of(word, 4294967295u, &index) != 0) {
+        fprintf(stderr, "places: %s: an index is a decimal number up to 4294967295\n", word);
+        return 2;
+    }
+    number = pdb_find(s->bytes, s->length, table, room, (uint32_t)loaded[PDB_LOAD_MINIMUM], (uint32_t)loaded[PDB_LOAD_MAXIMUM],
+                      (size_t)loaded[PDB_LOAD_HELD], (uint32_t)loaded[PDB_LOAD_SHIFT], index, out);
+    if (number != 0)
+        return refused(stderr, word, number, out);
+    if (out[PDB_FIND_IS_RECORD] == 0)
+        printf("%" PRIu32 " ffff 2\n", index); /* the marker, below the stream's minimum */
+    else if (out[PDB_FIND_LENGTH] < 2)
+        printf("%" PRIu32 " ---- %" PRIu64 "\n", index, out[PDB_FIND_LENGTH]);
+    else
+        printf("%" PRIu32 " %02x%02x %" PRIu64 "\n", index, s->bytes[out[PDB_FIND_PLACE] + 1], s->bytes[out[PDB_FIND_PLACE]], out[PDB_FIND_LENGTH]);
     return 0;
 }
 
 static int lookup(const char *path, const char *from, char **words, int count)
 {
     struct stream s = {0}, kept = {0};
-    uint64_t loaded[PDB_LOAD_OUT], out[PDB_FIND_OUT];
-    uint32_t number, index, *table;
+    uint64_t loaded[PDB_LOAD_OUT];
+    uint32_t number, *table;
     size_t room;
     int status = open_stream(path, &s);
     if (status != 0)
@@ -106,24 +118,11 @@ static int lookup(const char *path, const char *from, char **words, int count)
     table = array(room, sizeof *table);
     number = pdb_load(s.bytes, s.length, kept.bytes, kept.length, table, room, loaded);
     if (number != 0)
-        return refused(stderr, from, number, loaded);
-    for (int i = 0; i < count; i++) {
-        if (number_of(words[i], 4294967295u, &index) != 0) {
-            fprintf(stderr, "places: %s: an index is a decimal number up to 4294967295\n", words[i]);
-            return 2;
-        }
-        number = pdb_find(s.bytes, s.length, table, room, (uint32_t)loaded[PDB_LOAD_MINIMUM], (uint32_t)loaded[PDB_LOAD_MAXIMUM],
-                          (size_t)loaded[PDB_LOAD_HELD], (uint32_t)loaded[PDB_LOAD_SHIFT], index, out);
-        if (number != 0) {
-            status = refused(stderr, words[i], number, out);
-            continue;
-        }
-        if (out[PDB_FIND_IS_RECORD] == 0)
-            printf("%" PRIu32 " ffff 2\n", index); /* the marker, below the stream's minimum */
-        else if (out[PDB_FIND_LENGTH] < 2)
-            printf("%" PRIu32 " ---- %" PRIu64 "\n", index, out[PDB_FIND_LENGTH]);
-        else
-            printf("%" PRIu32 " %02x%02x %" PRIu64 "\n", index, s.bytes[out[PDB_FIND_PLACE] + 1], s.bytes[out[PDB_FIND_PLACE]], out[PDB_FIND_LENGTH]);
+        status = refused(stderr, from, number, loaded);
+    for (int i = 0; number == 0 && status != 2 && i < count; i++) {
+        int one = print(&s, table, room, loaded, words[i]);
+        if (one != 0)
+            status = one;
     }
     free(table);
     return status;

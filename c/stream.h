@@ -1,5 +1,5 @@
-/* What the C programs of this folder share: a raw type or id stream of any size, mapped, or read where it cannot be mapped, such as a pipe; memory; and a
- * refusal's line. */
+/* What the C programs of this folder share: a raw type or id stream of any size, mapped, or read where it cannot be mapped, such as a pipe; memory; a
+ * refusal's line; a number of the command line. */
 #ifndef STREAM_H
 #define STREAM_H
 
@@ -79,6 +79,38 @@ static int refused(FILE *to, const char *what, uint32_t number, const uint64_t *
 {
     fprintf(to, "%s: refused by %" PRIu32 ", details %" PRIu64 " %" PRIu64 "\n", what, number, out[PDB_DETAIL_0], out[PDB_DETAIL_1]);
     return 1;
+}
+
+/* A decimal number of at most `most`. 0, or -1 where it is none. */
+static inline int number_of(const char *word, uint64_t most, uint32_t *n)
+{
+    char *end;
+    unsigned long long value;
+    if (*word < '0' || *word > '9')
+        return -1;
+    value = strtoull(word, &end, 10);
+    if (*end != '\0' || value > most)
+        return -1;
+    *n = (uint32_t)value;
+    return 0;
+}
+
+/* Opens a stream and reads its header. 0, or the exit status. */
+static inline int open_stream(const char *path, struct stream *s)
+{
+    uint64_t header[PDB_HEADER_OUT];
+    uint32_t number;
+    if (map(path, s) != 0) {
+        perror(path);
+        return 2;
+    }
+    number = pdb_header(s->bytes, s->length, header);
+    if (number != 0)
+        return refused(stderr, path, number, header);
+    s->minimum = (uint32_t)header[PDB_HEADER_MINIMUM];
+    s->maximum = (uint32_t)header[PDB_HEADER_MAXIMUM];
+    s->start = (size_t)header[PDB_HEADER_SIZE];
+    return 0;
 }
 
 #endif
