@@ -78,6 +78,23 @@ enum { PDB_LOAD_MINIMUM = 2, PDB_LOAD_MAXIMUM, PDB_LOAD_HELD, PDB_LOAD_SHIFT, PD
 uint32_t pdb_load(const uint8_t *s, size_t s_len, const uint8_t *file, size_t file_len, uint32_t *table, size_t table_len,
                   uint64_t out[PDB_LOAD_OUT]);
 
+/* Is a type stream fit to bind? Both answers have the result 0. Yes: every record and every element of a list decodes, every type that a record names is an
+ * earlier record or a known primitive, and there are as many records as the header says. No: the lowest record at fault and the first of the rules that
+ * it breaks: 1 the count (of record 0), 2 it does not decode, 3 it names itself or a later record, 4 a primitive that is none, 5 an index from 4096 to below
+ * the minimum. */
+enum { PDB_FIT_YES = 2, PDB_FIT_RECORD, PDB_FIT_RULE, PDB_FIT_OUT };
+uint32_t pdb_fit(const uint8_t *s, size_t s_len, uint64_t out[PDB_FIT_OUT]);
+
+/* The stream of the records that some roots reach through type references, renumbered from the minimum without holes, in the first bytes of `buffer`; it is
+ * never longer than the stream it is made of. The table has room for an entry for each record: entry i is the new index of record minimum + i, 0 where it is
+ * dropped. Refused are a stream that is not fit (29), a root at or above the maximum (8), a table with fewer entries than the stream counts records (13),
+ * an optional type index that would become 0xffff, which reads as none (30), and a buffer that is too small (19). At a refusal the buffer is as it was,
+ * and the table too, but that after 30 and 19 it holds old to new. Of the header only the maximum changes: its hash fields and gprec_size describe the
+ * old stream. */
+enum { PDB_DROP_BYTES = 2, PDB_DROP_OUT };
+uint32_t pdb_drop(const uint8_t *s, size_t s_len, const uint32_t *roots, size_t roots_len, uint32_t *table, size_t table_len, uint8_t *buffer,
+                  size_t buffer_len, uint64_t out[PDB_DROP_OUT]);
+
 #ifdef __cplusplus
 }
 #endif

@@ -13,3 +13,12 @@ one-out-table x r q t u m k a b = (
   ap (λ (y : ℕ × List ℕ × List ℕ). y .2) (a ∙ sym b),
   ap (λ (y : ℕ × List ℕ × List ℕ). y .1) (a ∙ sym b),
 )
+
+-- where a table and a buffer are lent too: t and u, b and d after the call
+pub one-out-both : (x : ℕ × List ℕ × List ℕ × List ℕ) (r q : ℕ) (t u b d m k : List ℕ) → (r, m, t, b) ≡ x → (q, k, u, d) ≡ x → (r ≡ q) × (t ≡ u) × (b ≡ d) × (m ≡ k)
+one-out-both x r q t u b d m k a e = (
+  ap (λ (y : ℕ × List ℕ × List ℕ × List ℕ). y .0) (a ∙ sym e),
+  ap (λ (y : ℕ × List ℕ × List ℕ × List ℕ). y .2) (a ∙ sym e),
+  ap (λ (y : ℕ × List ℕ × List ℕ × List ℕ). y .3) (a ∙ sym e),
+  ap (λ (y : ℕ × List ℕ × List ℕ × List ℕ). y .1) (a ∙ sym e),
+)

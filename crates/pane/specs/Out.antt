@@ -16,6 +16,9 @@ use Rattle.stream_item.specs.declared.iter.ItemIter.{ItemIter}
 use Rattle.stream_finder.specs.Finder.{State, state, Found, finderOf, tableAfter}
 use Rattle.stream_finder.specs.declared.ItemFinder.{ItemFinder}
 use Rattle.stream_places.specs.Places.{sizeIn, bufferAfter}
+use Rattle.stream_fit.specs.Fit.{Verdict, fit, unfit}
+use Rattle.stream_drop.specs.Drop.{Outcome, answerOf}
+use Rattle.stream_drop.specs.Drop as dropping
 use Rattle.word_primitive.specs.declared.PrimitiveType.{PrimitiveType}
 
 -- ---- what C gives
@@ -97,3 +100,15 @@ sizeField n = n ∷ []
 
 abbrev pub outSave : List ℕ → Answer (List ℕ) → ℕ × List ℕ × List ℕ
 outSave o a = (handed 1 sizeField (sizeIn a) .0, handed 1 sizeField (sizeIn a) .1, bufferAfter o a)
+
+-- 1 for yes; 0 for no, with the record and the rule
+abbrev pub verdictFields : Verdict → List ℕ
+verdictFields fit = 1 ∷ 0 ∷ 0 ∷ []
+verdictFields (unfit i rule) = 0 ∷ i ∷ rule ∷ []
+
+abbrev pub outFit : Answer Verdict → ℕ × List ℕ
+outFit = handed 3 verdictFields
+
+-- how many bytes the new stream has; and the table and the buffer after the call
+abbrev pub outDrop : List ℕ → List ℕ → Outcome → ℕ × List ℕ × List ℕ × List ℕ
+outDrop t b o = (handed 1 sizeField (answerOf o) .0, handed 1 sizeField (answerOf o) .1, dropping.tableAfter t o, dropping.bufferAfter b o)

@@ -1,6 +1,6 @@
 // The debugger's pane: header, next, update, find and primitive for a caller that is written in C (or in anything that calls C), through plain
-// numbers and byte slices, R-14 of document 02; and beside them the places of a finder kept in a file, R-3 and R-10. c/pdb.h declares all for C,
-// rust/ wraps the five for Rust.
+// numbers and byte slices, R-14 of document 02; and beside them the places of a finder kept in a file, R-3 and R-10, whether a stream is fit to bind,
+// R-9, and the stream of what some roots reach, R-13. c/pdb.h declares all for C, rust/ wraps the five for Rust.
 //
 // The result is the number of 01 or 02, 0 for an answer. Behind `out`, which is written whole by every call: the two detail values, then the
 // answer's fields, 0 where there is none. So what C gets is one value, and each contract is one equation between it and the definition that the
@@ -13,15 +13,19 @@ ghost use Rattle.stream_header.specs.Header.{headerOf};
 ghost use Rattle.stream_item.specs.Iterator.{nextOf};
 ghost use Rattle.stream_finder.specs.Finder.{updateOf, findOf};
 ghost use Rattle.stream_places.specs.Places.{loadWideOf, saveWideOf};
+ghost use Rattle.stream_fit.specs.Fit.{fitOf};
+ghost use Rattle.stream_drop.specs.Drop.{dropOf};
 ghost use Rattle.word_primitive.specs.Primitive.{primitiveOf};
-ghost use Rattle.pane.specs.Out.{bitsOf, headerFields, cursorAt, finderAt, typeAt, outHeader, outNext, outUpdate, outFind, outPrimitive, outLoad, outSave};
+ghost use Rattle.pane.specs.Out.{bitsOf, headerFields, cursorAt, finderAt, typeAt, outHeader, outNext, outUpdate, outFind, outPrimitive, outLoad, outSave, outFit, outDrop};
 use answer::Details;
 use answer::Refusal;
 use field::index::Stream;
 use field::index::TypeIndex;
+use stream_drop::DropAnswer;
 use stream_finder::FindAnswer;
 use stream_finder::FinderAnswer;
 use stream_finder::ItemFinder;
+use stream_fit::FitAnswer;
 use stream_header::Header;
 use stream_header::HeaderAnswer;
 use stream_item::Entry;
@@ -311,6 +315,51 @@ pub extern "C" fn pdb_save(
             0
         }
         SaveAnswer::Refused(e) => {
+            *out = [first(e), second(e), 0];
+            e.number()
+        }
+    }
+}
+
+// Is a type stream fit to bind? Behind `out`: the details; 1 for yes and 0 for no; the record at fault and the rule that it breaks, 0 where there is none.
+#[no_mangle]
+pub extern "C" fn pdb_fit(s: &[u8], out: &mut [u64; 5]) -> u32
+    ensures { λ r. ⌜ (r, now (out .exit)) ≡ outFit (fitOf (now (s .entry))) ⌝ }
+{
+    match stream_fit::fit(s) {
+        FitAnswer::Yes => {
+            *out = [0, 0, 1, 0, 0];
+            0
+        }
+        FitAnswer::No(record, rule) => {
+            *out = [0, 0, 0, record as u64, rule as u64];
+            0
+        }
+        FitAnswer::Refused(e) => {
+            *out = [first(e), second(e), 0, 0, 0];
+            e.number()
+        }
+    }
+}
+
+// The stream of the records that the roots reach, in the first bytes of the buffer; and old to new in the first entries of the table. Behind `out`: the
+// details, and how many bytes the stream has. At a refusal the buffer is as it was, and the table too but after 30 and 19.
+#[no_mangle]
+pub extern "C" fn pdb_drop(
+    s: &[u8],
+    roots: &[u32],
+    table: &mut [u32],
+    buffer: &mut [u8],
+    out: &mut [u64; 3],
+) -> u32
+    ensures { λ r. ⌜ (r, now (out .exit), now (table .exit), now (buffer .exit)) ≡ outDrop (now (table .entry)) (now (buffer .entry)) (dropOf (now (s .entry)) (now (roots .entry)) (length (now (table .entry))) (length (now (buffer .entry)))) ⌝ }
+{
+    match stream_drop::drop(s, roots, table, buffer) {
+        DropAnswer::Written(n) => {
+            *out = [0, 0, n as u64];
+            0
+        }
+        DropAnswer::Refused(e) => {
             *out = [first(e), second(e), 0];
             e.number()
         }
