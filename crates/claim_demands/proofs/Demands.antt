@@ -7,6 +7,8 @@ use Rattle.stream_finder.proofs.SharedProof.{shared, of-runs}
 use Rattle.record_reference.proofs.DecodedLaws.{has-exactly}
 use Rattle.stream_fit.proofs.AfterLaws.{after-yes}
 use Rattle.stream_fit.proofs.SentenceLaws.{sentences}
+use Rattle.record_rewrite.proofs.Rewritten.{rewriting}
+use Rattle.stream_drop.proofs.SentenceLaws.{sentences as drop-sentences}
 use Rattle.stream_places.proofs.KeptProof.{load-serves, wide-serves, round-trip, wide-trip, one-encoding, one-encoding-wide, loaders-agree}
 use Rattle.stream_report.proofs.SumLaws.{adds-up, exactly}
 use Rattle.stream_report.proofs.MadeSums.{made-sums}
@@ -57,6 +59,8 @@ demands = record {
   fitness = sentences;
   after-fitness = after-yes;
   references = has-exactly;
+  drops = drop-sentences;
+  rewrites = rewriting;
   wide-loaded = wide-serves;
   wide-saved-and-loaded = wide-trip;
   wide-one-file = one-encoding-wide;

@@ -46,7 +46,9 @@ use Rattle.field_text.proofs.RawString.bytes.Met as field-text-raw-string-bytes
 use Rattle.field_text.proofs.after_padding.Met as field-text-after-padding
 use Rattle.field_text.proofs.string_at.Met as field-text-string-at
 use Rattle.field_text.proofs.string_of.Met as field-text-string-of
+use Rattle.pane.proofs.pdb_drop.Met as pane-pdb-drop
 use Rattle.pane.proofs.pdb_find.Met as pane-pdb-find
+use Rattle.pane.proofs.pdb_fit.Met as pane-pdb-fit
 use Rattle.pane.proofs.pdb_header.Met as pane-pdb-header
 use Rattle.pane.proofs.pdb_load.Met as pane-pdb-load
 use Rattle.pane.proofs.pdb_next.Met as pane-pdb-next
@@ -79,6 +81,7 @@ use Rattle.section_item.proofs.len.Met as section-item-len
 use Rattle.section_read.proofs.parse.Met as section-read-parse
 use Rattle.section_read.proofs.start.Met as section-read-start
 use Rattle.section_stream.proofs.to_stream.Met as section-stream-to-stream
+use Rattle.stream_drop.proofs.drop.Met as stream-drop-drop
 use Rattle.stream_finder.proofs.ItemFinder.max_id_index.Met as stream-finder-item-finder-max-id-index
 use Rattle.stream_finder.proofs.ItemFinder.max_type_index.Met as stream-finder-item-finder-max-type-index
 use Rattle.stream_finder.proofs.ItemFinder.update.Met as stream-finder-lent-item-finder-update
@@ -229,6 +232,8 @@ tied = record {
   pane-pdb-primitive = record { says = λ M 𝓤 H A mem run. refl; meets = λ M. pane-pdb-primitive.met };
   pane-pdb-load = record { says = λ M 𝓤 H A mem run. refl; meets = λ M. pane-pdb-load.met };
   pane-pdb-save = record { says = λ M 𝓤 H A mem run. refl; meets = λ M. pane-pdb-save.met };
+  pane-pdb-fit = record { says = λ M 𝓤 H A mem run. refl; meets = λ M. pane-pdb-fit.met };
+  pane-pdb-drop = record { says = λ M 𝓤 H A mem run. refl; meets = λ M. pane-pdb-drop.met };
   record-data-type-data-name = record { says = λ M 𝓤 H A mem run. refl; meets = λ M. record-data-type-data-name.met };
   record-data-type-data = record { says = λ M 𝓤 H A mem run. refl; meets = λ M. record-data-type-data.met };
   record-id-id-data = record { says = λ M 𝓤 H A mem run. refl; meets = λ M. record-id-id-data.met };
@@ -255,6 +260,7 @@ tied = record {
   section-read-parse = record { says = λ M 𝓤 H A mem run. refl; meets = λ M. section-read-parse.met };
   section-read-start = record { says = λ M 𝓤 H A mem run. refl; meets = λ M. section-read-start.met };
   section-stream-to-stream = record { says = λ M 𝓤 H A mem run. refl; meets = λ M. section-stream-to-stream.met };
+  stream-drop-drop = record { says = λ M 𝓤 H A mem run. refl; meets = λ M. stream-drop-drop.met };
   stream-finder-create = record { says = λ M 𝓤 H A mem run. refl; meets = λ M. stream-finder-create.met };
   stream-finder-create-by = record { says = λ M 𝓤 H A mem run. refl; meets = λ M. stream-finder-create-by.met };
   stream-finder-begin = record { says = λ M 𝓤 H A mem run. refl; meets = λ M. stream-finder-begin.met };

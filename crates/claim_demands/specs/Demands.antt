@@ -11,6 +11,8 @@ use Rattle.stream_finder.specs.Shared.{Shared}
 use Rattle.record_reference.specs.Decoded.{HasExactly}
 use Rattle.stream_fit.specs.After.{AfterYes}
 use Rattle.stream_fit.specs.Sentences.{Sentences}
+use Rattle.record_rewrite.specs.Kept.{Rewriting}
+use Rattle.stream_drop.specs.Sentences.{Sentences as DropSentences}
 use Rattle.stream_places.specs.File.{Form}
 use Rattle.stream_places.specs.Kept.{LoadServes, WideServes, RoundTrip, WideTrip, OneEncoding, OneEncodingWide, LoadersAgree}
 use Rattle.stream_report.specs.Sums.{AddsUp, Exactly, MadeSums}
@@ -41,7 +43,7 @@ use Rattle.claim_demands.specs.Tied.{Tied}
 
 pub record Demands : Type 2 where
   -- "Every byte string and every number is answered or refused by document 01's table. A refusal gives nothing but its number and named detail,
-  -- and all lent memory stays unchanged." Demand1.antt
+  -- and all lent memory stays unchanged." But for a table after 30 and 19, which R-13 excepts. Demand1.antt
   pub first : Demand1
   -- the same of the contracts, function by function: RefusedBy.antt
   pub refused-by : EachRefusedBy
@@ -73,6 +75,11 @@ pub record Demands : Type 2 where
   pub fitness : Sentences
   pub after-fitness : AfterYes
   pub references : HasExactly
+  -- document 02, R-13, sentence by sentence: "exactly the records reached from the roots through type references, in their old order, renumbered from the
+  -- old minimum without holes, references rewritten, the header kept but for its maximum", what the table holds, that dropping twice changes nothing, and
+  -- when each number is given: crates/stream_drop/specs/Sentences.antt. "All other payload bytes kept": crates/record_rewrite/specs/Kept.antt
+  pub drops : DropSentences
+  pub rewrites : Rewriting
   -- document 02, R-3: a loaded finder is one "for which demand 3 reads with N = 2^s × (places − 1)"; what was saved is loaded as it was; of a file that
   -- is loaded, saving gives that file: crates/stream_places/specs/Kept.antt
   pub loaded : LoadServes

@@ -91,8 +91,12 @@ use Rattle.field_text.proofs.string_at as field-text-string-at-source
 use Rattle.field_text.proofs.string_at.Symbol as field-text-string-at-code
 use Rattle.field_text.proofs.string_of as field-text-string-of-source
 use Rattle.field_text.proofs.string_of.Symbol as field-text-string-of-code
+use Rattle.pane.proofs.pdb_drop as pane-pdb-drop-source
+use Rattle.pane.proofs.pdb_drop.Symbol as pane-pdb-drop-code
 use Rattle.pane.proofs.pdb_find as pane-pdb-find-source
 use Rattle.pane.proofs.pdb_find.Symbol as pane-pdb-find-code
+use Rattle.pane.proofs.pdb_fit as pane-pdb-fit-source
+use Rattle.pane.proofs.pdb_fit.Symbol as pane-pdb-fit-code
 use Rattle.pane.proofs.pdb_header as pane-pdb-header-source
 use Rattle.pane.proofs.pdb_header.Symbol as pane-pdb-header-code
 use Rattle.pane.proofs.pdb_load as pane-pdb-load-source
@@ -157,6 +161,8 @@ use Rattle.section_read.proofs.start as section-read-start-source
 use Rattle.section_read.proofs.start.Symbol as section-read-start-code
 use Rattle.section_stream.proofs.to_stream as section-stream-to-stream-source
 use Rattle.section_stream.proofs.to_stream.Symbol as section-stream-to-stream-code
+use Rattle.stream_drop.proofs.drop as stream-drop-drop-source
+use Rattle.stream_drop.proofs.drop.Symbol as stream-drop-drop-code
 use Rattle.stream_finder.proofs.ItemFinder.max_id_index as stream-finder-item-finder-max-id-index-source
 use Rattle.stream_finder.proofs.ItemFinder.max_id_index.Symbol as stream-finder-item-finder-max-id-index-code
 use Rattle.stream_finder.proofs.ItemFinder.max_type_index as stream-finder-item-finder-max-type-index-source
@@ -453,6 +459,10 @@ pub record Tied : Type 2 where
   pub pane-pdb-load : Tie pane-pdb-load-source.ended (λ M. pane-pdb-load-source.clauses) pane-pdb-load-code.routine (λ κs a r e. contract.pane-pdb-load (now (a .0)) (now (a .1 .0)) (now (a .1 .1 .0)) r (now (e .1 .1 .0)) (now (e .1 .1 .1 .0)))
   -- pane::pdb_save
   pub pane-pdb-save : Tie pane-pdb-save-source.ended (λ M. pane-pdb-save-source.clauses) pane-pdb-save-code.routine (λ κs a r e. contract.pane-pdb-save (now (a .0)) (now (a .1 .0)) (a .1 .1 .0) (a .1 .1 .1 .0) (a .1 .1 .1 .1 .0) (a .1 .1 .1 .1 .1 .0) (now (a .1 .1 .1 .1 .1 .1 .0)) r (now (e .1 .1 .1 .1 .1 .1 .0)) (now (e .1 .1 .1 .1 .1 .1 .1 .0)))
+  -- pane::pdb_fit
+  pub pane-pdb-fit : Tie pane-pdb-fit-source.ended (λ M. pane-pdb-fit-source.clauses) pane-pdb-fit-code.routine (λ κs a r e. contract.pane-pdb-fit (now (a .0)) r (now (e .1 .0)))
+  -- pane::pdb_drop
+  pub pane-pdb-drop : Tie pane-pdb-drop-source.ended (λ M. pane-pdb-drop-source.clauses) pane-pdb-drop-code.routine (λ κs a r e. contract.pane-pdb-drop (now (a .0)) (now (a .1 .0)) (now (a .1 .1 .0)) (now (a .1 .1 .1 .0)) r (now (e .1 .1 .0)) (now (e .1 .1 .1 .0)) (now (e .1 .1 .1 .1 .0)))
   -- record_data::TypeData::name
   pub record-data-type-data-name : Tie record-data-type-data-name-source.ended (λ M. record-data-type-data-name-source.clauses) record-data-type-data-name-code.routine (λ κs a r e. contract.record-data-type-data-name (a .0) r)
   -- record_data::type_data
@@ -505,6 +515,8 @@ pub record Tied : Type 2 where
   pub section-read-start : Tie section-read-start-source.ended (λ M. section-read-start-source.clauses) section-read-start-code.routine (λ κs a r e. contract.section-read-start (now (a .0)) r)
   -- section_stream::to_stream
   pub section-stream-to-stream : Tie section-stream-to-stream-source.ended (λ M. section-stream-to-stream-source.clauses) section-stream-to-stream-code.routine (λ κs a r e. contract.section-stream-to-stream (now (a .0)) (now (a .1 .0)) r (now (e .1 .0)))
+  -- stream_drop::drop
+  pub stream-drop-drop : Tie stream-drop-drop-source.ended (λ M. stream-drop-drop-source.clauses) stream-drop-drop-code.routine (λ κs a r e. contract.stream-drop-drop (now (a .0)) (now (a .1 .0)) (now (a .1 .1 .0)) (now (a .1 .1 .1 .0)) r (now (e .1 .1 .0)) (now (e .1 .1 .1 .0)))
   -- stream_finder::create
   pub stream-finder-create : Tie stream-finder-create-source.ended (λ M. stream-finder-create-source.clauses) stream-finder-create-code.routine (λ κs a r e. contract.stream-finder-create (now (a .0)) (now (a .1 .0)) r (now (e .1 .0)))
   -- stream_finder::create_by

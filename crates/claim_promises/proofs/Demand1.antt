@@ -14,6 +14,9 @@ use Rattle.declare_type.specs.Declares.{declareOf}
 use Rattle.claim_promises.proofs.DeclareRefuses.{declare-says, declares-nothing}
 use Rattle.stream_report.specs.Report.{addOf}
 use Rattle.claim_promises.proofs.ReportRefuses.{add-refuses, reports-nothing}
+use Rattle.stream_drop.specs.Drop.{dropOf}
+use Rattle.claim_promises.proofs.DropRefuses.{drop-refuses, drops-no-bytes, drops-no-entry}
+use Rattle.claim_promises.proofs.DropLeaves.{drop-leaves}
 use Rattle.claim_promises.proofs.PlacesRefuse.{trailer-refuses, load-refuses, save-refuses}
 use Rattle.write_pieces.specs.Pieces.{saidWrite}
 use Rattle.claim_promises.proofs.WritersRefuse.{header-laid-refuses, record-laid-refuses, field-list-laid-refuses, method-list-laid-refuses, pieces-refuse, plain-laid-refuses, filled-laid-refuses, pieces-laid-refuses, writes-nothing}
@@ -58,6 +61,7 @@ demand1 = record {
   wide-loads = λ s f t. load-refuses (formOf f) s f t;
   wide-saves = λ s σ room. save-refuses (formFor (σ .finder .held)) s σ room;
   additions = add-refuses;
+  drops = drop-refuses;
   declares = declare-says;
   types = type-refuses;
   ids = id-refuses;
@@ -91,4 +95,7 @@ demand1 = record {
   index-on-keeps = λ s f t c r t′ e w h. sym (w .ended) ∙ ap saidEnd h;
   lent-update-keeps = λ σ c. changes-nothing σ (updateOf σ c);
   step-keeps = λ s c. steps-nowhere c (stepOf s c);
+  drop-keeps-buffer = λ s roots t b. drops-no-bytes t b (dropOf s roots (length t) (length b));
+  drop-keeps-table = drops-no-entry;
+  drop-excepted = drop-leaves;
 }

@@ -3,6 +3,8 @@ pub mod ReadingRefuses
 pub mod StreamRefuses
 pub mod PlacesRefuse
 pub mod ReportRefuses
+pub mod DropRefuses
+pub mod DropLeaves
 pub mod WritersRefuse
 pub mod DeclareRefuses
 pub mod Digits

@@ -22,6 +22,8 @@ use Rattle.stream_places.specs.Places.{loadOf, loadWideOf, saveOf, saveWideOf}
 use Rattle.stream_places.proofs.OneOutcome.{one-trailer, one-saves}
 use Rattle.stream_report.specs.Report.{addOf, reportIn}
 use Rattle.stream_report.proofs.OneOutcome.{one-reports}
+use Rattle.stream_drop.specs.Drop.{dropOf}
+use Rattle.stream_drop.proofs.OneOutcome.{one-drops}
 use lib.ListN.{length}
 use Rattle.stream_index.proofs.OneOutcome.{one-leads}
 use Rattle.stream_index.proofs.OneWalk.{one-walks, one-indexes}
@@ -31,7 +33,7 @@ use Rattle.record_member.proofs.OneOutcome.{one-member, one-entry}
 use Rattle.record_list.proofs.OneOutcome.{one-start, one-step, one-element}
 use Rattle.record_reader.proofs.OneOutcome.{one-reader, one-steps}
 use Rattle.record_parse.proofs.OneOutcome.{one-parse}
-use Rattle.pane.proofs.OneOutcome.{one-out, one-out-table}
+use Rattle.pane.proofs.OneOutcome.{one-out, one-out-table, one-out-both}
 use Rattle.write_pieces.proofs.OneOutcome.{one-measure, one-writes}
 use Rattle.stream_item.specs.declared.iter.ItemIter.{ItemIter}
 use Rattle.stream_finder.specs.Finder.{State, state, begunIn, createOf, createBy, updateOf}
@@ -139,6 +141,8 @@ one-outcome = record {
   pane-pdb-update = λ table minimum maximum held shift at index. one-out-table _;
   pane-pdb-load = λ s file table. one-out-table _;
   pane-pdb-save = λ s table minimum maximum held shift buffer. one-out-table _;
+  pane-pdb-fit = λ s. one-out _;
+  pane-pdb-drop = λ s roots table buffer. one-out-both _;
   pane-pdb-find = λ s table minimum maximum held shift index. one-out _;
   pane-pdb-primitive = λ index. one-out _;
   record-data-type-data-name = λ self r q a b. one-type-name r q (a ∙ sym b);
@@ -200,6 +204,7 @@ one-outcome = record {
   stream-places-trailer-trailer-parse-wide = λ f r q a b. one-trailer r q (a ∙ sym b);
   stream-report-new = λ r q a b. a ∙ sym b;
   stream-report-add = λ totals table s. one-reports table (addOf (reportIn totals table) s);
+  stream-drop-drop = λ s roots table out. one-drops table out (dropOf s roots (length table) (length out));
   stream-view-bytes-of = λ tpi ipi entry r q a b. a ∙ sym b;
   stream-view-view = λ tpi ipi entry r q a b. one-entry-view r q a b;
   stream-view-why = λ tpi ipi entry r q a b. one-view r q (a ∙ sym b);

@@ -111,6 +111,7 @@ each-refused-by = record {
   stream-places-save = λ s f t out r out′ it. along (Refuses (16 ∷ 1 ∷ 2 ∷ 3 ∷ 4 ∷ 5 ∷ 21 ∷ 26 ∷ 13 ∷ 19 ∷ [])) (it .answer) (of-size (demand1 .saves s (state f t) (length out)));
   stream-places-save-wide = λ s f t out r out′ it. along (Refuses (16 ∷ 1 ∷ 2 ∷ 3 ∷ 4 ∷ 5 ∷ 21 ∷ 26 ∷ 13 ∷ 19 ∷ [])) (it .answer) (of-size (demand1 .wide-saves s (state f t) (length out)));
   stream-report-add = λ totals table s r table′ it. along (Refuses (27 ∷ 28 ∷ [])) (it .answer) (of-totals (demand1 .additions (reportIn totals table) s));
+  stream-drop-drop = λ s roots table out r table′ out′ it. along (Refuses (16 ∷ 1 ∷ 2 ∷ 3 ∷ 4 ∷ 5 ∷ 29 ∷ 8 ∷ 13 ∷ 30 ∷ 19 ∷ [])) (it .says) (demand1 .drops s roots (length table) (length out));
   record-reader-list-reader-step = λ self r self′ it. along (Refuses (15 ∷ 1 ∷ 10 ∷ 11 ∷ [])) (it .0 .answer) (of-element (demand1 .steps (now (self .bytes)) (self .cursor)));
   record-reader-step-of = λ bytes cursor u it. along (Refuses (15 ∷ 1 ∷ 10 ∷ 11 ∷ [])) (it .answer) (of-element (demand1 .steps bytes cursor));
   section-finder-create = λ s t r t′ it. along (Refuses (16 ∷ 1 ∷ 25 ∷ 6 ∷ 7 ∷ 26 ∷ 13 ∷ [])) (it .answer) (of-finder (sections-refuse .creations 3 s t));

@@ -17,7 +17,7 @@ use Rattle.field.specs.declared.index.Stream.{Stream}
 use Rattle.field.specs.declared.index.TypeIndex.{TypeIndex}
 use Rattle.field_number.specs.Forms.{numeralAt, saidSize as saidSize-of-field-number, saidVariant, sizedAt}
 use Rattle.field_text.specs.Texts.{paddingAfter, saidString, stringAt, stringOf}
-use Rattle.pane.specs.Out.{cursorAt, finderAt, outFind, outHeader, outLoad, outNext, outPrimitive, outSave, outUpdate, typeAt}
+use Rattle.pane.specs.Out.{cursorAt, finderAt, outDrop, outFind, outFit, outHeader, outLoad, outNext, outPrimitive, outSave, outUpdate, typeAt}
 use Rattle.record_data.specs.Said.{saidTypeData, typeValues}
 use Rattle.record_data.specs.declared.TypeData.{TypeData}
 use Rattle.record_id.specs.Said.{idValues, saidIdData}
@@ -37,6 +37,8 @@ use Rattle.section_finder.specs.Finders.{IndexesBy as IndexesBy-of-section-find
 use Rattle.section_item.specs.Sections.{countOf, startOf as startOf-of-section-item}
 use Rattle.section_read.specs.Readers.{readOf, readerAt}
 use Rattle.section_stream.specs.Streams.{streamOf}
+use Rattle.stream_drop.specs.Drop.{Drops, dropOf}
+use Rattle.stream_drop.specs.declared.DropAnswer.{DropAnswer}
 use Rattle.stream_finder.specs.Finder.{Fills, begunIn, createBy as createBy-of-stream-finder, createOf as createOf-of-stream-finder, findOf, maxIndexOf, saidFind, state, updateOf}
 use Rattle.stream_finder.specs.Lent.{Updates}
 use Rattle.stream_finder.specs.declared.FinderAnswer.{FinderAnswer}
@@ -112,7 +114,7 @@ pub record Answers : Type 1 where
   pub field-text-string-of : (leaf : ℕ) (s : List ℕ) (p : ℕ) → Says (contract.field-text-string-of leaf s p) saidString (stringOf leaf s p)
   pub field-text-after-padding : (s : List ℕ) (p : ℕ) → Says (contract.field-text-after-padding s p) saidAfter (paddingAfter s p)
   pub word-primitive-primitive : (index : TypeIndex) → Says (contract.word-primitive-primitive index) saidPrimitive (primitiveOf (index .0))
-  -- streams: header, count, iterator, items; the finder, by value and lent; places that are kept; reports
+  -- streams: header, count, iterator, items; the finder, by value and lent; places that are kept; reports; what the roots reach
   pub stream-finder-create : (s : List ℕ) (t : List ℕ) (r : FinderAnswer) (t′ : List ℕ) → contract.stream-finder-create s t r t′ → Fills t (createOf-of-stream-finder s t) r t′
   pub stream-finder-create-by : (s : List ℕ) (t : List ℕ) (shift : ℕ) (r : FinderAnswer) (t′ : List ℕ) → contract.stream-finder-create-by s t shift r t′ → Fills t (createBy-of-stream-finder shift s t) r t′
   pub stream-finder-begin : (t : List ℕ) (records : Run) (shift : ℕ) (r : FinderAnswer) (t′ : List ℕ) → contract.stream-finder-begin t records shift r t′ → Fills t (begunIn shift t records) r t′
@@ -146,6 +148,7 @@ pub record Answers : Type 1 where
   pub stream-places-trailer-trailer-parse-wide : (f : List ℕ) → Says (contract.stream-places-trailer-trailer-parse-wide f) saidTrailer (trailerOfEither f)
   pub stream-report-new : Says contract.stream-report-new (λ r. r) (totalsOf fresh)
   pub stream-report-add : (totals : Totals) (table : List ℕ) (s : List ℕ) (r : ReportAnswer) (table′ : List ℕ) → contract.stream-report-add totals table s r table′ → Reports table (addOf (reportIn totals table) s) r table′
+  pub stream-drop-drop : (s : List ℕ) (roots : List ℕ) (table : List ℕ) (out : List ℕ) (r : DropAnswer) (table′ : List ℕ) (out′ : List ℕ) → contract.stream-drop-drop s roots table out r table′ out′ → Drops table out (dropOf s roots (length table) (length out)) r table′ out′
   pub stream-view-bytes-of : (tpi : List ℕ) (ipi : List ℕ) (entry : Entry) → Says (contract.stream-view-bytes-of tpi ipi entry) (λ r. r) (viewBytes tpi ipi entry)
   pub stream-view-view : (tpi : List ℕ) (ipi : List ℕ) (entry : Entry) → Says (contract.stream-view-view tpi ipi entry) (λ r. saidView (r .answer)) (viewOf tpi ipi entry)
   pub stream-view-why : (tpi : List ℕ) (ipi : List ℕ) (entry : Entry) → Says (contract.stream-view-why tpi ipi entry) saidView (viewOf tpi ipi entry)
@@ -183,12 +186,15 @@ pub record Answers : Type 1 where
   pub write-pieces-write-filled : (text : List ℕ) (xs : List Piece-of-write-pieces) (out : List ℕ) (at : ℕ) (r : WriteAnswer) (out′ : List ℕ) → contract.write-pieces-write-filled text xs out at r out′ → Writes out (lay (limited (filledEach (piecesOf text xs))) out at) (saidWrite r) out′
   pub write-pieces-write-record : (text : List ℕ) (xs : List Piece-of-write-pieces) (out : List ℕ) (at : ℕ) (r : WriteAnswer) (out′ : List ℕ) → contract.write-pieces-write-record text xs out at r out′ → Writes out (lay (recordBytes (piecesOf text xs)) out at) (saidWrite r) out′
   pub write-type-write-type : (text : List ℕ) (d : TypeData) (out : List ℕ) (at : ℕ) (r : WriteAnswer) (out′ : List ℕ) → contract.write-type-write-type text d out at r out′ → Writes out (lay (writeRecord typeLeaves (givenAll text (typeValues d))) out at) (saidWrite r) out′
-  -- the five exports for C
+  -- the exports for C
   pub pane-pdb-header : (s : List ℕ) (r : ℕ) (out′ : List ℕ) → contract.pane-pdb-header s r out′ → (r, out′) ≡ outHeader (headerOf s)
   pub pane-pdb-next : (s : List ℕ) (at : ℕ) (index : ℕ) (r : ℕ) (out′ : List ℕ) → contract.pane-pdb-next s at index r out′ → (r, out′) ≡ outNext (nextOf s (cursorAt at index))
   pub pane-pdb-update : (table : List ℕ) (minimum : ℕ) (maximum : ℕ) (held : ℕ) (shift : ℕ) (at : ℕ) (index : ℕ) (r : ℕ) (table′ : List ℕ) (out′ : List ℕ) → contract.pane-pdb-update table minimum maximum held shift at index r table′ out′ → (r, out′, table′) ≡ outUpdate table (updateOf (finderAt minimum maximum held shift table) (cursorAt at index))
   pub pane-pdb-load : (s : List ℕ) (file : List ℕ) (table : List ℕ) (r : ℕ) (table′ : List ℕ) (out′ : List ℕ) → contract.pane-pdb-load s file table r table′ out′ → (r, out′, table′) ≡ outLoad table (loadWideOf s file table)
   pub pane-pdb-save : (s : List ℕ) (table : List ℕ) (minimum : ℕ) (maximum : ℕ) (held : ℕ) (shift : ℕ) (buffer : List ℕ) (r : ℕ) (buffer′ : List ℕ) (out′ : List ℕ) → contract.pane-pdb-save s table minimum maximum held shift buffer r buffer′ out′ → (r, out′, buffer′) ≡ outSave buffer (saveWideOf s (finderAt minimum maximum held shift table) (length buffer))
+  pub pane-pdb-fit : (s : List ℕ) (r : ℕ) (out′ : List ℕ) → contract.pane-pdb-fit s r out′ → (r, out′) ≡ outFit (fitOf s)
+  pub pane-pdb-drop : (s : List ℕ) (roots : List ℕ) (table : List ℕ) (buffer : List ℕ) (r : ℕ) (table′ : List ℕ) (buffer′ : List ℕ) (out′ : List ℕ)
+      → contract.pane-pdb-drop s roots table buffer r table′ buffer′ out′ → (r, out′, table′, buffer′) ≡ outDrop table buffer (dropOf s roots (length table) (length buffer))
   pub pane-pdb-find : (s : List ℕ) (table : List ℕ) (minimum : ℕ) (maximum : ℕ) (held : ℕ) (shift : ℕ) (index : ℕ) (r : ℕ) (out′ : List ℕ) → contract.pane-pdb-find s table minimum maximum held shift index r out′ → (r, out′) ≡ outFind (findOf s (finderAt minimum maximum held shift table) (typeAt index))
   pub pane-pdb-primitive : (index : ℕ) (r : ℕ) (out′ : List ℕ) → contract.pane-pdb-primitive index r out′ → (r, out′) ≡ outPrimitive index (primitiveOf index)
   -- attribute words: the crate's own methods

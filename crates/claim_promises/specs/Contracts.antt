@@ -61,7 +61,7 @@ use Rattle.field_text.specs.Texts.{paddingAfter, part, saidString, stringAt, st
 use Rattle.field_text.specs.declared.OptString.{OptString}
 use Rattle.field_text.specs.declared.RawString.{RawString}
 use Rattle.field_text.specs.declared.ReadString.{ReadString}
-use Rattle.pane.specs.Out.{cursorAt, finderAt, outFind, outHeader, outLoad, outNext, outPrimitive, outSave, outUpdate, typeAt}
+use Rattle.pane.specs.Out.{cursorAt, finderAt, outDrop, outFind, outFit, outHeader, outLoad, outNext, outPrimitive, outSave, outUpdate, typeAt}
 use Rattle.record_data.specs.Said.{saidTypeData, stringValue, typeName, typeValues}
 use Rattle.record_data.specs.declared.TypeAnswer.{TypeAnswer}
 use Rattle.record_data.specs.declared.TypeData.{TypeData}
@@ -95,6 +95,8 @@ use Rattle.section_finder.specs.Finders.{Indexes as Indexes-of-section-finder, 
 use Rattle.section_item.specs.Sections.{countOf, startOf as startOf-of-section-item}
 use Rattle.section_read.specs.Readers.{readOf, readerAt}
 use Rattle.section_stream.specs.Streams.{streamOf}
+use Rattle.stream_drop.specs.Drop.{Drops, dropOf}
+use Rattle.stream_drop.specs.declared.DropAnswer.{DropAnswer}
 use Rattle.stream_finder.specs.Finder.{Fills, begunIn, createBy as createBy-of-stream-finder, createOf as createOf-of-stream-finder, findOf, maxIndexOf, saidFind, state, updateOf}
 use Rattle.stream_finder.specs.Lent.{Updates}
 use Rattle.stream_finder.specs.declared.FindAnswer.{FindAnswer}
@@ -371,6 +373,14 @@ pane-pdb-load s file table r table′ out′ = (r, out′, table′) ≡ outLoad
 abbrev pub pane-pdb-save : (s : List ℕ) (table : List ℕ) (minimum : ℕ) (maximum : ℕ) (held : ℕ) (shift : ℕ) (buffer : List ℕ) → ℕ → List ℕ → List ℕ → Type 0
 pane-pdb-save s table minimum maximum held shift buffer r buffer′ out′ = (r, out′, buffer′) ≡ outSave buffer (saveWideOf s (finderAt minimum maximum held shift table) (length buffer))
 
+-- pane::pdb_fit
+abbrev pub pane-pdb-fit : (s : List ℕ) → ℕ → List ℕ → Type 0
+pane-pdb-fit s r out′ = (r, out′) ≡ outFit (fitOf s)
+
+-- pane::pdb_drop
+abbrev pub pane-pdb-drop : (s : List ℕ) (roots : List ℕ) (table : List ℕ) (buffer : List ℕ) → ℕ → List ℕ → List ℕ → List ℕ → Type 0
+pane-pdb-drop s roots table buffer r table′ buffer′ out′ = (r, out′, table′, buffer′) ≡ outDrop table buffer (dropOf s roots (length table) (length buffer))
+
 -- record_data::TypeData::name
 abbrev pub record-data-type-data-name : (self : TypeData) → OptString → Type 0
 record-data-type-data-name self r = stringValue r ≡ typeName (typeValues self)
@@ -474,6 +484,10 @@ section-read-start bytes r = saidStart r ≡ startOf-of-record-list (readerAt by
 -- section_stream::to_stream
 abbrev pub section-stream-to-stream : (s : List ℕ) (out : List ℕ) → WriteAnswer → List ℕ → Type 0
 section-stream-to-stream s out r out′ = Writes out (lay (streamOf s) out 0) (saidWrite r) out′
+
+-- stream_drop::drop
+abbrev pub stream-drop-drop : (s : List ℕ) (roots : List ℕ) (table : List ℕ) (out : List ℕ) → DropAnswer → List ℕ → List ℕ → Type 0
+stream-drop-drop s roots table out r table′ out′ = Drops table out (dropOf s roots (length table) (length out)) r table′ out′
 
 -- stream_finder::create
 abbrev pub stream-finder-create : (s : List ℕ) (t : List ℕ) → FinderAnswer → List ℕ → Type 0

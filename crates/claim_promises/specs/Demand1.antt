@@ -3,12 +3,13 @@
 --
 -- A contract is an equation between what an answer says and a definition, so what is said here of a definition holds of the function's answer.
 -- `Refuses ns a`: a is an answer, or a refusal by one of the numbers ns, with as many details as the table gives that number (ByTable.antt).
+-- Document 02 excepts one thing from it, the table of `drop` after 30 and 19: `drop-excepted`, the last field.
 use Prim.Native.Nat.{ℕ}
-use mathlib.Core.Bool.{true}
+use mathlib.Core.Bool.{true, false}
 use mathlib.Core.Path.{_≡_}
 use mathlib.Core.List.{List, [], _∷_}
 use lib.ListN.{length}
-use Rattle.answer.specs.Answer.{Answer, refused}
+use Rattle.answer.specs.Answer.{Answer, answered, refused}
 use Rattle.answer.specs.Refusals.{numberOf, detailsOf, no, listed}
 use Rattle.answer.specs.declared.Refusal.{Refusal}
 use Rattle.field.specs.Fields.{fixedAt, signedAt}
@@ -42,6 +43,11 @@ use Rattle.stream_fit.specs.Fit.{fitOf}
 use Rattle.stream_places.specs.File.{trailerOf, trailerOfEither}
 use Rattle.stream_places.specs.Places.{loadOf, loadWideOf, saveOf, saveWideOf, saidSave, Saves}
 use Rattle.stream_places.specs.declared.SaveAnswer.{SaveAnswer}
+use Rattle.field_put.specs.Bytes.{put, Octets}
+use Rattle.stream_prune.specs.Links.{Walked}
+use Rattle.stream_drop.specs.Drop.{dropOf, answerOf, saidDrop, Drops}
+use Rattle.stream_drop.specs.Sentences.{OldToNew}
+use Rattle.stream_drop.specs.declared.DropAnswer.{DropAnswer}
 use Rattle.stream_report.specs.Report.{Report, addOf, saidReport, Reports}
 use Rattle.stream_report.specs.declared.ReportAnswer.{ReportAnswer}
 use Rattle.answer.specs.Tables.{among}
@@ -64,6 +70,13 @@ use Rattle.write_pieces.specs.declared.Piece.{Piece}
 use Rattle.write_pieces.specs.declared.WriteAnswer.{WriteAnswer}
 use Rattle.write_header.specs.Headers.{headerBytes}
 use Rattle.claim_promises.specs.ByTable.{Refuses, FindRefuses}
+
+-- What the table of `drop` holds after 30 and 19: t′ is t but for its first entries, which are old to new by every sentence of 02 on it (OldToNew), of
+-- the stream whose header is h and whose walk by `next` comes past the payloads ps
+pub record HoldsOldToNew (s roots t t′ : List ℕ) : Type 0 where
+  pub entries : List ℕ
+  pub table : t′ ≡ put t 0 entries
+  pub old-to-new : (h : Header) (c : ItemIter) (ps : List (List ℕ)) → Octets s → headerOf s ≡ answered h → iterOf stream.Types s ≡ answered c → Walked s c ps → OldToNew roots h ps entries
 
 pub record Demand1 : Type 0 where
   -- "Numbers a caller gets back": every case of the enum `Refusal`, which is all that a refused answer holds, is a line of the table
@@ -114,6 +127,8 @@ pub record Demand1 : Type 0 where
   pub wide-saves : (s : List ℕ) (σ : State) (room : ℕ) → Refuses (16 ∷ 1 ∷ 2 ∷ 3 ∷ 4 ∷ 5 ∷ 21 ∷ 26 ∷ 13 ∷ 19 ∷ []) (saveWideOf s σ room)
   -- R-12: an addition to a report; a stream that is refused is answered
   pub additions : (ρ : Report) (s : List ℕ) → Refuses (27 ∷ 28 ∷ []) (addOf ρ s)
+  -- document 02, R-13: the stream of the records that some roots reach. 8 has the first root at or above the maximum
+  pub drops : (s roots : List ℕ) (places room : ℕ) → Refuses (16 ∷ 1 ∷ 2 ∷ 3 ∷ 4 ∷ 5 ∷ 29 ∷ 8 ∷ 13 ∷ 30 ∷ 19 ∷ []) (answerOf (dropOf s roots places room))
   -- document 02, R-5: a declaration. 1 has the lookup's links passed, or none where a reader gives it
   pub declares : (s : List ℕ) (σ : State) (i room n : ℕ) (d : List ℕ) → declareOf s σ i room ≡ refused n d
       → (among n (19 ∷ 16 ∷ 26 ∷ 13 ∷ 8 ∷ 9 ∷ 1 ∷ 10 ∷ 11 ∷ 12 ∷ 23 ∷ 24 ∷ []) ≡ true) × (listed n d ≡ true)
@@ -170,3 +185,13 @@ pub record Demand1 : Type 0 where
   pub lent-update-keeps : (σ : State) (c : ItemIter) (r : UpdateAnswer) (τ : State) (n : ℕ) (d : List ℕ) → Updates σ c r τ → saidUpdate r ≡ refused n d → τ ≡ σ
   -- the list reader, lent to its step: its bytes stay by the contract itself
   pub step-keeps : (s : List ℕ) (c : ListCursor) (r : ElementAnswer) (c′ : ListCursor) (n : ℕ) (d : List ℕ) → Steps c (stepOf s c) r c′ → saidElement r ≡ refused n d → c′ ≡ c
+  -- the buffer, lent to `drop`; and the table, after every refusal but two
+  pub drop-keeps-buffer : (s roots t b : List ℕ) (r : DropAnswer) (t′ b′ : List ℕ) (n : ℕ) (d : List ℕ)
+      → Drops t b (dropOf s roots (length t) (length b)) r t′ b′ → saidDrop r ≡ refused n d → b′ ≡ b
+  pub drop-keeps-table : (s roots t b : List ℕ) (r : DropAnswer) (t′ b′ : List ℕ) (n : ℕ) (d : List ℕ)
+      → Drops t b (dropOf s roots (length t) (length b)) r t′ b′ → saidDrop r ≡ refused n d → among n (30 ∷ 19 ∷ []) ≡ false → t′ ≡ t
+  -- ---- the one exception. Document 02, R-13: "the output is unchanged, the table too except after 30 and 19, when it holds old to new (demand 1 excepts
+  -- this)". After these two the table's first entries hold old to new, and the rest of it is as it was
+
+  pub drop-excepted : (s roots t b : List ℕ) (r : DropAnswer) (t′ b′ : List ℕ) (n : ℕ) (d : List ℕ)
+      → Drops t b (dropOf s roots (length t) (length b)) r t′ b′ → saidDrop r ≡ refused n d → among n (30 ∷ 19 ∷ []) ≡ true → HoldsOldToNew s roots t t′

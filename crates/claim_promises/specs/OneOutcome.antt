@@ -49,6 +49,9 @@ OnceLent {R = R} {M = M} C = (r q : R) (m k : M) → C r m → C q k → (r ≡ 
 abbrev pub OnceLentTwo : {R M N : Type 0} → (R → M → N → Type 0) → Type 0
 OnceLentTwo {R = R} {M = M} {N = N} C = (r q : R) (m k : M) (n l : N) → C r m n → C q k l → (r ≡ q) × (m ≡ k) × (n ≡ l)
 
+abbrev pub OnceLentThree : {R M N O : Type 0} → (R → M → N → O → Type 0) → Type 0
+OnceLentThree {R = R} {M = M} {N = N} {O = O} C = (r q : R) (m k : M) (n l : N) (o u : O) → C r m n o → C q k l u → (r ≡ q) × (m ≡ k) × (n ≡ l) × (o ≡ u)
+
 pub record OneOutcome : Type 1 where
   -- answer
   pub answer-refusal-number : (self : Refusal) → Once (contract.answer-refusal-number self)
@@ -116,6 +119,8 @@ pub record OneOutcome : Type 1 where
   pub pane-pdb-primitive : (index : ℕ) → OnceLent (contract.pane-pdb-primitive index)
   pub pane-pdb-load : (s : List ℕ) (file : List ℕ) (table : List ℕ) → OnceLentTwo (contract.pane-pdb-load s file table)
   pub pane-pdb-save : (s : List ℕ) (table : List ℕ) (minimum : ℕ) (maximum : ℕ) (held : ℕ) (shift : ℕ) (buffer : List ℕ) → OnceLentTwo (contract.pane-pdb-save s table minimum maximum held shift buffer)
+  pub pane-pdb-fit : (s : List ℕ) → OnceLent (contract.pane-pdb-fit s)
+  pub pane-pdb-drop : (s : List ℕ) (roots : List ℕ) (table : List ℕ) (buffer : List ℕ) → OnceLentThree (contract.pane-pdb-drop s roots table buffer)
   -- record_data
   pub record-data-type-data-name : (self : TypeData) → Once (contract.record-data-type-data-name self)
   pub record-data-type-data : (s : List ℕ) → Once (contract.record-data-type-data s)
@@ -153,6 +158,8 @@ pub record OneOutcome : Type 1 where
   pub section-read-start : (bytes : List ℕ) → Once (contract.section-read-start bytes)
   -- section_stream
   pub section-stream-to-stream : (s : List ℕ) (out : List ℕ) → OnceLent (contract.section-stream-to-stream s out)
+  -- stream_drop
+  pub stream-drop-drop : (s : List ℕ) (roots : List ℕ) (table : List ℕ) (out : List ℕ) → OnceLentTwo (contract.stream-drop-drop s roots table out)
   -- stream_finder
   pub stream-finder-create : (s : List ℕ) (t : List ℕ) → OnceLent (contract.stream-finder-create s t)
   pub stream-finder-create-by : (s : List ℕ) (t : List ℕ) (shift : ℕ) → OnceLent (contract.stream-finder-create-by s t shift)

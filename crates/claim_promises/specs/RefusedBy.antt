@@ -38,6 +38,8 @@ use Rattle.stream_item.specs.declared.iter.ItemIter.{ItemIter}
 use Rattle.stream_places.specs.File.{saidTrailer}
 use Rattle.stream_places.specs.Places.{saidSave}
 use Rattle.stream_places.specs.declared.SaveAnswer.{SaveAnswer}
+use Rattle.stream_drop.specs.Drop.{saidDrop}
+use Rattle.stream_drop.specs.declared.DropAnswer.{DropAnswer}
 use Rattle.stream_report.specs.Report.{saidReport}
 use Rattle.stream_report.specs.declared.ReportAnswer.{ReportAnswer}
 use Rattle.stream_report.specs.declared.Totals.{Totals}
@@ -123,6 +125,7 @@ pub record EachRefusedBy : Type 0 where
   pub stream-places-save : (s : List ℕ) (f : ItemFinder) (t : List ℕ) (out : List ℕ) (r : SaveAnswer) (out′ : List ℕ) → contract.stream-places-save s f t out r out′ → Refuses (16 ∷ 1 ∷ 2 ∷ 3 ∷ 4 ∷ 5 ∷ 21 ∷ 26 ∷ 13 ∷ 19 ∷ []) (saidSave r)
   pub stream-places-save-wide : (s : List ℕ) (f : ItemFinder) (t : List ℕ) (out : List ℕ) (r : SaveAnswer) (out′ : List ℕ) → contract.stream-places-save-wide s f t out r out′ → Refuses (16 ∷ 1 ∷ 2 ∷ 3 ∷ 4 ∷ 5 ∷ 21 ∷ 26 ∷ 13 ∷ 19 ∷ []) (saidSave r)
   pub stream-report-add : (totals : Totals) (table : List ℕ) (s : List ℕ) (r : ReportAnswer) (table′ : List ℕ) → contract.stream-report-add totals table s r table′ → Refuses (27 ∷ 28 ∷ []) (saidReport r)
+  pub stream-drop-drop : (s : List ℕ) (roots : List ℕ) (table : List ℕ) (out : List ℕ) (r : DropAnswer) (table′ : List ℕ) (out′ : List ℕ) → contract.stream-drop-drop s roots table out r table′ out′ → Refuses (16 ∷ 1 ∷ 2 ∷ 3 ∷ 4 ∷ 5 ∷ 29 ∷ 8 ∷ 13 ∷ 30 ∷ 19 ∷ []) (saidDrop r)
   pub record-reader-list-reader-step : (self : ListReader) (r : ElementAnswer) (self′ : ListReader) → contract.record-reader-list-reader-step self r self′ → Refuses (15 ∷ 1 ∷ 10 ∷ 11 ∷ []) (saidElement r)
   pub record-reader-step-of : (bytes : List ℕ) (cursor : ListCursor) (u : Stepped) → contract.record-reader-step-of bytes cursor u → Refuses (15 ∷ 1 ∷ 10 ∷ 11 ∷ []) (saidElement (u .answer))
   pub section-finder-create : (s : List ℕ) (t : List ℕ) (r : FinderAnswer) (t′ : List ℕ) → contract.section-finder-create s t r t′ → Refuses (16 ∷ 1 ∷ 25 ∷ 6 ∷ 7 ∷ 26 ∷ 13 ∷ []) (saidFinder r)
