@@ -1,14 +1,17 @@
-/* Types of program databases, for C: seven proved functions in libpane.a, which `rt staticlib pane` writes. They need no other library.
+/* Types of program databases, for C: nine proved functions in libpane.a, which `rt staticlib pane` writes. They need no other library.
  *
  * What a caller owes, and nothing checks:
- *   1. every pointer is non-null and aligned, also where its count is 0;
- *   2. `s` points to s_len bytes, `file` to file_len, `buffer` to buffer_len, `table` to table_len elements, `out` to as many as its name says below;
+ *   1. every pointer is non-null and aligned, also where its count is 0: (NULL, 0), which other libraries take for an empty slice, is not taken; give the
+ *      address of anything, such as a static byte;
+ *   2. `s` points to s_len bytes, `file` to file_len, `buffer` to buffer_len, `roots` to roots_len and `table` to table_len elements, `out` to as many as
+ *      its name says below;
  *   3. no two of these overlap, but that what is only read may be read by several calls at once;
  *   4. nothing else writes them while a call runs.
  * Nothing is owed of their contents, nor of any number: every byte string and every number is answered or refused.
  *
  * The result is 0 for an answer, else a refusal's number (docs/NUMBERS.md). Every call writes the whole of `out`: two details of a refusal, then the
  * fields of an answer, 0 where there is none. No call allocates, keeps a pointer, or has a state: threads may call at once, if no two write the same memory.
+ * A viewer's pdb_find beside a background thread's pdb_update on one table wants a lock: the one reads what the other writes.
  */
 #ifndef PDB_H
 #define PDB_H
