@@ -113,7 +113,7 @@ fn write(
     passes::up(s, c, minimum, n, true, start, table, out)
 }
 
-// The same of a stream that is fit, with this header and this first cursor.
+// What `drop` answers of a stream that is fit, with this header and this first cursor.
 fn dropped(
     s: &[u8],
     h: Header,
