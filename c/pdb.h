@@ -1,4 +1,4 @@
-/* Types of program databases, for C: nine proved functions in libpane.a, which `rt staticlib pane` writes. They need no other library.
+/* Types of program databases, for C: ten proved functions in libpane.a, which `rt staticlib pane` writes. They need no other library.
  *
  * What a caller owes, and nothing checks:
  *   1. every pointer is non-null and aligned, also where its count is 0: (NULL, 0), which other libraries take for an empty slice, is not taken; give the
@@ -97,6 +97,25 @@ uint32_t pdb_fit(const uint8_t *s, size_t s_len, uint64_t out[PDB_FIT_OUT]);
 enum { PDB_DROP_BYTES = 2, PDB_DROP_OUT };
 uint32_t pdb_drop(const uint8_t *s, size_t s_len, const uint32_t *roots, size_t roots_len, uint32_t *table, size_t table_len, uint8_t *buffer,
                   size_t buffer_len, uint64_t out[PDB_DROP_OUT]);
+
+/* A stream added to a report. A report is nine numbers, which a call is given and gives back, and a table of 64 rows: leaf, records and payload bytes, of which
+ * the first PDB_REPORT_ROWS are in use. A fresh one is all zero. A stream that is refused, by its header or midway, is an answer: taken and refused grow by
+ * one. Refused are a number that would pass 64 bits (27) and a sixty-fifth leaf (28): then the table is as it was, and the report the one that was given. */
+enum {
+    PDB_REPORT_TAKEN = 2,
+    PDB_REPORT_REFUSED,
+    PDB_REPORT_HEADERS,
+    PDB_REPORT_RECORDS,
+    PDB_REPORT_BYTES,
+    PDB_REPORT_LARGEST,
+    PDB_REPORT_STREAM,
+    PDB_REPORT_INDEX,
+    PDB_REPORT_ROWS,
+    PDB_REPORT_OUT,
+    PDB_REPORT_TABLE = 192
+};
+uint32_t pdb_report(const uint8_t *s, size_t s_len, uint64_t taken, uint64_t refused, uint64_t headers, uint64_t records, uint64_t bytes, uint64_t largest,
+                    uint64_t stream, uint32_t index, uint64_t rows, uint64_t table[PDB_REPORT_TABLE], uint64_t out[PDB_REPORT_OUT]);
 
 #ifdef __cplusplus
 }

@@ -19,6 +19,9 @@ use Rattle.stream_places.specs.Places.{sizeIn, bufferAfter}
 use Rattle.stream_fit.specs.Fit.{Verdict, fit, unfit}
 use Rattle.stream_drop.specs.Drop.{Outcome, answerOf}
 use Rattle.stream_drop.specs.Drop as dropping
+use Rattle.stream_report.specs.Report.{Report, totalsIn}
+use Rattle.stream_report.specs.Report as reporting
+use Rattle.stream_report.specs.declared.Totals.{Totals}
 use Rattle.word_primitive.specs.declared.PrimitiveType.{PrimitiveType}
 
 -- ---- what C gives
@@ -31,6 +34,17 @@ finderAt minimum maximum held shift t = state (record { «minimum_index» = mini
 
 abbrev pub typeAt : ℕ → ItemIndex
 typeAt i = index.Types (record { 0 = i })
+
+abbrev pub totalsAt : ℕ → ℕ → ℕ → ℕ → ℕ → ℕ → ℕ → ℕ → ℕ → Totals
+totalsAt taken refusals headers records bytes length stream index rows = record {
+  taken = taken;
+  refused = refusals;
+  headers = headers;
+  records = records;
+  bytes = bytes;
+  largest = record { length = length; stream = stream; index = index };
+  rows = rows;
+}
 
 -- ---- what C gets: the number, and behind `out` two details and w fields. An answer has no details, a refusal no fields
 abbrev pub handed : {A : Type 0} → ℕ → (A → List ℕ) → Answer A → ℕ × List ℕ
@@ -112,3 +126,11 @@ outFit = handed 3 verdictFields
 -- how many bytes the new stream has; and the table and the buffer after the call
 abbrev pub outDrop : List ℕ → List ℕ → Outcome → ℕ × List ℕ × List ℕ × List ℕ
 outDrop t b o = (handed 1 sizeField (answerOf o) .0, handed 1 sizeField (answerOf o) .1, dropping.tableAfter t o, dropping.bufferAfter b o)
+
+-- the nine numbers of a report; and the table after the call
+abbrev pub totalsFields : Totals → List ℕ
+totalsFields τ =
+    τ .taken ∷ τ .refused ∷ τ .headers ∷ τ .records ∷ τ .bytes ∷ τ .largest .length ∷ τ .largest .stream ∷ τ .largest .index ∷ τ .rows ∷ []
+
+abbrev pub outReport : List ℕ → Answer Report → ℕ × List ℕ × List ℕ
+outReport t a = (handed 9 totalsFields (totalsIn a) .0, handed 9 totalsFields (totalsIn a) .1, reporting.tableAfter t a)

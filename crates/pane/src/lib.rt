@@ -1,6 +1,6 @@
 // The debugger's pane: header, next, update, find and primitive for a caller that is written in C (or in anything that calls C), through plain
 // numbers and byte slices, R-14 of document 02; and beside them the places of a finder kept in a file, R-3 and R-10, whether a stream is fit to bind,
-// R-9, and the stream of what some roots reach, R-13. c/pdb.h declares all for C, rust/ wraps the five for Rust.
+// R-9, the stream of what some roots reach, R-13, and a report over streams, R-12. c/pdb.h declares all for C, rust/ wraps the five for Rust.
 //
 // The result is the number of 01 or 02, 0 for an answer. Behind `out`, which is written whole by every call: the two detail values, then the
 // answer's fields, 0 where there is none. So what C gets is one value, and each contract is one equation between it and the definition that the
@@ -15,8 +15,9 @@ ghost use Rattle.stream_finder.specs.Finder.{updateOf, findOf};
 ghost use Rattle.stream_places.specs.Places.{loadWideOf, saveWideOf};
 ghost use Rattle.stream_fit.specs.Fit.{fitOf};
 ghost use Rattle.stream_drop.specs.Drop.{dropOf};
+ghost use Rattle.stream_report.specs.Report.{reportIn, addOf};
 ghost use Rattle.word_primitive.specs.Primitive.{primitiveOf};
-ghost use Rattle.pane.specs.Out.{bitsOf, headerFields, cursorAt, finderAt, typeAt, outHeader, outNext, outUpdate, outFind, outPrimitive, outLoad, outSave, outFit, outDrop};
+ghost use Rattle.pane.specs.Out.{bitsOf, headerFields, cursorAt, finderAt, typeAt, outHeader, outNext, outUpdate, outFind, outPrimitive, outLoad, outSave, outFit, outDrop, totalsAt, outReport};
 use answer::Details;
 use answer::Refusal;
 use field::index::Stream;
@@ -32,6 +33,9 @@ use stream_item::Entry;
 use stream_item::iter::ItemIter;
 use stream_item::iter::NextAnswer;
 use stream_places::SaveAnswer;
+use stream_report::Largest;
+use stream_report::ReportAnswer;
+use stream_report::Totals;
 use word_primitive::PrimitiveAnswer;
 
 // The first detail of a refusal, 0 where it has none.
@@ -361,6 +365,63 @@ pub extern "C" fn pdb_drop(
         }
         DropAnswer::Refused(e) => {
             *out = [first(e), second(e), 0];
+            e.number()
+        }
+    }
+}
+
+// A stream added to a report, which is nine numbers and a lent table of 64 rows of leaf, records and payload bytes. Behind `out`: the details, and the
+// nine numbers after it, in the order that they are given. At a refusal the table is as it was, and so is the report that the caller has.
+#[no_mangle]
+pub extern "C" fn pdb_report(
+    s: &[u8],
+    taken: u64,
+    refused: u64,
+    headers: u64,
+    records: u64,
+    bytes: u64,
+    length: u64,
+    stream: u64,
+    index: u32,
+    rows: u64,
+    table: &mut [u64; 192],
+    out: &mut [u64; 11],
+) -> u32
+    ensures { λ r. ⌜ (r, now (out .exit), now (table .exit)) ≡ outReport (now (table .entry)) (addOf (reportIn (totalsAt taken refused headers records bytes length stream index rows) (now (table .entry))) (now (s .entry))) ⌝ }
+{
+    let totals = Totals {
+        taken: taken,
+        refused: refused,
+        headers: headers,
+        records: records,
+        bytes: bytes,
+        largest: Largest {
+            length: length,
+            stream: stream,
+            index: index,
+        },
+        rows: rows,
+    };
+    match stream_report::add(totals, table, s) {
+        ReportAnswer::Added(t) => {
+            let largest = t.largest;
+            *out = [
+                0,
+                0,
+                t.taken,
+                t.refused,
+                t.headers,
+                t.records,
+                t.bytes,
+                largest.length,
+                largest.stream,
+                largest.index as u64,
+                t.rows,
+            ];
+            0
+        }
+        ReportAnswer::Refused(e) => {
+            *out = [first(e), second(e), 0, 0, 0, 0, 0, 0, 0, 0, 0];
             e.number()
         }
     }
