@@ -53,6 +53,7 @@ use Rattle.pane.proofs.pdb_header.Met as pane-pdb-header
 use Rattle.pane.proofs.pdb_load.Met as pane-pdb-load
 use Rattle.pane.proofs.pdb_next.Met as pane-pdb-next
 use Rattle.pane.proofs.pdb_primitive.Met as pane-pdb-primitive
+use Rattle.pane.proofs.pdb_report.Met as pane-pdb-report
 use Rattle.pane.proofs.pdb_save.Met as pane-pdb-save
 use Rattle.pane.proofs.pdb_update.Met as pane-pdb-update
 use Rattle.record_data.proofs.TypeData.name.Met as record-data-type-data-name
@@ -234,6 +235,7 @@ tied = record {
   pane-pdb-save = record { says = λ M 𝓤 H A mem run. refl; meets = λ M. pane-pdb-save.met };
   pane-pdb-fit = record { says = λ M 𝓤 H A mem run. refl; meets = λ M. pane-pdb-fit.met };
   pane-pdb-drop = record { says = λ M 𝓤 H A mem run. refl; meets = λ M. pane-pdb-drop.met };
+  pane-pdb-report = record { says = λ M 𝓤 H A mem run. refl; meets = λ M. pane-pdb-report.met };
   record-data-type-data-name = record { says = λ M 𝓤 H A mem run. refl; meets = λ M. record-data-type-data-name.met };
   record-data-type-data = record { says = λ M 𝓤 H A mem run. refl; meets = λ M. record-data-type-data.met };
   record-id-id-data = record { says = λ M 𝓤 H A mem run. refl; meets = λ M. record-id-id-data.met };

@@ -105,6 +105,8 @@ use Rattle.pane.proofs.pdb_next as pane-pdb-next-source
 use Rattle.pane.proofs.pdb_next.Symbol as pane-pdb-next-code
 use Rattle.pane.proofs.pdb_primitive as pane-pdb-primitive-source
 use Rattle.pane.proofs.pdb_primitive.Symbol as pane-pdb-primitive-code
+use Rattle.pane.proofs.pdb_report as pane-pdb-report-source
+use Rattle.pane.proofs.pdb_report.Symbol as pane-pdb-report-code
 use Rattle.pane.proofs.pdb_save as pane-pdb-save-source
 use Rattle.pane.proofs.pdb_save.Symbol as pane-pdb-save-code
 use Rattle.pane.proofs.pdb_update as pane-pdb-update-source
@@ -463,6 +465,8 @@ pub record Tied : Type 2 where
   pub pane-pdb-fit : Tie pane-pdb-fit-source.ended (λ M. pane-pdb-fit-source.clauses) pane-pdb-fit-code.routine (λ κs a r e. contract.pane-pdb-fit (now (a .0)) r (now (e .1 .0)))
   -- pane::pdb_drop
   pub pane-pdb-drop : Tie pane-pdb-drop-source.ended (λ M. pane-pdb-drop-source.clauses) pane-pdb-drop-code.routine (λ κs a r e. contract.pane-pdb-drop (now (a .0)) (now (a .1 .0)) (now (a .1 .1 .0)) (now (a .1 .1 .1 .0)) r (now (e .1 .1 .0)) (now (e .1 .1 .1 .0)) (now (e .1 .1 .1 .1 .0)))
+  -- pane::pdb_report
+  pub pane-pdb-report : Tie pane-pdb-report-source.ended (λ M. pane-pdb-report-source.clauses) pane-pdb-report-code.routine (λ κs a r e. contract.pane-pdb-report (now (a .0)) (a .1 .0) (a .1 .1 .0) (a .1 .1 .1 .0) (a .1 .1 .1 .1 .0) (a .1 .1 .1 .1 .1 .0) (a .1 .1 .1 .1 .1 .1 .0) (a .1 .1 .1 .1 .1 .1 .1 .0) (a .1 .1 .1 .1 .1 .1 .1 .1 .0) (a .1 .1 .1 .1 .1 .1 .1 .1 .1 .0) (now (a .1 .1 .1 .1 .1 .1 .1 .1 .1 .1 .0)) r (now (e .1 .1 .1 .1 .1 .1 .1 .1 .1 .1 .0)) (now (e .1 .1 .1 .1 .1 .1 .1 .1 .1 .1 .1 .0)))
   -- record_data::TypeData::name
   pub record-data-type-data-name : Tie record-data-type-data-name-source.ended (λ M. record-data-type-data-name-source.clauses) record-data-type-data-name-code.routine (λ κs a r e. contract.record-data-type-data-name (a .0) r)
   -- record_data::type_data

@@ -110,6 +110,7 @@ answers = record {
   pane-pdb-save = λ s table minimum maximum held shift buffer r buffer′ out′ it. it;
   pane-pdb-fit = λ s r out′ it. it;
   pane-pdb-drop = λ s roots table buffer r table′ buffer′ out′ it. it;
+  pane-pdb-report = λ s taken refused headers records bytes length stream index rows table r table′ out′ it. it;
   pane-pdb-find = λ s table minimum maximum held shift index r out′ it. it;
   pane-pdb-primitive = λ index r out′ it. it;
   word-attributes-type-properties-packed = λ self Q q r it. along Q (it ∙ sym (ap (place 0) (demand2 .type-flags (self .0)))) q;

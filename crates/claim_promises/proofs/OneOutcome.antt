@@ -143,6 +143,7 @@ one-outcome = record {
   pane-pdb-save = λ s table minimum maximum held shift buffer. one-out-table _;
   pane-pdb-fit = λ s. one-out _;
   pane-pdb-drop = λ s roots table buffer. one-out-both _;
+  pane-pdb-report = λ s taken refused headers records bytes length stream index rows table. one-out-table _;
   pane-pdb-find = λ s table minimum maximum held shift index. one-out _;
   pane-pdb-primitive = λ index. one-out _;
   record-data-type-data-name = λ self r q a b. one-type-name r q (a ∙ sym b);

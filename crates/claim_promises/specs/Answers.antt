@@ -17,7 +17,7 @@ use Rattle.field.specs.declared.index.Stream.{Stream}
 use Rattle.field.specs.declared.index.TypeIndex.{TypeIndex}
 use Rattle.field_number.specs.Forms.{numeralAt, saidSize as saidSize-of-field-number, saidVariant, sizedAt}
 use Rattle.field_text.specs.Texts.{paddingAfter, saidString, stringAt, stringOf}
-use Rattle.pane.specs.Out.{cursorAt, finderAt, outDrop, outFind, outFit, outHeader, outLoad, outNext, outPrimitive, outSave, outUpdate, typeAt}
+use Rattle.pane.specs.Out.{cursorAt, finderAt, outDrop, outFind, outFit, outHeader, outLoad, outNext, outPrimitive, outReport, outSave, outUpdate, totalsAt, typeAt}
 use Rattle.record_data.specs.Said.{saidTypeData, typeValues}
 use Rattle.record_data.specs.declared.TypeData.{TypeData}
 use Rattle.record_id.specs.Said.{idValues, saidIdData}
@@ -195,6 +195,9 @@ pub record Answers : Type 1 where
   pub pane-pdb-fit : (s : List ℕ) (r : ℕ) (out′ : List ℕ) → contract.pane-pdb-fit s r out′ → (r, out′) ≡ outFit (fitOf s)
   pub pane-pdb-drop : (s : List ℕ) (roots : List ℕ) (table : List ℕ) (buffer : List ℕ) (r : ℕ) (table′ : List ℕ) (buffer′ : List ℕ) (out′ : List ℕ)
       → contract.pane-pdb-drop s roots table buffer r table′ buffer′ out′ → (r, out′, table′, buffer′) ≡ outDrop table buffer (dropOf s roots (length table) (length buffer))
+  pub pane-pdb-report : (s : List ℕ) (taken : ℕ) (refused : ℕ) (headers : ℕ) (records : ℕ) (bytes : ℕ) (length : ℕ) (stream : ℕ) (index : ℕ) (rows : ℕ) (table : List ℕ) (r : ℕ) (table′ : List ℕ) (out′ : List ℕ)
+      → contract.pane-pdb-report s taken refused headers records bytes length stream index rows table r table′ out′
+      → (r, out′, table′) ≡ outReport table (addOf (reportIn (totalsAt taken refused headers records bytes length stream index rows) table) s)
   pub pane-pdb-find : (s : List ℕ) (table : List ℕ) (minimum : ℕ) (maximum : ℕ) (held : ℕ) (shift : ℕ) (index : ℕ) (r : ℕ) (out′ : List ℕ) → contract.pane-pdb-find s table minimum maximum held shift index r out′ → (r, out′) ≡ outFind (findOf s (finderAt minimum maximum held shift table) (typeAt index))
   pub pane-pdb-primitive : (index : ℕ) (r : ℕ) (out′ : List ℕ) → contract.pane-pdb-primitive index r out′ → (r, out′) ≡ outPrimitive index (primitiveOf index)
   -- attribute words: the crate's own methods

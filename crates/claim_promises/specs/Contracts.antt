@@ -61,7 +61,7 @@ use Rattle.field_text.specs.Texts.{paddingAfter, part, saidString, stringAt, st
 use Rattle.field_text.specs.declared.OptString.{OptString}
 use Rattle.field_text.specs.declared.RawString.{RawString}
 use Rattle.field_text.specs.declared.ReadString.{ReadString}
-use Rattle.pane.specs.Out.{cursorAt, finderAt, outDrop, outFind, outFit, outHeader, outLoad, outNext, outPrimitive, outSave, outUpdate, typeAt}
+use Rattle.pane.specs.Out.{cursorAt, finderAt, outDrop, outFind, outFit, outHeader, outLoad, outNext, outPrimitive, outReport, outSave, outUpdate, totalsAt, typeAt}
 use Rattle.record_data.specs.Said.{saidTypeData, stringValue, typeName, typeValues}
 use Rattle.record_data.specs.declared.TypeAnswer.{TypeAnswer}
 use Rattle.record_data.specs.declared.TypeData.{TypeData}
@@ -380,6 +380,10 @@ pane-pdb-fit s r out′ = (r, out′) ≡ outFit (fitOf s)
 -- pane::pdb_drop
 abbrev pub pane-pdb-drop : (s : List ℕ) (roots : List ℕ) (table : List ℕ) (buffer : List ℕ) → ℕ → List ℕ → List ℕ → List ℕ → Type 0
 pane-pdb-drop s roots table buffer r table′ buffer′ out′ = (r, out′, table′, buffer′) ≡ outDrop table buffer (dropOf s roots (length table) (length buffer))
+
+-- pane::pdb_report
+abbrev pub pane-pdb-report : (s : List ℕ) (taken : ℕ) (refused : ℕ) (headers : ℕ) (records : ℕ) (bytes : ℕ) (length : ℕ) (stream : ℕ) (index : ℕ) (rows : ℕ) (table : List ℕ) → ℕ → List ℕ → List ℕ → Type 0
+pane-pdb-report s taken refused headers records bytes length stream index rows table r table′ out′ = (r, out′, table′) ≡ outReport table (addOf (reportIn (totalsAt taken refused headers records bytes length stream index rows) table) s)
 
 -- record_data::TypeData::name
 abbrev pub record-data-type-data-name : (self : TypeData) → OptString → Type 0

@@ -2,6 +2,7 @@
 -- the answer and the memory after; where the answer holds a slice, what that holds, and the other fields. Written by tools/contracts.
 use Prim.Native.Nat.{ℕ}
 use denote.Ref.{RefT, now}
+use lib.ListN.{length}
 use mathlib.Core.List.{List}
 use mathlib.Core.Path.{_≡_}
 use Rattle.answer.specs.declared.Refusal.{Refusal}
@@ -121,6 +122,7 @@ pub record OneOutcome : Type 1 where
   pub pane-pdb-save : (s : List ℕ) (table : List ℕ) (minimum : ℕ) (maximum : ℕ) (held : ℕ) (shift : ℕ) (buffer : List ℕ) → OnceLentTwo (contract.pane-pdb-save s table minimum maximum held shift buffer)
   pub pane-pdb-fit : (s : List ℕ) → OnceLent (contract.pane-pdb-fit s)
   pub pane-pdb-drop : (s : List ℕ) (roots : List ℕ) (table : List ℕ) (buffer : List ℕ) → OnceLentThree (contract.pane-pdb-drop s roots table buffer)
+  pub pane-pdb-report : (s : List ℕ) (taken : ℕ) (refused : ℕ) (headers : ℕ) (records : ℕ) (bytes : ℕ) (length : ℕ) (stream : ℕ) (index : ℕ) (rows : ℕ) (table : List ℕ) → OnceLentTwo (contract.pane-pdb-report s taken refused headers records bytes length stream index rows table)
   -- record_data
   pub record-data-type-data-name : (self : TypeData) → Once (contract.record-data-type-data-name self)
   pub record-data-type-data : (s : List ℕ) → Once (contract.record-data-type-data s)
