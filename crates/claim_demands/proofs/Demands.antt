@@ -33,6 +33,7 @@ use Rattle.claim_promises.proofs.SectionsProof.{sections-refuse, sections-when}
 use Rattle.claim_promises.proofs.DeclareRefuses.{declare-when}
 use Rattle.claim_promises.proofs.Digits.{lengths-shown}
 use Rattle.claim_promises.proofs.Examples.{examples-hold}
+use Rattle.claim_promises.proofs.DeclareExamples.{declarations-hold}
 use Rattle.claim_promises.proofs.Answers.{answers}
 use Rattle.claim_promises.proofs.OneOutcome.{one-outcome}
 use Rattle.claim_demands.proofs.Tied.{tied}
@@ -79,6 +80,7 @@ demands = record {
   given-writing = writes-when;
   given-declarations = declare-when;
   lengths-shown = lengths-shown;
+  declarations-shown = declarations-hold;
   paged = tally-holds;
   five = same;
   of-runs = of-runs;

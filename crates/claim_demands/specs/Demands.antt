@@ -37,6 +37,7 @@ use Rattle.claim_promises.specs.Sections.{SectionsRefuse, SectionsWhen}
 use Rattle.claim_promises.specs.DeclareWhen.{DeclareWhen}
 use Rattle.claim_promises.specs.Digits.{LengthsShown}
 use Rattle.claim_promises.specs.Examples.{examples, asked, given as answers}
+use Rattle.claim_promises.specs.DeclareExamples.{declarations, declared, expected}
 use Rattle.claim_promises.specs.Answers.{Answers}
 use Rattle.claim_promises.specs.OneOutcome.{OneOutcome}
 use Rattle.claim_demands.specs.Tied.{Tied}
@@ -114,8 +115,10 @@ pub record Demands : Type 2 where
   -- document 02, R-5: "19 exactly if the bytes that the walk has fixed pass the room before another is met", and else the answer of "a definition that
   -- prints with no limit on room": DeclareWhen.antt
   pub given-declarations : DeclareWhen
-  -- and an array's length is printed whole, of every 64-bit number: Digits.antt
+  -- and an array's length is printed whole, in digits without a leading zero, of every 64-bit number: Digits.antt
   pub lengths-shown : LengthsShown
+  -- examples of declarations and of their refusals, together as one statement over their list: DeclareExamples.antt
+  pub declarations-shown : map declared declarations ≡ map expected declarations
   -- document 02, R-14: "the links passed for looking up each of c indices once, upward from the minimum": crates/pane/specs/Tally.antt; and that the
   -- five functions for C are enough: crates/pane/specs/Same.antt
   pub paged : Tally

@@ -19,6 +19,7 @@ pub mod WritesWhen
 pub mod Written
 pub mod Idle
 pub mod Examples
+pub mod DeclareExamples
 pub mod OneOutcome
 pub mod Answers
 pub mod RefusedBy
