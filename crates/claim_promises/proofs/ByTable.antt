@@ -41,7 +41,7 @@ both-true : (a b : Bool) → a ≡ true → b ≡ true → both a b ≡ true
 both-true true b p q = q
 both-true false b p q = p
 
-among-within : (n : ℕ) (ns ms : List ℕ) → within ns ms ≡ true → among n ns ≡ true → among n ms ≡ true
+pub among-within : (n : ℕ) (ns ms : List ℕ) → within ns ms ≡ true → among n ns ≡ true → among n ms ≡ true
 unfolding among within
 among-within n [] ms w p = let z : _≡_ {A = ℕ} 0 1 = cc in absurd (omega arith)
 among-within n (m ∷ ns) ms w p = go (eqb n m) refl (among-within n ns ms (both-second (among m ms) (within ns ms) w)) p

@@ -1,26 +1,27 @@
--- The numbers that a declaration is refused by, and when 19 is given. Assumes nothing.
+-- The numbers that a declaration is refused by, and when 16, 19, 23 and 24 are given. Assumes nothing.
 use Prim.Native.Nat.{ℕ, zero, suc, _+_, _*_, _≤_, _<_}
 use native.Mathlib.Omega.{arith}
 use mathlib.Core.Bool.{Bool, true, false, false≢true}
+use mathlib.Core.Logic.{_⊎_, inl, inr}
 use mathlib.Core.Path.{_≡_, refl, ap, sym, _∙_}
 use mathlib.Core.List.{List, [], _∷_, _++_}
 use mathlib.Core.Option.{Option, none, some}
 use lib.ListN.{length, take, drop}
 use lib.Dec.{ltb, leb, eqb}
-use borrow.Author.Tests.{lt-ltb, le-ltb, ltb-true, eqb-true}
-use Rattle.answer.specs.Answer.{Answer, answered, refused, Read, pick, stop, both}
-use Rattle.answer.specs.Tables.{Line, _is_, among}
+use borrow.Author.Tests.{lt-ltb, le-ltb, le-leb, ltb-true, ltb-false, leb-true, eqb-true}
+use Rattle.answer.specs.Answer.{Answer, answered, refused, Read, Got, got, and-then, pick, stop, both}
+use Rattle.answer.specs.Tables.{Line, _is_, find, among}
 use Rattle.answer.specs.Refusals.{numberOf, detailsOf, no, Named, plain, one, two, refusals, filled, inTable, listed}
 use Rattle.answer.proofs.OneOutcome.{in-table}
 use Rattle.answer.specs.declared.Refusal.{Refusal}
 use Rattle.answer.specs.declared.Refusal.the-variants as refusal
-use Rattle.field.specs.Fields.{fixedAt}
+use Rattle.field.specs.Fields.{littleAt, fixedAt}
 use Rattle.field.specs.declared.index.TypeIndex.{TypeIndex}
 use Rattle.word_primitive.specs.Primitive.{primitiveOf}
 use Rattle.word_primitive.specs.declared.PrimitiveType.{PrimitiveType}
-use Rattle.record_layout.specs.Fields.{Shown, number, numeral, absent, many}
+use Rattle.record_layout.specs.Fields.{Shown, number, numeral, absent, many, readFields}
 use Rattle.record_layout.specs.Values.{nth}
-use Rattle.record_layout.specs.Layouts.{typeLeaves, recordOf}
+use Rattle.record_layout.specs.Layouts.{Layout, byLayout, typeLeaves, readLeaf, leafOf, recordOf}
 use Rattle.stream_header.specs.Header.{longest}
 use Rattle.field.specs.declared.index.ItemIndex.the-variants as index
 use Rattle.stream_item.specs.declared.Entry.{Entry}
@@ -42,8 +43,10 @@ use Rattle.declare_walk.specs.Walk.{Walked, printed, stopped, onto, joined, res
 use Rattle.declare_type.specs.declared.DeclareAnswer.{DeclareAnswer}
 use Rattle.declare_type.specs.Declares.{textIn, declareOf, saidDeclare, lengthOf, bufferAfter, Declares}
 use Rattle.claim_promises.specs.ByTable.{Links, fits, linksFit, By, gives, refuses}
-use Rattle.claim_promises.specs.DeclareWhen.{fixedBy, unlimited, DeclareWhen}
-use Rattle.claim_promises.proofs.ByTable.{within, both-first, both-second, wider}
+use Rattle.claim_promises.specs.Given.{by, Given}
+use Rattle.claim_promises.specs.DeclareWhen.{fixedBy, unlimited, Visits, Fault, too-deep, its-own, its-lists, Meets, StopsBy, TooDeep, EntryOther, FoundOther, OtherLeaf, NotPrinted, other-leaf, no-list, other-list, OtherMet, HasRoom, DeclareWhen}
+use Rattle.claim_promises.proofs.ByTable.{within, among-within, both-first, both-second, wider}
+use Rattle.claim_promises.proofs.DeclarePaths.{printing, stopping, printed-has, stopped-meets}
 use Rattle.claim_promises.proofs.StreamRefuses.{primitive-refuses, find-refuses, type-refuses}
 
 -- ---- a line of the table has its own number
@@ -92,138 +95,259 @@ all-right =
 
 -- ---- what a walk is refused by: the lookup's numbers, the readers', 23 and 24
 
+abbrev ofLookups : List ℕ
+ofLookups = 16 ∷ 26 ∷ 13 ∷ 8 ∷ 9 ∷ 1 ∷ 10 ∷ 11 ∷ 12 ∷ []
+
 abbrev pub ofWalks : List ℕ
 ofWalks = 16 ∷ 26 ∷ 13 ∷ 8 ∷ 9 ∷ 1 ∷ 10 ∷ 11 ∷ 12 ∷ 23 ∷ 24 ∷ []
+
+record Low (e : Refusal) : Type 0 where
+  pub low : among (numberOf e) ofLookups ≡ true
 
 record Good (e : Refusal) : Type 0 where
   pub good : among (numberOf e) ofWalks ≡ true
 
-good-named : (n : ℕ) (d : List ℕ) → listed n d ≡ true → among n ofWalks ≡ true → Good (orEnded (inTable refusals n d))
+low-named : (n : ℕ) (d : List ℕ) → listed n d ≡ true → among n ofLookups ≡ true → Low (orEnded (inTable refusals n d))
 unfolding listed
-good-named n d l a = go (inTable refusals n d) refl where
-  go : (o : Option Refusal) → inTable refusals n d ≡ o → Good (orEnded (inTable refusals n d))
+low-named n d l a = go (inTable refusals n d) refl where
+  go : (o : Option Refusal) → inTable refusals n d ≡ o → Low (orEnded (inTable refusals n d))
   go none f = absurd (false≢true (rw f at l))
-  go (some e) f = rw f (record { good = rw (named-right refusals all-right n d e f) a })
+  go (some e) f = rw f (record { low = rw (named-right refusals all-right n d e f) a })
 
-good-by : (l : Links) (n : ℕ) (d : List ℕ) → fits l ofWalks n d ≡ true → Good (orEnded (inTable refusals n d))
+low-by : (l : Links) (n : ℕ) (d : List ℕ) → fits l ofLookups n d ≡ true → Low (orEnded (inTable refusals n d))
 unfolding fits
-good-by l n d p =
-    good-named n d (both-first (listed n d) (linksFit l n d) (both-second (among n ofWalks) (both (listed n d) (linksFit l n d)) p))
-    (both-first (among n ofWalks) (both (listed n d) (linksFit l n d)) p)
+low-by l n d p =
+    low-named n d (both-first (listed n d) (linksFit l n d) (both-second (among n ofLookups) (both (listed n d) (linksFit l n d)) p))
+    (both-first (among n ofLookups) (both (listed n d) (linksFit l n d)) p)
 
-good-ended : Good refusal.Ended
+low-ended : Low refusal.Ended
 unfolding among
-good-ended = record { good = refl }
+low-ended = record { low = refl }
 
-good-leaf : Good refusal.LeafNotPrinted
-unfolding among
-good-leaf = record { good = refl }
+-- one of those numbers, or 24 where it is due
+abbrev Reason : Type 0 → Refusal → Type 0
+Reason O e = Low e ⊎ ((e ≡ refusal.LeafNotPrinted) × O)
 
--- ---- lookups
-
-abbrev GoodSeen : Seen → Type 0
-GoodSeen (numbered p) = Unit
-GoodSeen (held p n vs) = Unit
-GoodSeen (nothing e) = Good e
-
-seen-pick : (b : Bool) (x y : Seen) → GoodSeen x → GoodSeen y → GoodSeen (pick b x y)
-seen-pick true x y p q = p
-seen-pick false x y p q = q
-
-primitive-seen : {l : Links} (a : Answer PrimitiveType) → By l ofWalks a → GoodSeen (asPrimitive a)
-primitive-seen (answered p) h = tt
-primitive-seen {l = l} (refused n d) (refuses p) = good-by l n d p
-
-record-seen : {l : Links} (p n : ℕ) (a : Answer (List Shown)) → By l ofWalks a → GoodSeen (asRecord p n a)
-record-seen p n (answered vs) h = tt
-record-seen {l = l} p n (refused k d) (refuses q) = good-by l k d q
-
-leaf-seen : (leaves : List ℕ) (p n : ℕ) (b : List ℕ) (r : Read ℕ) → GoodSeen (byLeaf leaves p n b r)
+reason-good : (O : Type 0) (e : Refusal) → Reason O e → Good e
 unfolding among within
-leaf-seen leaves p n b (answered g) =
-    seen-pick (among (g .value) leaves) (asRecord p n (recordOf typeLeaves b)) (nothing refusal.LeafNotPrinted)
-    (record-seen p n (recordOf typeLeaves b) (wider refl (type-refuses b))) good-leaf
-leaf-seen leaves p n b (refused k d) = good-ended
+reason-good O e (inl l) = record { good = among-within (numberOf e) ofLookups ofWalks refl (l .low) }
+reason-good O e (inr h) = rw (h .0) (record { good = refl })
 
-entry-seen : (leaves s : List ℕ) (e : Entry) → GoodSeen (entrySeen leaves s e)
+-- 24 is no other than where it is due
+due : (O : Type 0) (e : Refusal) → Reason O e → numberOf e ≡ 24 → O
+unfolding among
+due O e (inl l) h = absurd (false≢true (rw h at (l .low)))
+due O e (inr x) h = x .1
+
+not-23 : (O : Type 0) (e : Refusal) → Reason O e → numberOf e ≡ 23 → ⊥
+unfolding among
+not-23 O e (inl l) h = false≢true (rw h at (l .low))
+not-23 O e (inr x) h = let z : _≡_ {A = ℕ} 24 23 = ap numberOf (sym (x .0)) ∙ h in absurd (omega arith)
+
+-- ---- lookups: what is held has one of the leaves
+
+abbrev SeenRight : Type 0 → List ℕ → Seen → Type 0
+SeenRight O leaves (numbered p) = Unit
+SeenRight O leaves (held p n vs) = among (leafIn vs) leaves ≡ true
+SeenRight O leaves (nothing e) = Reason O e
+
+primitive-seen : {l : Links} (O : Type 0) (leaves : List ℕ) (a : Answer PrimitiveType) → By l ofLookups a → SeenRight O leaves (asPrimitive a)
+primitive-seen O leaves (answered p) h = tt
+primitive-seen {l = l} O leaves (refused n d) (refuses p) = inl (low-by l n d p)
+
+-- what a record's reader answers has the record's leaf first
+abbrev LeafFirst : ℕ → Answer (List Shown) → Type 0
+LeafFirst leaf (answered vs) = leafIn vs ≡ leaf
+LeafFirst leaf (refused n d) = Unit
+
+layout-first : (o : Option Layout) (leaf : ℕ) (b : List ℕ) (p : ℕ) → LeafFirst leaf (and-then (byLayout o leaf b p) (λ vs e. answered vs))
+layout-first none leaf b p = tt
+layout-first (some fs) leaf b p = go (readFields fs 0 b p) where
+  go : (r : Read (List Shown)) → LeafFirst leaf (and-then (and-then r (λ vs e. got (number leaf ∷ vs) e)) (λ vs e. answered vs))
+  go (answered g) = refl
+  go (refused n d) = tt
+
+record-first : (b : List ℕ) (g : Got ℕ) → fixedAt 2 b 0 ≡ answered g → LeafFirst (g .value) (recordOf typeLeaves b)
+unfolding recordOf leafOf readLeaf
+record-first b g h = rw h (layout-first (find (g .value) typeLeaves) (g .value) b (g .next))
+
+record-seen : {l : Links} (O : Type 0) (leaves : List ℕ) (leaf p n : ℕ) (a : Answer (List Shown))
+    → among leaf leaves ≡ true → LeafFirst leaf a → By l ofLookups a → SeenRight O leaves (asRecord p n a)
+record-seen O leaves leaf p n (answered vs) m f h = rw f m
+record-seen {l = l} O leaves leaf p n (refused k d) m f (refuses q) = inl (low-by l k d q)
+
+-- a payload's leaf is there, and is none of these
+abbrev LeafElse : List ℕ → List ℕ → Type 0
+LeafElse leaves b = (2 ≤ length b) × (among (littleAt 2 b 0) leaves ≡ false)
+
+leaf-seen : (leaves : List ℕ) (p n : ℕ) (b : List ℕ) → SeenRight (LeafElse leaves b) leaves (byLeaf leaves p n b (fixedAt 2 b 0))
+unfolding fixedAt among within
+leaf-seen leaves p n b = go (leb 2 (length b)) refl where
+  more : (c : Bool) → among (littleAt 2 b 0) leaves ≡ c → 2 ≤ length b → fixedAt 2 b 0 ≡ got (littleAt 2 b 0) 2
+      → SeenRight (LeafElse leaves b) leaves (pick c (asRecord p n (recordOf typeLeaves b)) (nothing refusal.LeafNotPrinted))
+  more true e k f =
+      record-seen (LeafElse leaves b) leaves (littleAt 2 b 0) p n (recordOf typeLeaves b) e (record-first b _ f) (wider refl (type-refuses b))
+  more false e k f = inr (refl, (k, e))
+
+  go : (c : Bool) → leb 2 (length b) ≡ c → SeenRight (LeafElse leaves b) leaves (byLeaf leaves p n b (fixedAt 2 b 0))
+  go true e = rw e (more (among (littleAt 2 b 0) leaves) refl (leb-true 2 (length b) e) (rw e))
+  go false e = rw e (inl low-ended)
+
+seen-as : (O P : Type 0) (leaves : List ℕ) (v : Seen) → (O → P) → SeenRight O leaves v → SeenRight P leaves v
+seen-as O P leaves (numbered p) f h = tt
+seen-as O P leaves (held p n vs) f h = h
+seen-as O P leaves (nothing e) f (inl h) = inl h
+seen-as O P leaves (nothing e) f (inr h) = inr (h .0, f (h .1))
+
+bytes-seen : (leaves s : List ℕ) (p n : ℕ) (b : List ℕ) (c : Bool) → ltb (length s) (p + n) ≡ c
+    → SeenRight ((p + n ≤ length s) × (2 ≤ length b) × (among (littleAt 2 b 0) leaves ≡ false)) leaves (pick c (nothing refusal.Ended) (byLeaf leaves p n b (fixedAt 2 b 0)))
+bytes-seen leaves s p n b true e = inl low-ended
+bytes-seen leaves s p n b false e =
+    seen-as (LeafElse leaves b) ((p + n ≤ length s) × (2 ≤ length b) × (among (littleAt 2 b 0) leaves ≡ false)) leaves (byLeaf leaves p n b (fixedAt 2 b 0))
+    (λ x. (ltb-false (length s) (p + n) e, x .0, x .1)) (leaf-seen leaves p n b)
+
+entry-seen : (leaves s : List ℕ) (e : Entry) → SeenRight (EntryOther leaves s e) leaves (entrySeen leaves s e)
 unfolding bytesSeen
 entry-seen leaves s (entry.Record m) =
-    seen-pick (ltb (length s) (m .place + m .length)) (nothing refusal.Ended) _ good-ended
-    (leaf-seen leaves (m .place) (m .length) (take (m .length) (drop (m .place) s)) (fixedAt 2 (take (m .length) (drop (m .place) s)) 0))
-entry-seen leaves s (entry.Marker m) = good-leaf
+    bytes-seen leaves s (m .place) (m .length) (take (m .length) (drop (m .place) s)) (ltb (length s) (m .place + m .length)) refl
+entry-seen leaves s (entry.Marker m) = inr (refl, tt)
 
-found-seen : {l : Links} (leaves s : List ℕ) (a : Answer Found) → By l ofWalks a → GoodSeen (foundSeen leaves s a)
+found-seen : {l : Links} (leaves s : List ℕ) (a : Answer Found) → By l ofLookups a → SeenRight (FoundOther leaves s a) leaves (foundSeen leaves s a)
 found-seen leaves s (answered f) h = entry-seen leaves s (f .entry)
-found-seen {l = l} leaves s (refused n d) (refuses p) = good-by l n d p
+found-seen {l = l} leaves s (refused n d) (refuses p) = inl (low-by l n d p)
 
-record-of-seen : (leaves s : List ℕ) (σ : State) (i : ℕ) → GoodSeen (recordSeen leaves s σ i)
+record-of-seen : (leaves s : List ℕ) (σ : State) (i : ℕ) → SeenRight (OtherLeaf leaves s σ i) leaves (recordSeen leaves s σ i)
 unfolding recordSeen among within
 record-of-seen leaves s σ i =
     found-seen leaves s (findOf s σ (index.Types (record { 0 = i }))) (wider refl (find-refuses s σ (index.Types (record { 0 = i }))))
 
-type-seen : (s : List ℕ) (σ : State) (i : ℕ) → GoodSeen (typeSeen s σ i)
+type-seen : (s : List ℕ) (σ : State) (i : ℕ) → SeenRight ((0x1000 ≤ i) × OtherLeaf declaredLeaves s σ i) declaredLeaves (typeSeen s σ i)
 unfolding typeSeen among within
-type-seen s σ i =
-    seen-pick (ltb i 0x1000) (asPrimitive (primitiveOf i)) (recordSeen declaredLeaves s σ i) (primitive-seen (primitiveOf i) (wider refl (primitive-refuses i)))
-    (record-of-seen declaredLeaves s σ i)
+type-seen s σ i = go (ltb i 0x1000) refl where
+  go : (c : Bool) → ltb i 0x1000 ≡ c
+      → SeenRight ((0x1000 ≤ i) × OtherLeaf declaredLeaves s σ i) declaredLeaves (pick c (asPrimitive (primitiveOf i)) (recordSeen declaredLeaves s σ i))
+  go true e = primitive-seen _ declaredLeaves (primitiveOf i) (wider refl (primitive-refuses i))
+  go false e =
+      seen-as (OtherLeaf declaredLeaves s σ i) _ declaredLeaves (recordSeen declaredLeaves s σ i) (λ x. (ltb-false i 0x1000 e, x)) (record-of-seen declaredLeaves s σ i)
 
-list-seen : (s : List ℕ) (σ : State) (i : ℕ) → GoodSeen (listSeen s σ i)
+abbrev ListOther : List ℕ → State → ℕ → Type 0
+ListOther s σ i = (i < 0x1000) ⊎ ((0x1000 ≤ i) × OtherLeaf listLeaves s σ i)
+
+list-seen : (s : List ℕ) (σ : State) (i : ℕ) → SeenRight (ListOther s σ i) listLeaves (listSeen s σ i)
 unfolding listSeen
-list-seen s σ i = seen-pick (ltb i 0x1000) (nothing refusal.LeafNotPrinted) (recordSeen listLeaves s σ i) good-leaf (record-of-seen listLeaves s σ i)
+list-seen s σ i = go (ltb i 0x1000) refl where
+  go : (c : Bool) → ltb i 0x1000 ≡ c → SeenRight (ListOther s σ i) listLeaves (pick c (nothing refusal.LeafNotPrinted) (recordSeen listLeaves s σ i))
+  go true e = inr (refl, inl (ltb-true i 0x1000 e))
+  go false e =
+      seen-as (OtherLeaf listLeaves s σ i) (ListOther s σ i) listLeaves (recordSeen listLeaves s σ i) (λ x. inr (ltb-false i 0x1000 e, x)) (record-of-seen listLeaves s σ i)
 
 -- ---- nodes and lists
 
-abbrev GoodNode : Node → Type 0
-GoodNode (node.Primitive k y) = Unit
-GoodNode (node.Named p n) = Unit
-GoodNode (node.Pointer i m q) = Unit
-GoodNode (node.Modifier i q) = Unit
-GoodNode (node.Array i e) = Unit
-GoodNode (node.Procedure i j) = Unit
-GoodNode (node.Refused e) = Good e
+abbrev NodeRight : Type 0 → Node → Type 0
+NodeRight O (node.Primitive k y) = Unit
+NodeRight O (node.Named p n) = Unit
+NodeRight O (node.Pointer i m q) = Unit
+NodeRight O (node.Modifier i q) = Unit
+NodeRight O (node.Array i e) = Unit
+NodeRight O (node.Procedure i j) = Unit
+NodeRight O (node.Refused e) = Reason O e
 
-node-pick : (b : Bool) (x y : Node) → GoodNode x → GoodNode y → GoodNode (pick b x y)
-node-pick true x y p q = p
-node-pick false x y p q = q
+node-pick : (O : Type 0) (b : Bool) (x y : Node) → NodeRight O x → (b ≡ false → NodeRight O y) → NodeRight O (pick b x y)
+node-pick O true x y p q = p
+node-pick O false x y p q = q refl
 
-name-good : (p n : ℕ) (v : Shown) → GoodNode (nameIn p n v)
-name-good p n (many x) = node-pick (leb (x .place + x .length) n) (node.Named (p + x .place) (x .length)) (node.Refused refusal.Ended) tt good-ended
-name-good p n (number k) = good-ended
-name-good p n (numeral z f) = good-ended
-name-good p n absent = good-ended
+name-right : (O : Type 0) (p n : ℕ) (v : Shown) → NodeRight O (nameIn p n v)
+name-right O p n (many x) = node-pick O (leb (x .place + x .length) n) (node.Named (p + x .place) (x .length)) (node.Refused refusal.Ended) tt (λ e. inl low-ended)
+name-right O p n (number k) = inl low-ended
+name-right O p n (numeral z f) = inl low-ended
+name-right O p n absent = inl low-ended
 
-node-good : (s : List ℕ) (σ : State) (v : Seen) → GoodSeen v → GoodNode (nodeBy s σ v)
+-- a leaf among those that have a declaration is one of those that have a node
+no-other : (v : ℕ) → among v declaredLeaves ≡ true → eqb v 0x1001 ≡ false → eqb v 0x1002 ≡ false → eqb v 0x1008 ≡ false → eqb v 0x1503 ≡ false → eqb v 0x1506 ≡ false
+    → eqb v 0x1507 ≡ false → eqb v 0x1609 ≡ false → among v classes ≡ false → ⊥
+unfolding among declaredLeaves classes
+no-other v h a b c d e f g k = go (eqb v 0x1504) refl (eqb v 0x1505) refl (eqb v 0x1519) refl where
+  go : (x : Bool) → eqb v 0x1504 ≡ x → (y : Bool) → eqb v 0x1505 ≡ y → (z : Bool) → eqb v 0x1519 ≡ z → ⊥
+  go true i y j z l = false≢true (sym (rw i at k))
+  go false i true j z l = false≢true (sym (rw (i, j) at k))
+  go false i false j true l = false≢true (sym (rw (i, j, l) at k))
+  go false i false j false l = false≢true (rw (a, b, c, d, i, j, l, e, f, g) at h)
+
+node-right : (O : Type 0) (s : List ℕ) (σ : State) (v : Seen) → SeenRight O declaredLeaves v → NodeRight O (nodeBy s σ v)
 unfolding nodeIn
-node-good s σ (numbered p) h = tt
-node-good s σ (held p n vs) h =
-    node-pick (eqb (leafIn vs) 0x1001) _ _ tt
-    (node-pick (eqb (leafIn vs) 0x1002) _ _ tt
-    (node-pick (eqb (leafIn vs) 0x1008) _ _ tt
-    (node-pick (eqb (leafIn vs) 0x1503) _ _ tt
-    (node-pick (eqb (leafIn vs) 0x1506) _ _ (name-good p n (nth 5 vs))
-    (node-pick (eqb (leafIn vs) 0x1507) _ _ (name-good p n (nth 5 vs))
-    (node-pick (eqb (leafIn vs) 0x1609) _ _ (name-good p n (nth 8 vs))
-    (node-pick (among (leafIn vs) classes) _ _ (name-good p n (nth 7 vs)) good-leaf)))))))
-node-good s σ (nothing e) h = h
+node-right O s σ (numbered p) h = tt
+node-right O s σ (held p n vs) h =
+    node-pick O (eqb (leafIn vs) 0x1001) _ _ tt
+    (λ a. node-pick O (eqb (leafIn vs) 0x1002) _ _ tt
+    (λ b. node-pick O (eqb (leafIn vs) 0x1008) _ _ tt
+    (λ c. node-pick O (eqb (leafIn vs) 0x1503) _ _ tt
+    (λ d. node-pick O (eqb (leafIn vs) 0x1506) _ _ (name-right O p n (nth 5 vs))
+    (λ e. node-pick O (eqb (leafIn vs) 0x1507) _ _ (name-right O p n (nth 5 vs))
+    (λ f. node-pick O (eqb (leafIn vs) 0x1609) _ _ (name-right O p n (nth 8 vs))
+    (λ g. node-pick O (among (leafIn vs) classes) _ _ (name-right O p n (nth 7 vs)) (λ k. absurd (no-other (leafIn vs) h a b c d e f g k)))))))))
+node-right O s σ (nothing e) h = h
 
-abbrev GoodList : Arguments → Type 0
-GoodList (arguments.At p n) = Unit
-GoodList (arguments.Refused e) = Good e
+abbrev ListRight : Type 0 → Arguments → Type 0
+ListRight O (arguments.At p n) = Unit
+ListRight O (arguments.Refused e) = Reason O e
 
-list-pick : (b : Bool) (x y : Arguments) → GoodList x → GoodList y → GoodList (pick b x y)
-list-pick true x y p q = p
-list-pick false x y p q = q
+list-pick : (O : Type 0) (b : Bool) (x y : Arguments) → ListRight O x → (b ≡ false → ListRight O y) → ListRight O (pick b x y)
+list-pick O true x y p q = p
+list-pick O false x y p q = q refl
 
-list-in-good : (p n k : ℕ) (v : Shown) → GoodList (listIn p n k v)
-list-in-good p n k (many x) = list-pick (leb (x .place + 4 * k) n) (arguments.At (p + x .place) k) (arguments.Refused refusal.Ended) tt good-ended
-list-in-good p n k (number j) = good-ended
-list-in-good p n k (numeral z f) = good-ended
-list-in-good p n k absent = good-ended
+list-in-right : (O : Type 0) (p n k : ℕ) (v : Shown) → ListRight O (listIn p n k v)
+list-in-right O p n k (many x) = list-pick O (leb (x .place + 4 * k) n) (arguments.At (p + x .place) k) (arguments.Refused refusal.Ended) tt (λ e. inl low-ended)
+list-in-right O p n k (number j) = inl low-ended
+list-in-right O p n k (numeral z f) = inl low-ended
+list-in-right O p n k absent = inl low-ended
 
-list-good : (v : Seen) → GoodSeen v → GoodList (listBy v)
-list-good (numbered p) h = good-leaf
-list-good (held p n vs) h = list-pick (eqb (leafIn vs) 0x1201) _ _ (list-in-good p n (num vs 1) (nth 2 vs)) good-leaf
-list-good (nothing e) h = h
+-- no list is a primitive
+abbrev Kept : Seen → Type 0
+Kept (numbered p) = ⊥
+Kept (held p n vs) = Unit
+Kept (nothing e) = Unit
+
+kept-pick : (b : Bool) (x y : Seen) → Kept x → Kept y → Kept (pick b x y)
+kept-pick true x y p q = p
+kept-pick false x y p q = q
+
+kept-record : (p n : ℕ) (a : Answer (List Shown)) → Kept (asRecord p n a)
+kept-record p n (answered vs) = tt
+kept-record p n (refused k d) = tt
+
+kept-leaf : (leaves : List ℕ) (p n : ℕ) (b : List ℕ) (r : Read ℕ) → Kept (byLeaf leaves p n b r)
+kept-leaf leaves p n b (answered g) = kept-pick (among (g .value) leaves) _ _ (kept-record p n (recordOf typeLeaves b)) tt
+kept-leaf leaves p n b (refused k d) = tt
+
+kept-entry : (leaves s : List ℕ) (e : Entry) → Kept (entrySeen leaves s e)
+unfolding bytesSeen
+kept-entry leaves s (entry.Record m) =
+    kept-pick (ltb (length s) (m .place + m .length)) (nothing refusal.Ended) _ tt
+    (kept-leaf leaves (m .place) (m .length) (take (m .length) (drop (m .place) s)) (fixedAt 2 (take (m .length) (drop (m .place) s)) 0))
+kept-entry leaves s (entry.Marker m) = tt
+
+kept-found : (leaves s : List ℕ) (a : Answer Found) → Kept (foundSeen leaves s a)
+kept-found leaves s (answered f) = kept-entry leaves s (f .entry)
+kept-found leaves s (refused n d) = tt
+
+kept-list : (s : List ℕ) (σ : State) (i : ℕ) → Kept (listSeen s σ i)
+unfolding listSeen recordSeen
+kept-list s σ i = kept-pick (ltb i 0x1000) (nothing refusal.LeafNotPrinted) _ tt (kept-found listLeaves s (findOf s σ (index.Types (record { 0 = i }))))
+
+list-right : (O : Type 0) (v : Seen) → Kept v → SeenRight O listLeaves v → ListRight O (listBy v)
+unfolding among listLeaves
+list-right O (numbered p) k h = absurd k
+list-right O (held p n vs) k h =
+    list-pick O (eqb (leafIn vs) 0x1201) _ _ (list-in-right O p n (num vs 1) (nth 2 vs)) (λ e. absurd (false≢true (rw e at h)))
+list-right O (nothing e) k h = h
+
+node-is : (s : List ℕ) (σ : State) (i : ℕ) → NodeRight ((0x1000 ≤ i) × OtherLeaf declaredLeaves s σ i) (nodeOf s σ i)
+unfolding nodeOf
+node-is s σ i = node-right _ s σ (typeSeen s σ i) (type-seen s σ i)
+
+list-is : (s : List ℕ) (σ : State) (i : ℕ) → ListRight (ListOther s σ i) (listOf s σ i)
+unfolding listOf
+list-is s σ i = list-right _ (listSeen s σ i) (kept-list s σ i) (list-seen s σ i)
 
 -- ---- walks
 
@@ -247,11 +371,11 @@ rest-good f s p zero g = tt
 rest-good f s p (suc n) g =
     onto-good [] (textOf s piece.Comma) (joined (f (indexAt s p .0)) (restOf f s (p + 4) n)) (joined-good (f (indexAt s p .0)) (restOf f s (p + 4) n) (g _) (rest-good f s (p + 4) n g))
 
-arguments-good : (f : ℕ → Walked) (s : List ℕ) (l : Arguments) → GoodList l → ((j : ℕ) → GoodWalk (f j)) → GoodWalk (listedArguments f s l)
+arguments-good : (f : ℕ → Walked) (s : List ℕ) (O : Type 0) (l : Arguments) → ListRight O l → ((j : ℕ) → GoodWalk (f j)) → GoodWalk (listedArguments f s l)
 unfolding listedArguments argumentsOf
-arguments-good f s (arguments.At p zero) h g = tt
-arguments-good f s (arguments.At p (suc n)) h g = joined-good (f (indexAt s p .0)) (restOf f s (p + 4) n) (g _) (rest-good f s (p + 4) n g)
-arguments-good f s (arguments.Refused e) h g = h
+arguments-good f s O (arguments.At p zero) h g = tt
+arguments-good f s O (arguments.At p (suc n)) h g = joined-good (f (indexAt s p .0)) (restOf f s (p + 4) n) (g _) (rest-good f s (p + 4) n g)
+arguments-good f s O (arguments.Refused e) h g = reason-good O e h
 
 abbrev GoodStep : Step → Type 0
 GoodStep (step.Last p) = Unit
@@ -259,31 +383,31 @@ GoodStep (step.Inward l r i a) = Unit
 GoodStep (step.Call l r z g i a) = Unit
 GoodStep (step.Refused e) = Good e
 
-step-good : (n : Node) (a : Around) → GoodNode n → GoodStep (stepBy n a)
-step-good (node.Primitive k y) a h = tt
-step-good (node.Named p n) a h = tt
-step-good (node.Pointer i m q) a h = tt
-step-good (node.Modifier i q) a h = tt
-step-good (node.Array i e) a h = tt
-step-good (node.Procedure i j) a h = tt
-step-good (node.Refused e) a h = h
+step-good : (O : Type 0) (n : Node) (a : Around) → NodeRight O n → GoodStep (stepBy n a)
+step-good O (node.Primitive k y) a h = tt
+step-good O (node.Named p n) a h = tt
+step-good O (node.Pointer i m q) a h = tt
+step-good O (node.Modifier i q) a h = tt
+step-good O (node.Array i e) a h = tt
+step-good O (node.Procedure i j) a h = tt
+step-good O (node.Refused e) a h = reason-good O e h
 
 stepped-good : (go : ℕ → Around → Walked) (s : List ℕ) (σ : State) (o : Step) → GoodStep o → ((j : ℕ) (b : Around) → GoodWalk (go j b)) → GoodWalk (stepped go s σ o)
-unfolding stepped listOf
+unfolding stepped
 stepped-good go s σ (step.Last p) h g = tt
 stepped-good go s σ (step.Inward l r i a) h g = onto-good (textOf s l) (textOf s r) (go (i .0) a) (g _ _)
 stepped-good go s σ (step.Call l r z k i a) h g =
     onto-good (textOf s l) (textOf s r) (joined (listedArguments (λ j. go j startOf) s (listOf s σ (k .0))) (onto [] (textOf s z) (go (i .0) a)))
     (joined-good (listedArguments (λ j. go j startOf) s (listOf s σ (k .0))) (onto [] (textOf s z) (go (i .0) a))
-    (arguments-good (λ j. go j startOf) s (listOf s σ (k .0)) (list-good (listSeen s σ (k .0)) (list-seen s σ (k .0))) (λ j. g j startOf))
+    (arguments-good (λ j. go j startOf) s _ (listOf s σ (k .0)) (list-is s σ (k .0)) (λ j. g j startOf))
     (onto-good [] (textOf s z) (go (i .0) a) (g _ _)))
 stepped-good go s σ (step.Refused e) h g = h
 
 walk-good : (s : List ℕ) (σ : State) (d i : ℕ) (a : Around) → GoodWalk (walk s σ d i a)
-unfolding walk among stepOf nodeOf
+unfolding walk among stepOf
 walk-good s σ zero i a = record { good = refl }
 walk-good s σ (suc d) i a =
-    stepped-good (λ j b. walk s σ d j b) s σ (stepOf s σ i a) (step-good (nodeOf s σ i) a (node-good s σ (typeSeen s σ i) (type-seen s σ i))) (λ j b. walk-good s σ d j b)
+    stepped-good (λ j b. walk s σ d j b) s σ (stepOf s σ i a) (step-good _ (nodeOf s σ i) a (node-is s σ i)) (λ j b. walk-good s σ d j b)
 
 -- ---- declarations
 
@@ -326,12 +450,119 @@ only-19-is s σ i room h = go (ltb longest (length s)) h where
   go true k = absurd (let z : _≡_ {A = ℕ} 16 19 = cc in omega arith)
   go false k = only-19 room (declarationOf s σ i) (walk-good s σ 32 i startOf) k
 
+-- ---- 23 and 24
+
+entry-other : (leaves s : List ℕ) (e : Entry) → EntryOther leaves s e → entrySeen leaves s e ≡ nothing refusal.LeafNotPrinted
+unfolding bytesSeen fixedAt
+entry-other leaves s (entry.Record m) h =
+    rw (le-ltb (length s) (m .place + m .length) (h .0), le-leb 2 (length (take (m .length) (drop (m .place) s))) (h .1), h .2)
+entry-other leaves s (entry.Marker m) h = refl
+
+found-other : (leaves s : List ℕ) (a : Answer Found) → FoundOther leaves s a → foundSeen leaves s a ≡ nothing refusal.LeafNotPrinted
+found-other leaves s (answered f) h = entry-other leaves s (f .entry) h
+found-other leaves s (refused n d) h = absurd h
+
+other-node : (s : List ℕ) (σ : State) (i : ℕ) → 0x1000 ≤ i → OtherLeaf declaredLeaves s σ i → nodeOf s σ i ≡ node.Refused refusal.LeafNotPrinted
+unfolding nodeOf typeSeen recordSeen
+other-node s σ i h o = rw (le-ltb i 0x1000 h, found-other declaredLeaves s (findOf s σ (index.Types (record { 0 = i }))) o)
+
+no-list-is : (s : List ℕ) (σ : State) (i : ℕ) → i < 0x1000 → listOf s σ i ≡ arguments.Refused refusal.LeafNotPrinted
+unfolding listOf listSeen
+no-list-is s σ i h = rw (lt-ltb i 0x1000 h)
+
+other-list-is : (s : List ℕ) (σ : State) (i : ℕ) → 0x1000 ≤ i → OtherLeaf listLeaves s σ i → listOf s σ i ≡ arguments.Refused refusal.LeafNotPrinted
+unfolding listOf listSeen recordSeen
+other-list-is s σ i h o = rw (le-ltb i 0x1000 h, found-other listLeaves s (findOf s σ (index.Types (record { 0 = i }))) o)
+
+other-fault : (s : List ℕ) (σ : State) (d i : ℕ) → NotPrinted s σ i → Fault s σ (suc d) i refusal.LeafNotPrinted
+other-fault s σ d i (other-leaf h o) = its-own (other-node s σ i h o)
+other-fault s σ d i (no-list {l = l} h o) = its-lists h (no-list-is s σ (l .0) o)
+other-fault s σ d i (other-list {l = l} h k o) = its-lists h (other-list-is s σ (l .0) k o)
+
+other-of : (s : List ℕ) (σ : State) (i : ℕ) (j l : TypeIndex) → nodeOf s σ i ≡ node.Procedure j l → ListOther s σ (l .0) → NotPrinted s σ i
+other-of s σ i j l h (inl x) = no-list h x
+other-of s σ i j l h (inr x) = other-list h (x .0) (x .1)
+
+met-24 : (s : List ℕ) (σ : State) (i left at : ℕ) (e : Refusal) → Visits s σ 32 i left at → Fault s σ left at e → numberOf e ≡ 24 → OtherMet s σ i
+met-24 s σ i left at e v too-deep n = absurd (omega arith)
+met-24 s σ i (suc d) at e v (its-own h) n =
+    let x : (0x1000 ≤ at) × OtherLeaf declaredLeaves s σ at = due _ e (rw h at (node-is s σ at)) n in
+    record { left = d; at = at; path = v; other = other-leaf (x .0) (x .1) }
+met-24 s σ i (suc d) at e v (its-lists {j = j} {l = l} h m) n =
+    record { left = d; at = at; path = v; other = other-of s σ at j l h (due _ e (rw m at (list-is s σ (l .0))) n) }
+
+met-23 : (s : List ℕ) (σ : State) (i left at : ℕ) (e : Refusal) → Visits s σ 32 i left at → Fault s σ left at e → numberOf e ≡ 23 → TooDeep s σ i
+met-23 s σ i left at e v too-deep n = record { at = at; path = v }
+met-23 s σ i left at e v (its-own h) n = absurd (not-23 _ e (rw h at (node-is s σ at)) n)
+met-23 s σ i left at e v (its-lists {l = l} h m) n = absurd (not-23 _ e (rw m at (list-is s σ (l .0))) n)
+
+stops-unlimited : (e : Refusal) (w : Walked) → StopsBy e w → unlimited w ≡ no e
+stops-unlimited e (printed l r) h = absurd h
+stops-unlimited e (stopped k x) h = rw h
+
+-- a walk that is refused by number n in a room
+record StoppedBy (n room : ℕ) (w : Walked) : Type 0 where
+  pub refusal : Refusal
+  pub stops : StopsBy refusal w
+  pub number : numberOf refusal ≡ n
+  pub fits : fixedBy w ≤ room
+
+text-only : (n room : ℕ) (w : Walked) → eqb 19 n ≡ false → by n (textIn room w) ≡ true → StoppedBy n room w
+unfolding textIn
+text-only n room (printed l r) f h = go (ltb room (length (l ++ r))) h where
+  go : (b : Bool) → by n (stop b 19 (answered (l ++ r))) ≡ true → StoppedBy n room (printed l r)
+  go true k = absurd (false≢true (sym f ∙ k))
+  go false k = absurd (false≢true k)
+text-only n room (stopped j q) f h = go (ltb room j) refl h where
+  go : (b : Bool) → ltb room j ≡ b → by n (stop {A = List ℕ} b 19 (no q)) ≡ true → StoppedBy n room (stopped j q)
+  go true e k = absurd (false≢true (sym f ∙ k))
+  go false e k = record { refusal = q; stops = refl; number = eqb-true (numberOf q) n k; fits = ltb-false room j e }
+
+declare-only : (s : List ℕ) (σ : State) (i room n : ℕ) → eqb 16 n ≡ false → eqb 19 n ≡ false → by n (declareOf s σ i room) ≡ true
+    → (length s ≤ longest) × StoppedBy n room (declarationOf s σ i)
+unfolding declareOf
+declare-only s σ i room n a b h = go (ltb longest (length s)) refl h where
+  go : (c : Bool) → ltb longest (length s) ≡ c → by n (stop c 16 (textIn room (declarationOf s σ i))) ≡ true
+      → (length s ≤ longest) × StoppedBy n room (declarationOf s σ i)
+  go true e k = absurd (false≢true (sym a ∙ k))
+  go false e k = (ltb-false longest (length s) e, text-only n room (declarationOf s σ i) b k)
+
+given-by : (s : List ℕ) (σ : State) (i room : ℕ) (e : Refusal) → HasRoom s σ i room → StopsBy e (declarationOf s σ i) → declareOf s σ i room ≡ no e
+given-by s σ i room e h k = short-is s σ i room (h .0) ∙ within-is room (declarationOf s σ i) (h .1) ∙ stops-unlimited e (declarationOf s σ i) k
+
+is-23 : (s : List ℕ) (σ : State) (i room : ℕ) → Given 23 [] (declareOf s σ i room) (HasRoom s σ i room × TooDeep s σ i)
+is-23 s σ i room = record {
+  when = λ h. given-by s σ i room refusal.TooDeep (h .0) (stopping s σ refusal.TooDeep 32 i 0 (h .1 .at) (h .1 .path) too-deep startOf);
+  only = λ h. go (declare-only s σ i room 23 refl refl h);
+} where
+  go : (length s ≤ longest) × StoppedBy 23 room (declarationOf s σ i) → HasRoom s σ i room × TooDeep s σ i
+  go x =
+      let m : Meets s σ 32 i (x .1 .refusal) = stopped-meets s σ (x .1 .refusal) 32 i startOf (x .1 .stops) in
+      ((x .0, x .1 .fits), met-23 s σ i (m .left) (m .at) (x .1 .refusal) (m .path) (m .fault) (x .1 .number))
+
+is-24 : (s : List ℕ) (σ : State) (i room : ℕ) → Given 24 [] (declareOf s σ i room) (HasRoom s σ i room × OtherMet s σ i)
+is-24 s σ i room = record {
+  when = λ h. given-by s σ i room refusal.LeafNotPrinted (h .0)
+      (stopping s σ refusal.LeafNotPrinted 32 i (suc (h .1 .left)) (h .1 .at) (h .1 .path) (other-fault s σ (h .1 .left) (h .1 .at) (h .1 .other)) startOf);
+  only = λ h. go (declare-only s σ i room 24 refl refl h);
+} where
+  go : (length s ≤ longest) × StoppedBy 24 room (declarationOf s σ i) → HasRoom s σ i room × OtherMet s σ i
+  go x =
+      let m : Meets s σ 32 i (x .1 .refusal) = stopped-meets s σ (x .1 .refusal) 32 i startOf (x .1 .stops) in
+      ((x .0, x .1 .fits), met-24 s σ i (m .left) (m .at) (x .1 .refusal) (m .path) (m .fault) (x .1 .number))
+
 pub declare-when : DeclareWhen
 declare-when = record {
   too-long = long-is;
   no-room = λ s σ i room h k. short-is s σ i room h ∙ over-is room (declarationOf s σ i) k;
   only-then = only-19-is;
   as-unlimited = λ s σ i room h k. short-is s σ i room h ∙ within-is room (declarationOf s σ i) k;
+  prints = λ s σ i h. printing s σ 32 i h startOf;
+  prints-only = λ s σ i h. printed-has s σ 32 i startOf h;
+  stops = λ s σ i e m. stopping s σ e 32 i (m .left) (m .at) (m .path) (m .fault) startOf;
+  stops-only = λ s σ i e h. stopped-meets s σ e 32 i startOf h;
+  at-23 = is-23;
+  at-24 = is-24;
 }
 
 -- ---- demand 1
