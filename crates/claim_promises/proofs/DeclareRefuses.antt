@@ -19,9 +19,9 @@ use Rattle.field.specs.Fields.{littleAt, fixedAt}
 use Rattle.field.specs.declared.index.TypeIndex.{TypeIndex}
 use Rattle.word_primitive.specs.Primitive.{primitiveOf}
 use Rattle.word_primitive.specs.declared.PrimitiveType.{PrimitiveType}
-use Rattle.record_layout.specs.Fields.{Shown, number, numeral, absent, many, readFields}
+use Rattle.record_layout.specs.Fields.{Shown, number, numeral, absent, many}
 use Rattle.record_layout.specs.Values.{nth}
-use Rattle.record_layout.specs.Layouts.{Layout, byLayout, typeLeaves, readLeaf, leafOf, recordOf}
+use Rattle.record_layout.specs.Layouts.{typeLeaves, readLeaf, leafOf, recordOf}
 use Rattle.stream_header.specs.Header.{longest}
 use Rattle.field.specs.declared.index.ItemIndex.the-variants as index
 use Rattle.stream_item.specs.declared.Entry.{Entry}
@@ -29,6 +29,8 @@ use Rattle.stream_item.specs.declared.Entry.the-variants as entry
 use Rattle.stream_finder.specs.Finder.{State, Found, findOf}
 use Rattle.declare_node.specs.Looked.{Seen, numbered, held, nothing, orEnded, unread, declaredLeaves, listLeaves, asPrimitive, asRecord, byLeaf, bytesSeen, entrySeen, foundSeen, recordSeen, typeSeen, listSeen}
 use Rattle.declare_node.specs.Nodes.{leafIn, num, indexAt, classes, nameIn, nodeIn, nodeBy, nodeOf, listIn, listBy, listOf}
+use Rattle.declare_node.specs.Inside.{ListInside}
+use Rattle.declare_node.proofs.NodeLaws.{list-inside}
 use Rattle.declare_node.specs.declared.Node.{Node}
 use Rattle.declare_node.specs.declared.Node.the-variants as node
 use Rattle.declare_node.specs.declared.Arguments.{Arguments}
@@ -46,6 +48,7 @@ use Rattle.claim_promises.specs.ByTable.{Links, fits, linksFit, By, give
 use Rattle.claim_promises.specs.Given.{by, Given}
 use Rattle.claim_promises.specs.DeclareWhen.{fixedBy, unlimited, Visits, Fault, too-deep, its-own, its-lists, Meets, StopsBy, TooDeep, EntryOther, FoundOther, OtherLeaf, NotPrinted, other-leaf, no-list, other-list, OtherMet, HasRoom, DeclareWhen}
 use Rattle.claim_promises.proofs.ByTable.{within, among-within, both-first, both-second, wider}
+use Rattle.claim_promises.proofs.DeclareModes.{LeafFirst, layout-first, five-modes}
 use Rattle.claim_promises.proofs.DeclarePaths.{printing, stopping, printed-has, stopped-meets}
 use Rattle.claim_promises.proofs.StreamRefuses.{primitive-refuses, find-refuses, type-refuses}
 
@@ -154,18 +157,6 @@ SeenRight O leaves (nothing e) = Reason O e
 primitive-seen : {l : Links} (O : Type 0) (leaves : List ℕ) (a : Answer PrimitiveType) → By l ofLookups a → SeenRight O leaves (asPrimitive a)
 primitive-seen O leaves (answered p) h = tt
 primitive-seen {l = l} O leaves (refused n d) (refuses p) = inl (low-by l n d p)
-
--- what a record's reader answers has the record's leaf first
-abbrev LeafFirst : ℕ → Answer (List Shown) → Type 0
-LeafFirst leaf (answered vs) = leafIn vs ≡ leaf
-LeafFirst leaf (refused n d) = Unit
-
-layout-first : (o : Option Layout) (leaf : ℕ) (b : List ℕ) (p : ℕ) → LeafFirst leaf (and-then (byLayout o leaf b p) (λ vs e. answered vs))
-layout-first none leaf b p = tt
-layout-first (some fs) leaf b p = go (readFields fs 0 b p) where
-  go : (r : Read (List Shown)) → LeafFirst leaf (and-then (and-then r (λ vs e. got (number leaf ∷ vs) e)) (λ vs e. answered vs))
-  go (answered g) = refl
-  go (refused n d) = tt
 
 record-first : (b : List ℕ) (g : Got ℕ) → fixedAt 2 b 0 ≡ answered g → LeafFirst (g .value) (recordOf typeLeaves b)
 unfolding recordOf leafOf readLeaf
@@ -301,45 +292,61 @@ list-in-right O p n k (number j) = inl low-ended
 list-in-right O p n k (numeral z f) = inl low-ended
 list-in-right O p n k absent = inl low-ended
 
--- no list is a primitive
-abbrev Kept : Seen → Type 0
-Kept (numbered p) = ⊥
-Kept (held p n vs) = Unit
-Kept (nothing e) = Unit
+-- no list is a primitive, and its bytes are there
+abbrev Kept : List ℕ → Seen → Type 0
+Kept s (numbered p) = ⊥
+Kept s (held p n vs) = p + n ≤ length s
+Kept s (nothing e) = Unit
 
-kept-pick : (b : Bool) (x y : Seen) → Kept x → Kept y → Kept (pick b x y)
-kept-pick true x y p q = p
-kept-pick false x y p q = q
+kept-pick : (s : List ℕ) (b : Bool) (x y : Seen) → Kept s x → Kept s y → Kept s (pick b x y)
+kept-pick s true x y p q = p
+kept-pick s false x y p q = q
 
-kept-record : (p n : ℕ) (a : Answer (List Shown)) → Kept (asRecord p n a)
-kept-record p n (answered vs) = tt
-kept-record p n (refused k d) = tt
+kept-record : (s : List ℕ) (p n : ℕ) (a : Answer (List Shown)) → p + n ≤ length s → Kept s (asRecord p n a)
+kept-record s p n (answered vs) h = h
+kept-record s p n (refused k d) h = tt
 
-kept-leaf : (leaves : List ℕ) (p n : ℕ) (b : List ℕ) (r : Read ℕ) → Kept (byLeaf leaves p n b r)
-kept-leaf leaves p n b (answered g) = kept-pick (among (g .value) leaves) _ _ (kept-record p n (recordOf typeLeaves b)) tt
-kept-leaf leaves p n b (refused k d) = tt
+kept-leaf : (leaves s : List ℕ) (p n : ℕ) (b : List ℕ) (r : Read ℕ) → p + n ≤ length s → Kept s (byLeaf leaves p n b r)
+kept-leaf leaves s p n b (answered g) h = kept-pick s (among (g .value) leaves) _ _ (kept-record s p n (recordOf typeLeaves b) h) tt
+kept-leaf leaves s p n b (refused k d) h = tt
 
-kept-entry : (leaves s : List ℕ) (e : Entry) → Kept (entrySeen leaves s e)
+kept-bytes : (leaves s : List ℕ) (p n : ℕ) (b : List ℕ) (c : Bool) → ltb (length s) (p + n) ≡ c
+    → Kept s (pick c (nothing refusal.Ended) (byLeaf leaves p n b (fixedAt 2 b 0)))
+kept-bytes leaves s p n b true e = tt
+kept-bytes leaves s p n b false e = kept-leaf leaves s p n b (fixedAt 2 b 0) (ltb-false (length s) (p + n) e)
+
+kept-entry : (leaves s : List ℕ) (e : Entry) → Kept s (entrySeen leaves s e)
 unfolding bytesSeen
 kept-entry leaves s (entry.Record m) =
-    kept-pick (ltb (length s) (m .place + m .length)) (nothing refusal.Ended) _ tt
-    (kept-leaf leaves (m .place) (m .length) (take (m .length) (drop (m .place) s)) (fixedAt 2 (take (m .length) (drop (m .place) s)) 0))
+    kept-bytes leaves s (m .place) (m .length) (take (m .length) (drop (m .place) s)) (ltb (length s) (m .place + m .length)) refl
 kept-entry leaves s (entry.Marker m) = tt
 
-kept-found : (leaves s : List ℕ) (a : Answer Found) → Kept (foundSeen leaves s a)
+kept-found : (leaves s : List ℕ) (a : Answer Found) → Kept s (foundSeen leaves s a)
 kept-found leaves s (answered f) = kept-entry leaves s (f .entry)
 kept-found leaves s (refused n d) = tt
 
-kept-list : (s : List ℕ) (σ : State) (i : ℕ) → Kept (listSeen s σ i)
+kept-list : (s : List ℕ) (σ : State) (i : ℕ) → Kept s (listSeen s σ i)
 unfolding listSeen recordSeen
-kept-list s σ i = kept-pick (ltb i 0x1000) (nothing refusal.LeafNotPrinted) _ tt (kept-found listLeaves s (findOf s σ (index.Types (record { 0 = i }))))
+kept-list s σ i = kept-pick s (ltb i 0x1000) (nothing refusal.LeafNotPrinted) _ tt (kept-found listLeaves s (findOf s σ (index.Types (record { 0 = i }))))
 
-list-right : (O : Type 0) (v : Seen) → Kept v → SeenRight O listLeaves v → ListRight O (listBy v)
+list-kept : (s : List ℕ) (v : Seen) → Kept s v → ListInside s (listBy v)
+list-kept s (numbered p) k = absurd k
+list-kept s (held p n vs) k = list-inside s p n vs (listBy (held p n vs)) refl k
+list-kept s (nothing e) k = tt
+
+list-there : (s : List ℕ) (σ : State) (i : ℕ) → ListInside s (listOf s σ i)
+unfolding listOf
+list-there s σ i = list-kept s (listSeen s σ i) (kept-list s σ i)
+
+there-is : (s : List ℕ) (σ : State) (i p n : ℕ) → listOf s σ i ≡ arguments.At p n → p + 4 * n ≤ length s
+there-is s σ i p n h = rw h at (list-there s σ i)
+
+list-right : (O : Type 0) (s : List ℕ) (v : Seen) → Kept s v → SeenRight O listLeaves v → ListRight O (listBy v)
 unfolding among listLeaves
-list-right O (numbered p) k h = absurd k
-list-right O (held p n vs) k h =
+list-right O s (numbered p) k h = absurd k
+list-right O s (held p n vs) k h =
     list-pick O (eqb (leafIn vs) 0x1201) _ _ (list-in-right O p n (num vs 1) (nth 2 vs)) (λ e. absurd (false≢true (rw e at h)))
-list-right O (nothing e) k h = h
+list-right O s (nothing e) k h = h
 
 node-is : (s : List ℕ) (σ : State) (i : ℕ) → NodeRight ((0x1000 ≤ i) × OtherLeaf declaredLeaves s σ i) (nodeOf s σ i)
 unfolding nodeOf
@@ -347,7 +354,7 @@ node-is s σ i = node-right _ s σ (typeSeen s σ i) (type-seen s σ i)
 
 list-is : (s : List ℕ) (σ : State) (i : ℕ) → ListRight (ListOther s σ i) (listOf s σ i)
 unfolding listOf
-list-is s σ i = list-right _ (listSeen s σ i) (kept-list s σ i) (list-seen s σ i)
+list-is s σ i = list-right _ s (listSeen s σ i) (kept-list s σ i) (list-seen s σ i)
 
 -- ---- walks
 
@@ -563,6 +570,8 @@ declare-when = record {
   stops-only = λ s σ i e h. stopped-meets s σ e 32 i startOf h;
   at-23 = is-23;
   at-24 = is-24;
+  five-modes = five-modes;
+  arguments-there = there-is;
 }
 
 -- ---- demand 1

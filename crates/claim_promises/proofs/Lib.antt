@@ -6,6 +6,7 @@ pub mod ReportRefuses
 pub mod DropRefuses
 pub mod DropLeaves
 pub mod WritersRefuse
+pub mod DeclareModes
 pub mod DeclarePaths
 pub mod DeclareRefuses
 pub mod Digits

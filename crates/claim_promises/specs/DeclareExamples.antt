@@ -55,7 +55,7 @@ abbrev joinedAll : List (List ℕ) → List ℕ
 joinedAll [] = []
 joinedAll (r ∷ rs) = r ++ joinedAll rs
 
--- 33 records, from 0x1000 on
+-- 34 records, from 0x1000 on
 unfoldable pub records : List (List ℕ)
 records =
     modifier 0x70 1  -- 0x1000
@@ -91,6 +91,7 @@ records =
     ∷ argumentList (0x74 ∷ 0x70 ∷ 0x1012 ∷ [])  -- 0x101e
     ∷ procedure 0x03 0x101e
     ∷ pointer 0x74 0x1e00  -- 0x1020
+    ∷ array 0x74 10
     ∷ []
 
 -- a header of 56 bytes that counts them, and they
@@ -122,10 +123,11 @@ declarations =
     ∷ (0x1010 within 100 reads text "const int (*)[3]")
     ∷ (0x1012 within 100 reads text "S &")
     ∷ (0x1013 within 100 reads text "int ::*")
-    -- a pointer to a function that returns a pointer to an array; an array of arrays; an element of unknown size
+    -- a pointer to a function that returns a pointer to an array; an array of arrays; an element of unknown size, and one that does not divide
     ∷ (0x1016 within 100 reads text "int (*(*)(void))[3]")
     ∷ (0x1017 within 100 reads text "int [2][3]")
     ∷ (0x1018 within 100 reads text "S []")
+    ∷ (0x1021 within 100 reads text "int []")
     -- an absent return; a modifier on a pointer; a tag; an rvalue reference; every qualifier; three arguments from left to right
     ∷ (0x1014 within 100 reads text "... (void)")
     ∷ (0x1019 within 100 reads text "const char *const")
@@ -145,8 +147,8 @@ declarations =
     ∷ (0x101b within 0 reads refused 19 [])
     -- the lookup's own: no primitive, and past the maximum; behind the last record 1, with the links passed
     ∷ (0x0004 within 0 reads refused 8 (0x0004 ∷ []))
-    ∷ (0x1022 within 0 reads refused 8 (0x1022 ∷ []))
-    ∷ (0x1021 within 0 reads refused 1 (33 ∷ []))
+    ∷ (0x1023 within 0 reads refused 8 (0x1023 ∷ []))
+    ∷ (0x1022 within 0 reads refused 1 (34 ∷ []))
     ∷ []
 
 -- by a fresh finder of blocks of 64, with room for its one place

@@ -154,3 +154,6 @@ pub record DeclareWhen : Type 0 where
   -- 23 exactly if a type is visited with none left to nest; 24 exactly if one is visited that is not printed
   pub at-23 : (s : List ℕ) (σ : State) (i room : ℕ) → Given 23 [] (declareOf s σ i room) (HasRoom s σ i room × TooDeep s σ i)
   pub at-24 : (s : List ℕ) (σ : State) (i room : ℕ) → Given 24 [] (declareOf s σ i room) (HasRoom s σ i room × OtherMet s σ i)
+  -- what is spelled is one of the five modes of a pointer, and every argument's four bytes are in the stream
+  pub five-modes : (s : List ℕ) (σ : State) (i : ℕ) (j : TypeIndex) (m : ℕ) (q : Quals) → nodeOf s σ i ≡ node.Pointer j m q → m ≤ 4
+  pub arguments-there : (s : List ℕ) (σ : State) (i p n : ℕ) → listOf s σ i ≡ arguments.At p n → p + 4 * n ≤ length s
