@@ -27,6 +27,7 @@ use Rattle.pane.proofs.SameProof.{same}
 use Rattle.claim_promises.proofs.Demand1.{demand1}
 use Rattle.claim_promises.proofs.RefusedBy.{each-refused-by}
 use Rattle.claim_promises.proofs.ExactlyWhen.{exactly-when}
+use Rattle.claim_promises.proofs.RecordsWhen.{records-when}
 use Rattle.claim_promises.proofs.PlacesWhen.{places-when}
 use Rattle.claim_promises.proofs.WritesWhen.{writes-when}
 use Rattle.claim_promises.proofs.SectionsProof.{sections-refuse, sections-when}
@@ -44,6 +45,7 @@ demands = record {
   first = demand1;
   refused-by = each-refused-by;
   given = exactly-when;
+  given-records = records-when;
   second = demand2;
   third = demand3;
   exactly-if = not-indexed;

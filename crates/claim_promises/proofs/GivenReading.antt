@@ -167,7 +167,7 @@ wide-none none s p e = refl
 wide-none (some (signed k)) s p e = denied 11 refl (signed-refuses k s p) e
 wide-none (some (unsigned k)) s p e = at-then 11 (fixedAt k s p) _ (λ x. denied 11 refl (fixed-refuses k s p) x) (λ _ _. off) e
 
-number-11 : (s : List ℕ) (p : ℕ) → Given 11 [] (numericAt s p) ((p + 2 ≤ length s) × (0x8000 ≤ littleAt 2 s p) × (find (littleAt 2 s p) prefixes ≡ none))
+pub number-11 : (s : List ℕ) (p : ℕ) → Given 11 [] (numericAt s p) ((p + 2 ≤ length s) × (0x8000 ≤ littleAt 2 s p) × (find (littleAt 2 s p) prefixes ≡ none))
 unfolding numericAt among
 number-11 s p = record {
   when = λ (a, b, c). rw (sym (field-there 2 s p (littleAt 2 s p) a refl), le-ltb _ _ b, c) refl;

@@ -16,6 +16,8 @@ pub mod Given
 pub mod GivenStreams
 pub mod GivenReading
 pub mod ExactlyWhen
+pub mod GivenRecords
+pub mod RecordsWhen
 pub mod PlacesWhen
 pub mod WritesWhen
 pub mod Written
