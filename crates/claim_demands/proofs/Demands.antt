@@ -28,6 +28,8 @@ use Rattle.claim_promises.proofs.Demand1.{demand1}
 use Rattle.claim_promises.proofs.RefusedBy.{each-refused-by}
 use Rattle.claim_promises.proofs.ExactlyWhen.{exactly-when}
 use Rattle.claim_promises.proofs.RecordsWhen.{records-when}
+use Rattle.claim_promises.proofs.ListsWhen.{lists-when}
+use Rattle.claim_promises.proofs.EntriesWhen.{entries-when}
 use Rattle.claim_promises.proofs.PlacesWhen.{places-when}
 use Rattle.claim_promises.proofs.WritesWhen.{writes-when}
 use Rattle.claim_promises.proofs.SectionsProof.{sections-refuse, sections-when}
@@ -46,6 +48,8 @@ demands = record {
   refused-by = each-refused-by;
   given = exactly-when;
   given-records = records-when;
+  given-lists = lists-when;
+  given-entries = entries-when;
   second = demand2;
   third = demand3;
   exactly-if = not-indexed;

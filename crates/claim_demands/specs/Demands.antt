@@ -32,6 +32,8 @@ use Rattle.claim_promises.specs.Demand1.{Demand1}
 use Rattle.claim_promises.specs.RefusedBy.{EachRefusedBy}
 use Rattle.claim_promises.specs.ExactlyWhen.{ExactlyWhen}
 use Rattle.claim_promises.specs.RecordsWhen.{RecordsWhen}
+use Rattle.claim_promises.specs.ListsWhen.{ListsWhen}
+use Rattle.claim_promises.specs.EntriesWhen.{EntriesWhen}
 use Rattle.claim_promises.specs.PlacesWhen.{PlacesWhen}
 use Rattle.claim_promises.specs.WritesWhen.{WritesWhen}
 use Rattle.claim_promises.specs.Sections.{SectionsRefuse, SectionsWhen}
@@ -53,6 +55,9 @@ pub record Demands : Type 2 where
   pub given : ExactlyWhen
   -- the same of what reads a record, field by field: RecordsWhen.antt
   pub given-records : RecordsWhen
+  -- of lists and their elements, and of a stream's entries: ListsWhen.antt, EntriesWhen.antt
+  pub given-lists : ListsWhen
+  pub given-entries : EntriesWhen
   -- "Header, iteration, finding, ids, primitives and attribute words equal the crate's on the domain in 01": crates/claim_model/specs/Demand2.antt.
   -- "Type leaves equal 01's layouts" is the contracts of `type_data`, `member_at` and the lists, which cite the tables of
   -- crates/record_layout/specs/Layouts.antt

@@ -591,11 +591,11 @@ module _ (s : List ℕ) (w : ℕ) (e : Elements) (four : (n : ℕ) → runBytes 
   abbrev start : Answer ListCursor
   start = countedBy (word w always ∷ run e ∷ []) leaf s 2
 
-  count-there : 2 + w + 4 * littleAt w s 2 ≤ length s → start ≡ answered (inCounted leaf (2 + w) (littleAt w s 2))
+  pub count-there : 2 + w + 4 * littleAt w s 2 ≤ length s → start ≡ answered (inCounted leaf (2 + w) (littleAt w s 2))
   unfolding countedBy readFieldsBy readFieldBy bytesAfter
   count-there a = rw (sym (field-there w s 2 (littleAt w s 2) (omega arith) refl), four (littleAt w s 2), le-ltb _ _ a) refl
 
-  count-short : length s < 2 + w + 4 * littleAt w s 2 → start ≡ refused 1 []
+  pub count-short : length s < 2 + w + 4 * littleAt w s 2 → start ≡ refused 1 []
   unfolding countedBy readFieldsBy readFieldBy bytesAfter
   count-short a = go (leb (2 + w) (length s)) refl
     where

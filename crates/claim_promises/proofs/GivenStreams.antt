@@ -185,7 +185,7 @@ module _ (s : List ℕ) (c : ItemIter) where
 
 module _ (t p : List ℕ) where
   -- 16 of an entry that takes both streams; then its own
-  short-ways : {A P : Type 0} (n : ℕ) (a : Answer A) → ((longest < length t) ⊎ (longest < length p) → eqb 16 n ≡ true → P) → (Short t p → by n a ≡ true → P) → by n (shortOf t p a) ≡ true → P
+  pub short-ways : {A P : Type 0} (n : ℕ) (a : Answer A) → ((longest < length t) ⊎ (longest < length p) → eqb 16 n ≡ true → P) → (Short t p → by n a ≡ true → P) → by n (shortOf t p a) ≡ true → P
   short-ways n a long own =
       at-stop n (ltb longest (length t)) 16 _ (λ b. long (inl (ltb-true _ _ b))) (λ b.
       at-stop n (ltb longest (length p)) 16 a (λ c. long (inr (ltb-true _ _ c))) (λ c. own (ltb-false _ _ b, ltb-false _ _ c)))
@@ -198,7 +198,7 @@ module _ (t p : List ℕ) where
       go true = refl
       go false = simp (lt-ltb _ _ h)
 
-  short-is : {A : Type 0} (a : Answer A) → Short t p → shortOf t p a ≡ a
+  pub short-is : {A : Type 0} (a : Answer A) → Short t p → shortOf t p a ≡ a
   short-is a (x, y) = simp (le-ltb _ _ x, le-ltb _ _ y)
 
   pub view-long : {A : Type 0} (a : Answer A) → by 16 a ≡ false → Given 16 [] (shortOf t p a) ((longest < length t) ⊎ (longest < length p))

@@ -18,6 +18,9 @@ pub mod GivenReading
 pub mod ExactlyWhen
 pub mod GivenRecords
 pub mod RecordsWhen
+pub mod GivenLists
+pub mod ListsWhen
+pub mod EntriesWhen
 pub mod PlacesWhen
 pub mod WritesWhen
 pub mod Written
