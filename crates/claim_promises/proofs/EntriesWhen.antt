@@ -30,6 +30,7 @@ use Rattle.stream_index.specs.Walk.{over, updating, turnOf}
 use Rattle.record_layout.specs.Fields.{Shown}
 use Rattle.record_layout.specs.Layouts.{Table, typeLeaves, idLeaves, recordOf}
 use Rattle.record_parse.specs.Record.{Parsed, primitive, bytes, numberedOf, typeBytes, idBytes, typeItem, typeMarker, itemOf, markerOf, entryOf as parsedOf, parseOf}
+use Rattle.section_read.specs.Readers.{sortedOf, readOf}
 use Rattle.claim_promises.specs.ByTable.{Refuses}
 use Rattle.claim_promises.specs.Given.{by, Given}
 use Rattle.claim_promises.specs.ExactlyWhen.{Short}
@@ -222,6 +223,10 @@ turns-done : (s : List ℕ) (σ : State) (c : ItemIter) → nextOf s c ≡ answe
 unfolding turnOf
 turns-done s σ c e = ap (λ x. then x (updating σ)) e
 
+section-entries : (s : List ℕ) (e : Entry) → readOf s e ≡ parseOf s s (sortedOf s e)
+unfolding readOf
+section-entries s e = refl
+
 pub entries-when : EntriesWhen
 unfolding among
 entries-when = record {
@@ -234,6 +239,7 @@ entries-when = record {
   markers-1 = λ t p. marker-never t p 1 refl refl refl;
   markers-11 = λ t p. marker-never t p 11 refl refl refl;
   markers-12 = λ t p. marker-never t p 12 refl refl refl;
+  section-entries = section-entries;
   item-views-8 = item-views-8;
   marker-views-1 = λ t p i. short-never 1 t p (refused 8 (numberIn i ∷ [])) refl refl;
   marker-kinds-1 = λ t p i. short-never 1 t p (answered 0xffff) refl refl;

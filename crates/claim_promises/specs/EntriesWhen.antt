@@ -25,6 +25,7 @@ use Rattle.stream_finder.specs.Finder.{State}
 use Rattle.stream_index.specs.Walk.{over, turnOf}
 use Rattle.record_layout.specs.Layouts.{Table, typeLeaves, idLeaves}
 use Rattle.record_parse.specs.Record.{bytes, parseOf}
+use Rattle.section_read.specs.Readers.{sortedOf, readOf}
 use Rattle.claim_promises.specs.Given.{Given}
 use Rattle.claim_promises.specs.ExactlyWhen.{Short}
 use Rattle.claim_promises.specs.RecordsWhen.{CutField, BadField, FailingField, AtLeaf}
@@ -69,6 +70,8 @@ pub record EntriesWhen : Type 0 where
   pub markers-1 : (t p : List ℕ) (i : ItemIndex) → Given 1 [] (parseOf t p (entry.Marker i)) ⊥
   pub markers-11 : (t p : List ℕ) (i : ItemIndex) → Given 11 [] (parseOf t p (entry.Marker i)) ⊥
   pub markers-12 : (t p : List ℕ) (i : ItemIndex) → Given 12 [] (parseOf t p (entry.Marker i)) ⊥
+  -- an entry of a section, both streams of which are the section: under the tag of the reader that takes its leaf
+  pub section-entries : (s : List ℕ) (e : Entry) → readOf s e ≡ parseOf s s (sortedOf s e)
   -- the view: 8 is the marker's alone, 1 a record's; and `raw_kind` of the marker is 0xffff
   pub item-views-8 : (t p : List ℕ) (i : Item) → Given 8 (numberIn (i .index) ∷ []) (viewOf t p (entry.Record i)) ⊥
   pub marker-views-1 : (t p : List ℕ) (i : ItemIndex) → Given 1 [] (viewOf t p (entry.Marker i)) ⊥
