@@ -32,6 +32,7 @@ use Rattle.claim_promises.proofs.ListsWhen.{lists-when}
 use Rattle.claim_promises.proofs.EntriesWhen.{entries-when}
 use Rattle.claim_promises.proofs.PlacesWhen.{places-when}
 use Rattle.claim_promises.proofs.WritesWhen.{writes-when}
+use Rattle.claim_promises.proofs.PiecesWhen.{pieces-when}
 use Rattle.claim_promises.proofs.SectionsProof.{sections-refuse, sections-when}
 use Rattle.claim_promises.proofs.DeclareRefuses.{declare-when}
 use Rattle.claim_promises.proofs.Digits.{lengths-shown}
@@ -84,6 +85,7 @@ demands = record {
   headers-read-back = header-reads-back;
   streams-walk = stream-walks;
   given-writing = writes-when;
+  given-pieces = pieces-when;
   given-declarations = declare-when;
   lengths-shown = lengths-shown;
   declarations-shown = declarations-hold;

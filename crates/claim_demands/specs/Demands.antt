@@ -36,6 +36,7 @@ use Rattle.claim_promises.specs.ListsWhen.{ListsWhen}
 use Rattle.claim_promises.specs.EntriesWhen.{EntriesWhen}
 use Rattle.claim_promises.specs.PlacesWhen.{PlacesWhen}
 use Rattle.claim_promises.specs.WritesWhen.{WritesWhen}
+use Rattle.claim_promises.specs.PiecesWhen.{PiecesWhen}
 use Rattle.claim_promises.specs.Sections.{SectionsRefuse, SectionsWhen}
 use Rattle.claim_promises.specs.DeclareWhen.{DeclareWhen}
 use Rattle.claim_promises.specs.Digits.{LengthsShown}
@@ -120,6 +121,8 @@ pub record Demands : Type 2 where
   pub streams-walk : StreamWalks
   -- and when each of its numbers is given: WritesWhen.antt
   pub given-writing : WritesWhen
+  -- of the pieces that records and lists are made of: PiecesWhen.antt
+  pub given-pieces : PiecesWhen
   -- document 02, R-5: "19 exactly if the bytes that the walk has fixed pass the room before another is met", and else the answer of "a definition that
   -- prints with no limit on room": DeclareWhen.antt
   pub given-declarations : DeclareWhen

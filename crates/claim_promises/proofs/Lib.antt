@@ -23,6 +23,7 @@ pub mod ListsWhen
 pub mod EntriesWhen
 pub mod PlacesWhen
 pub mod WritesWhen
+pub mod PiecesWhen
 pub mod Written
 pub mod Idle
 pub mod Examples
