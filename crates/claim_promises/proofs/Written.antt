@@ -61,10 +61,10 @@ unfolding headerBytes
 accepted = refl
 
 zero-fits : Fits32 (pos 0)
-zero-fits = record { fits = refl; small = omega arith }
+zero-fits = omega arith
 
 below-fits : Fits32 (negsuc 0)
-below-fits = record { fits = refl; small = omega arith }
+below-fits = omega arith
 
 narrow : Narrow headerE
 narrow = record {

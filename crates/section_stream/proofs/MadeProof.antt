@@ -30,7 +30,7 @@ use Rattle.stream_finder.specs.Demand as stream
 use Rattle.stream_finder.specs.Demand.{gives, looked, Demand3By, Demand3Every}
 use Rattle.stream_finder.proofs.DemandProof.{demand3-every}
 use Rattle.write_header.specs.Headers.{headerFields, headerBytes, Narrow}
-use Rattle.write_header.proofs.HeaderBack.{narrow-pos, header-reads-back}
+use Rattle.write_header.proofs.HeaderBack.{header-reads-back}
 use Rattle.section_item.specs.Sections.{first, countOf}
 use Rattle.section_item.proofs.SectionLaws.{Counted, counted}
 use Rattle.section_finder.specs.Finders.{sectionRun}
@@ -195,11 +195,11 @@ narrow n size a b = record {
   pad-stream = omega arith;
   key = omega arith;
   bucket = omega arith;
-  values-offset = narrow-pos 0 (omega arith);
+  values-offset = omega arith;
   values-size = omega arith;
-  ti-offset = narrow-pos 0 (omega arith);
+  ti-offset = omega arith;
   ti-size = omega arith;
-  adj-offset = narrow-pos 0 (omega arith);
+  adj-offset = omega arith;
   adj-size = omega arith;
 }
 

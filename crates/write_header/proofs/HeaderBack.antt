@@ -17,14 +17,16 @@ use Rattle.write_layout.specs.Fields.{Encoded}
 use Rattle.write_header.specs.Headers.{bitsOf, headerFields, headerBytes, Fits32, Narrow, HeaderReadsBack}
 use Rattle.write_header.proofs.HeaderLaws.{header-length}
 
--- an i32 is narrow
-pub narrow-pos : (n : ℕ) → n < 2 ^ 31 → Fits32 (pos n)
-narrow-pos n h = record { fits = rw (lt-ltb n (2 ^ 31) h); small = omega arith }
+-- an i32's bits are a u32, and read as two's complement they are it
+small-bits : (z : ℤ) → Fits32 z → bitsOf z < 2 ^ 32
+small-bits (pos n) h = omega arith
+small-bits (negsuc n) h = omega arith
 
-pub narrow-neg : (n : ℕ) → n < 2 ^ 31 → Fits32 (negsuc n)
-narrow-neg n h =
+signed-back : (z : ℤ) → Fits32 z → twos 4 (bitsOf z) ≡ z
+signed-back (pos n) h = rw (lt-ltb n (2 ^ 31) h)
+signed-back (negsuc n) h =
     let e : 2 ^ 32 - suc (2 ^ 32 - suc n) ≡ n = omega arith in
-    record { fits = rw (le-ltb (2 ^ 32 - suc n) (2 ^ 31) (omega arith), e); small = omega arith }
+    rw (le-ltb (2 ^ 32 - suc n) (2 ^ 31) (omega arith), e)
 
 digits4 : (x : ℕ) → x < 2 ^ 32 → x % 256 + 256 * (x / 256 % 256 + 256 * (x / 256 / 256 % 256 + 256 * (x / 256 / 256 / 256 % 256 + 256 * 0))) ≡ x
 digits4 x h = omega arith
@@ -45,14 +47,14 @@ fields-back h ys n =
       digits2 _ (n .pad-stream),
       digits4 _ (n .key),
       digits4 _ (n .bucket),
-      digits4 _ (n .values-offset .small),
-      n .values-offset .fits,
+      digits4 _ (small-bits (h .«hash_values» .offset) (n .values-offset)),
+      signed-back (h .«hash_values» .offset) (n .values-offset),
       digits4 _ (n .values-size),
-      digits4 _ (n .ti-offset .small),
-      n .ti-offset .fits,
+      digits4 _ (small-bits (h .«ti_off» .offset) (n .ti-offset)),
+      signed-back (h .«ti_off» .offset) (n .ti-offset),
       digits4 _ (n .ti-size),
-      digits4 _ (n .adj-offset .small),
-      n .adj-offset .fits,
+      digits4 _ (small-bits (h .«hash_adj» .offset) (n .adj-offset)),
+      signed-back (h .«hash_adj» .offset) (n .adj-offset),
       digits4 _ (n .adj-size),
     )
 

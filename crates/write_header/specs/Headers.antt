@@ -7,7 +7,6 @@ use lib.Dec.{ltb}
 use lib.IntN.{ℤ, pos, negsuc}
 use Rattle.answer.specs.Answer.{Answer, answered, stop}
 use Rattle.field.specs.Bytes.{bytes}
-use Rattle.field.specs.Fields.{twos}
 use Rattle.stream_header.specs.Header.{headerOf, longest}
 use Rattle.stream_header.specs.declared.Slice.{Slice}
 use Rattle.stream_header.specs.declared.Header.{Header}
@@ -40,11 +39,12 @@ headerBytes h =
 
 -- Reading back ----------------------------------------------------------------------------------------------------------------------
 
--- each field is a number of its width, as those of every `Header` of the program are
-pub record Fits32 (z : ℤ) : Type 0 where
-  pub fits : twos 4 (bitsOf z) ≡ z
-  pub small : bitsOf z < 2 ^ 32
+-- -2^31 ≤ z < 2^31
+abbrev pub Fits32 : ℤ → Type 0
+Fits32 (pos n) = n < 2 ^ 31
+Fits32 (negsuc n) = n < 2 ^ 31
 
+-- each field is a number of its width, as those of every `Header` of the program are
 pub record Narrow (h : Header) : Type 0 where
   pub version : h .version < 2 ^ 32
   pub size : h .«header_size» < 2 ^ 32
