@@ -31,6 +31,7 @@ use Rattle.claim_promises.proofs.RecordsWhen.{records-when}
 use Rattle.claim_promises.proofs.ListsWhen.{lists-when}
 use Rattle.claim_promises.proofs.EntriesWhen.{entries-when}
 use Rattle.claim_promises.proofs.PlacesWhen.{places-when}
+use Rattle.claim_promises.proofs.CreatedWhen.{created-when}
 use Rattle.claim_promises.proofs.WritesWhen.{writes-when}
 use Rattle.claim_promises.proofs.PiecesWhen.{pieces-when}
 use Rattle.claim_promises.proofs.SectionsProof.{sections-refuse, sections-when}
@@ -51,6 +52,7 @@ demands = record {
   given-records = records-when;
   given-lists = lists-when;
   given-entries = entries-when;
+  given-creations = created-when;
   second = demand2;
   third = demand3;
   exactly-if = not-indexed;

@@ -35,6 +35,7 @@ use Rattle.claim_promises.specs.RecordsWhen.{RecordsWhen}
 use Rattle.claim_promises.specs.ListsWhen.{ListsWhen}
 use Rattle.claim_promises.specs.EntriesWhen.{EntriesWhen}
 use Rattle.claim_promises.specs.PlacesWhen.{PlacesWhen}
+use Rattle.claim_promises.specs.CreatedWhen.{CreatedWhen}
 use Rattle.claim_promises.specs.WritesWhen.{WritesWhen}
 use Rattle.claim_promises.specs.PiecesWhen.{PiecesWhen}
 use Rattle.claim_promises.specs.Sections.{SectionsRefuse, SectionsWhen}
@@ -59,6 +60,8 @@ pub record Demands : Type 2 where
   -- of lists and their elements, and of a stream's entries: ListsWhen.antt, EntriesWhen.antt
   pub given-lists : ListsWhen
   pub given-entries : EntriesWhen
+  -- and the creation of a finder whole, its answers too: CreatedWhen.antt
+  pub given-creations : CreatedWhen
   -- "Header, iteration, finding, ids, primitives and attribute words equal the crate's on the domain in 01": crates/claim_model/specs/Demand2.antt.
   -- "Type leaves equal 01's layouts" is the contracts of `type_data`, `member_at` and the lists, which cite the tables of
   -- crates/record_layout/specs/Layouts.antt
@@ -101,7 +104,7 @@ pub record Demands : Type 2 where
   pub wide-saved-and-loaded : WideTrip
   pub wide-one-file : OneEncodingWide
   pub loaders : LoadersAgree
-  -- and when each of their numbers is given, of either form: PlacesWhen.antt
+  -- and when each of their numbers is given, and no other, of either form: PlacesWhen.antt
   pub given-places : (form : Form) → PlacesWhen form
   -- document 02, R-12: "header bytes, two per record, and payload bytes add up to the stream's length"; 27 and 28 exactly when; "the report's totals are
   -- those of the streams it counted", and its entries too: crates/stream_report/specs/Sums.antt

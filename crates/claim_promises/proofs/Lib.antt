@@ -22,6 +22,7 @@ pub mod GivenLists
 pub mod ListsWhen
 pub mod EntriesWhen
 pub mod PlacesWhen
+pub mod CreatedWhen
 pub mod WritesWhen
 pub mod PiecesWhen
 pub mod Written

@@ -5,7 +5,7 @@ use mathlib.Core.Path.{refl}
 use mathlib.Core.List.{List, [], _∷_}
 use lib.ListN.{length}
 use lib.Dec.{ltb, eqb}
-use Rattle.answer.specs.Answer.{both}
+use Rattle.answer.specs.Answer.{both, then}
 use Rattle.answer.specs.Tables.{find, among}
 use Rattle.answer.specs.Refusals.{listed, inTable, refusals}
 use Rattle.field.specs.Fields.{littleAt}
@@ -30,10 +30,11 @@ trailer-refuses F f =
     (by-stop (ltb (trailerAt F f (length f - trailerSize F) .count) (F .least)) 20 refl
     gives))))))
 
-abbrev pub ofLoads : List ℕ
-ofLoads = 16 ∷ 1 ∷ 2 ∷ 3 ∷ 4 ∷ 5 ∷ 20 ∷ 21 ∷ 13 ∷ 22 ∷ []
+-- behind an accepted header
+abbrev ofLoading : List ℕ
+ofLoading = 20 ∷ 21 ∷ 13 ∷ 22 ∷ []
 
-load-for-refuses : (s f t : List ℕ) (h : Header) (k : Trailer) → Refuses ofLoads (loadFor s f t h k)
+load-for-refuses : (s f t : List ℕ) (h : Header) (k : Trailer) → Refuses ofLoading (loadFor s f t h k)
 unfolding loadFor fits among listed find inTable refusals
 load-for-refuses s f t h k =
     by-stop (both (eqb (k .count) 0) (ltb (h .«minimum_index») (h .«maximum_index»))) 20 refl
@@ -45,14 +46,18 @@ load-for-refuses s f t h k =
     (by-stop (not (onChain s (2 ^ k .shift) (h .«header_size») (wordsAt (k .count) f 0))) 22 refl
     gives))))))
 
+pub loading-refuses : (F : Form) (s f t : List ℕ) (h : Header) → Refuses ofLoading (then (trailerBy F f) (loadFor s f t h))
+unfolding among within
+loading-refuses F s f t h = by-then (wider refl (trailer-refuses F f)) (λ k. load-for-refuses s f t h k)
+
+abbrev pub ofLoads : List ℕ
+ofLoads = 16 ∷ 1 ∷ 2 ∷ 3 ∷ 4 ∷ 5 ∷ 20 ∷ 21 ∷ 13 ∷ 22 ∷ []
+
 pub load-refuses : (F : Form) (s f t : List ℕ) → Refuses ofLoads (loadBy F s f t)
 unfolding loadBy among within
-load-refuses F s f t = by-then (wider refl (header-refuses s)) (λ h. by-then (wider refl (trailer-refuses F f)) (λ k. load-for-refuses s f t h k))
+load-refuses F s f t = by-then (wider refl (header-refuses s)) (λ h. wider refl (loading-refuses F s f t h))
 
-abbrev pub ofSaves : List ℕ
-ofSaves = 16 ∷ 1 ∷ 2 ∷ 3 ∷ 4 ∷ 5 ∷ 21 ∷ 26 ∷ 13 ∷ 19 ∷ []
-
-save-for-refuses : (F : Form) (n : ℕ) (σ : State) (room : ℕ) (h : Header) → Refuses ofSaves (saveFor F n σ room h)
+pub save-for-refuses : (F : Form) (n : ℕ) (σ : State) (room : ℕ) (h : Header) → Refuses (21 ∷ 26 ∷ 13 ∷ 19 ∷ []) (saveFor F n σ room h)
 unfolding saveFor fits among listed find inTable refusals
 save-for-refuses F n σ room h =
     by-stop (not (eqb (σ .finder .«minimum_index») (h .«minimum_index»))) 21 refl
@@ -63,6 +68,9 @@ save-for-refuses F n σ room h =
     (by-stop (ltb room (4 * σ .finder .held + trailerSize F)) 19 refl
     gives)))))
 
+abbrev pub ofSaves : List ℕ
+ofSaves = 16 ∷ 1 ∷ 2 ∷ 3 ∷ 4 ∷ 5 ∷ 21 ∷ 26 ∷ 13 ∷ 19 ∷ []
+
 pub save-refuses : (F : Form) (s : List ℕ) (σ : State) (room : ℕ) → Refuses ofSaves (saveBy F s σ room)
 unfolding saveBy among within
-save-refuses F s σ room = by-then (wider refl (header-refuses s)) (λ h. save-for-refuses F (length s) σ room h)
+save-refuses F s σ room = by-then (wider refl (header-refuses s)) (λ h. wider refl (save-for-refuses F (length s) σ room h))

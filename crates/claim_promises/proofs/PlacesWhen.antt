@@ -14,19 +14,20 @@ use Rattle.field.specs.Fields.{littleAt}
 use Rattle.stream_header.specs.Header.{headerOf}
 use Rattle.stream_header.specs.declared.Header.{Header}
 use Rattle.stream_item.specs.Links.{chain, reached}
-use Rattle.stream_finder.specs.Finder.{State}
+use Rattle.field_put.specs.Bytes.{put}
+use Rattle.stream_finder.specs.Finder.{State, state, holding}
 use Rattle.stream_places.specs.File.{Form, trailerSize, wordsAt, trailerAt, spells, checked, trailerBy}
-use Rattle.stream_places.specs.Places.{onChain, loadFor, loadBy, saveFor, saveBy}
+use Rattle.stream_places.specs.Places.{onChain, fileOf, loadFor, loadBy, saveFor, saveBy}
 use Rattle.stream_places.specs.declared.trailer.Trailer.{Trailer}
 use Rattle.stream_places.proofs.FileLaws.{length-words, trailer-by, checked-right, Trailed, trailed}
 use Rattle.stream_places.proofs.BackLaws.{words-get}
-use Rattle.stream_places.proofs.PlacesLaws.{Ours, load-header, load-trailer, load-lacks, load-minimum, load-maximum, load-bytes, load-start, load-full, load-off, Bounds, save-header, save-minimum, save-maximum, save-shift, save-claims, save-many, save-room}
+use Rattle.stream_places.proofs.PlacesLaws.{Ours, load-header, load-trailer, load-lacks, load-minimum, load-maximum, load-bytes, load-start, load-full, load-off, load-done, Bounds, save-header, save-minimum, save-maximum, save-shift, save-claims, save-many, save-room, save-done}
 use Rattle.stream_places.proofs.ChainLaws.{Chained, chained, unchained}
 use Rattle.claim_promises.specs.ByTable.{Refuses, By, gives, refuses, fits}
 use Rattle.claim_promises.specs.Given.{by, Given}
 use Rattle.claim_promises.specs.PlacesWhen.{countIn, Right, RightFor, MadeFor, Onward, Bounded, PlacesWhen}
 use Rattle.claim_promises.proofs.Given.{off, at-stop, at-then, denied}
-use Rattle.claim_promises.proofs.PlacesRefuse.{trailer-refuses}
+use Rattle.claim_promises.proofs.PlacesRefuse.{trailer-refuses, loading-refuses, save-for-refuses}
 
 -- ---- letters, one by one
 spells-at : (f : List ℕ) (p : ℕ) (bs : List ℕ) → spells f p bs ≡ true → (i : ℕ) → i < length bs → getD f (p + i) 0 ≡ getD bs i 0
@@ -284,6 +285,13 @@ module _ (F : Form) (s f t : List ℕ) where
           (λ r m l e _. (r, m, l, λ o. off (sym e ∙ unchained s (2 ^ k .shift) (h .«header_size») (wordsAt (countIn F f) f 0) (chained-on o))));
     }
 
+    loads-else : Refuses (20 ∷ 21 ∷ 13 ∷ 22 ∷ []) (loadBy F s f t)
+    loads-else = rw (load-header F s f t (answered h) a) (loading-refuses F s f t h)
+
+    loads : RightFor F f h → MadeFor s f h → countIn F f ≤ length t → Onward F s f h
+        → loadBy F s f t ≡ answered (state (holding h (littleAt 1 f (length f - 26)) (countIn F f)) (put t 0 (wordsAt (countIn F f) f 0)))
+    loads r m l o = is-for (r .right) ∙ load-done s f t h k (ours r m) l (unchained s (2 ^ k .shift) (h .«header_size») (wordsAt (countIn F f) f 0) (chained-on o))
+
 -- ---- saving
 module _ (F : Form) (s : List ℕ) (σ : State) (room : ℕ) where
   saves-own : (n : ℕ) (d : List ℕ) → headerOf s ≡ refused n d → saveBy F s σ room ≡ refused n d
@@ -351,6 +359,13 @@ module _ (F : Form) (s : List ℕ) (σ : State) (room : ℕ) where
       only = save-ways 19 (λ _. off) (λ _ _. off) (λ _ _ _. off) (λ b l m n r _. (b, l, m, n, r));
     }
 
+    saves-else : Refuses (21 ∷ 26 ∷ 13 ∷ 19 ∷ []) (saveBy F s σ room)
+    saves-else = rw is-saved (save-for-refuses F (length s) σ room h)
+
+    saves : Bounded σ h → σ .finder .shift ≤ 6 → σ .finder .held ≤ length (σ .table) → σ .finder .held ≤ F .most → 4 * σ .finder .held + trailerSize F ≤ room
+        → saveBy F s σ room ≡ answered (fileOf F h (length s) σ)
+    saves b l m n r = is-saved ∙ save-done F (length s) σ room h (bounds b) l m n r
+
 pub places-when : (form : Form) → PlacesWhen form
 places-when F = record {
   loads-own = loads-own F;
@@ -364,4 +379,8 @@ places-when F = record {
   loads-22 = loads-22 F;
   saves-26 = saves-26 F;
   saves-19 = saves-19 F;
+  loads-else = loads-else F;
+  saves-else = saves-else F;
+  loads = loads F;
+  saves = saves F;
 }

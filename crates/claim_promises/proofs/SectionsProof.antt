@@ -16,10 +16,8 @@ use Rattle.stream_item.specs.Iterator.{Next, done, yielded, nextOf}
 use Rattle.stream_item.specs.declared.Entry.{Entry}
 use Rattle.stream_item.specs.declared.iter.ItemIter.{ItemIter}
 use Rattle.stream_finder.specs.Finder.{State, begunIn}
-use Rattle.stream_finder.specs.declared.Run.{Run}
-use Rattle.stream_finder.proofs.FinderLaws.{run-shift, run-full}
 use Rattle.section_item.specs.Sections.{first, startOf, onBy, walkBy, lastOf, countOf}
-use Rattle.section_item.proofs.SectionLaws.{start-long, start-short, start-signature, count-refused, counted}
+use Rattle.section_item.proofs.SectionLaws.{start-long, start-short, start-signature, start-first, count-refused, counted}
 use Rattle.section_finder.specs.Finders.{sectionRun, createBy}
 use Rattle.section_finder.proofs.FinderLaws.{create-is}
 use Rattle.section_read.specs.Readers.{readerAt, sortedOf, readOf}
@@ -34,9 +32,10 @@ use Rattle.claim_promises.specs.Given.{by, Given}
 use Rattle.claim_promises.specs.Sections.{SectionsRefuse, SectionsWhen}
 use Rattle.claim_promises.proofs.ByTable.{by-pick, by-stop, by-then, within, wider}
 use Rattle.claim_promises.proofs.Given.{off, at-stop, at-pick, at-then}
+use Rattle.claim_promises.proofs.CreatedWhen.{begins-26, begins-13}
 use Rattle.claim_promises.proofs.GivenStreams.{nexts-16}
 use Rattle.claim_promises.proofs.LeftAlone.{leaves-alone}
-use Rattle.claim_promises.proofs.StreamRefuses.{next-refuses, parse-refuses, start-refuses}
+use Rattle.claim_promises.proofs.StreamRefuses.{next-refuses, run-refuses, parse-refuses, start-refuses}
 
 -- ---- demand 1
 
@@ -61,15 +60,9 @@ counts : (s : List ℕ) → Refuses (16 ∷ 1 ∷ 25 ∷ 6 ∷ 7 ∷ []) (countO
 unfolding countOf lastOf within among
 counts s = by-then (wider refl (starts s)) (λ c. by-then (wider refl (walks (suc (length s)) s c)) (λ d. gives))
 
-begun : (shift : ℕ) (t : List ℕ) (r : Run) → Refuses (26 ∷ 13 ∷ []) (begunIn shift t r)
-unfolding fits among listed find inTable refusals
-begun shift t r =
-    by-stop (ltb 6 shift) 26 refl
-    (by-pick (ltb (r .minimum) (r .maximum)) (by-stop (leb (length t) 0) 13 refl gives) gives)
-
 creations : (shift : ℕ) (s t : List ℕ) → Refuses (16 ∷ 1 ∷ 25 ∷ 6 ∷ 7 ∷ 26 ∷ 13 ∷ []) (createBy shift s t)
 unfolding createBy within among
-creations shift s t = by-then (wider refl (counts s)) (λ n. wider refl (begun shift t (sectionRun n)))
+creations shift s t = by-then (wider refl (counts s)) (λ n. wider refl (run-refuses shift t (sectionRun n)))
 
 made : (s : List ℕ) → Refuses (16 ∷ 1 ∷ 25 ∷ 6 ∷ 7 ∷ []) (streamOf s)
 unfolding streamOf fits among listed find inTable refusals
@@ -128,21 +121,16 @@ module _ (shift : ℕ) (s t : List ℕ) (n : ℕ) (e : countOf s ≡ answered n)
   created : createBy shift s t ≡ begunIn shift t (sectionRun n)
   created = create-is shift s t (answered n) e
 
-  begun-ways : {P : Type 0} (m : ℕ) → (6 < shift → eqb 26 m ≡ true → P) → (shift ≤ 6 → 4096 < 4096 + n → length t ≤ 0 → eqb 13 m ≡ true → P)
-      → by m (createBy shift s t) ≡ true → P
-  begun-ways m large full y =
-      at-stop m (ltb 6 shift) 26 _ (λ a. large (ltb-true _ _ a)) (λ a.
-      at-pick m (ltb 4096 (4096 + n)) _ _ (λ b.
-      at-stop m (leb (length t) 0) 13 _ (λ c. full (ltb-false _ _ a) (ltb-true _ _ b) (leb-true _ _ c)) (λ _. off)) (λ _. off))
-      (ap (by m) (sym created) ∙ y)
+  creations-else : Refuses (26 ∷ 13 ∷ []) (createBy shift s t)
+  creations-else = rw created (run-refuses shift t (sectionRun n))
 
   creations-26 : Given 26 [] (createBy shift s t) (6 < shift)
-  creations-26 = record { when = λ a. created ∙ run-shift shift t (sectionRun n) a; only = begun-ways 26 (λ a _. a) (λ _ _ _. off) }
+  creations-26 = rw created (begins-26 shift t (sectionRun n))
 
   creations-13 : Given 13 [] (createBy shift s t) ((shift ≤ 6) × (0 < n) × (length t ≡ 0))
   creations-13 = record {
-    when = λ (a, b, c). created ∙ run-full shift t (sectionRun n) a (let w : 4096 < 4096 + n = omega arith in w) (let w : length t ≤ 0 = omega arith in w);
-    only = begun-ways 13 (λ _. off) (λ a b c _. let x : 0 < n = omega arith in let y : length t ≡ 0 = omega arith in (a, x, y));
+    when = λ (a, b, c). created ∙ begins-13 shift t (sectionRun n) .when (a, (let w : 4096 < 4096 + n = omega arith in w), c);
+    only = λ y. let (a, b, c) = begins-13 shift t (sectionRun n) .only (ap (by 13) (sym created) ∙ y) in (a, (let x : 0 < n = omega arith in x), c);
   }
 
 -- 16 comes from a length alone: of a step, of a walk, of a count
@@ -186,16 +174,24 @@ module _ (s o : List ℕ) (n : ℕ) (l : length s + 52 ≤ longest) (e : countOf
         (ap (by 19) (sym laid) ∙ y);
   }
 
+  streams-else : Refuses (19 ∷ []) (lay (streamOf s) o 0)
+  unfolding fits among listed find inTable refusals
+  streams-else = rw laid (by-stop (ltb (length o) (0 + length (streamBytes n s))) 19 refl gives)
+
 pub sections-when : SectionsWhen
 sections-when = record {
   starts-16 = starts-16;
   starts-1 = starts-1;
   starts-25 = starts-25;
+  starts-first = start-first;
   counts-start = count-refused;
   creations-count = λ shift s t n d e. create-is shift s t (refused n d) e;
   creations-26 = creations-26;
   creations-13 = creations-13;
+  creations-else = creations-else;
+  creations-begun = created;
   streams-16 = streams-16;
   streams-count = λ s n d l e. stream-is s (refused n d) l e;
   streams-19 = streams-19;
+  streams-else = streams-else;
 }

@@ -5,16 +5,18 @@
 use Prim.Native.Nat.{ℕ, suc, _+_, _-_, _*_, _^_, _≤_, _<_}
 use mathlib.Core.Path.{_≡_}
 use mathlib.Core.Logic.{_⊎_}
-use mathlib.Core.List.{List, []}
+use mathlib.Core.List.{List, [], _∷_}
 use lib.ListN.{length, getD}
 use Rattle.answer.specs.Answer.{answered, refused}
 use Rattle.field.specs.Fields.{littleAt}
 use Rattle.stream_header.specs.Header.{headerOf}
 use Rattle.stream_header.specs.declared.Header.{Header}
 use Rattle.stream_item.specs.Links.{chain, reached}
-use Rattle.stream_finder.specs.Finder.{State}
-use Rattle.stream_places.specs.File.{Form, trailerSize, trailerBy}
-use Rattle.stream_places.specs.Places.{loadBy, saveBy}
+use Rattle.field_put.specs.Bytes.{put}
+use Rattle.stream_finder.specs.Finder.{State, state, holding}
+use Rattle.stream_places.specs.File.{Form, trailerSize, wordsAt, trailerBy}
+use Rattle.stream_places.specs.Places.{fileOf, loadBy, saveBy}
+use Rattle.claim_promises.specs.ByTable.{Refuses}
 use Rattle.claim_promises.specs.Given.{Given}
 
 -- ---- words of the conditions
@@ -81,3 +83,12 @@ pub record PlacesWhen (form : Form) : Type 0 where
   pub saves-19 : (s : List ℕ) (σ : State) (room : ℕ) (h : Header) → headerOf s ≡ answered h
       → Given 19 [] (saveBy form s σ room)
       (Bounded σ h × (σ .finder .shift ≤ 6) × (σ .finder .held ≤ length (σ .table)) × (σ .finder .held ≤ form .most) × (room < 4 * σ .finder .held + trailerSize form))
+  -- ---- and nothing else: where the header is accepted, there is an answer or one of these four, so that each outcome is fixed by the lines above
+
+  pub loads-else : (s f t : List ℕ) (h : Header) → headerOf s ≡ answered h → Refuses (20 ∷ 21 ∷ 13 ∷ 22 ∷ []) (loadBy form s f t)
+  pub saves-else : (s : List ℕ) (σ : State) (room : ℕ) (h : Header) → headerOf s ≡ answered h → Refuses (21 ∷ 26 ∷ 13 ∷ 19 ∷ []) (saveBy form s σ room)
+  -- the answers: a finder of the stream with the file's shift, and its places first in the table; the finder's file
+  pub loads : (s f t : List ℕ) (h : Header) → headerOf s ≡ answered h → RightFor form f h → MadeFor s f h → countIn form f ≤ length t → Onward form s f h
+      → loadBy form s f t ≡ answered (state (holding h (littleAt 1 f (length f - 26)) (countIn form f)) (put t 0 (wordsAt (countIn form f) f 0)))
+  pub saves : (s : List ℕ) (σ : State) (room : ℕ) (h : Header) → headerOf s ≡ answered h → Bounded σ h → σ .finder .shift ≤ 6 → σ .finder .held ≤ length (σ .table)
+      → σ .finder .held ≤ form .most → 4 * σ .finder .held + trailerSize form ≤ room → saveBy form s σ room ≡ answered (fileOf form h (length s) σ)

@@ -10,12 +10,12 @@ use Rattle.answer.specs.declared.Refusal.{Refusal}
 use Rattle.field.specs.Fields.{littleAt}
 use Rattle.stream_header.specs.Header.{longest}
 use Rattle.stream_item.specs.declared.Entry.{Entry}
-use Rattle.stream_finder.specs.Finder.{saidFinder, Fills}
+use Rattle.stream_finder.specs.Finder.{begunIn, saidFinder, Fills}
 use Rattle.stream_finder.specs.declared.FinderAnswer.{FinderAnswer}
 use Rattle.stream_index.specs.declared.IndexAnswer.the-variants as walk
 use Rattle.record_list.specs.Lists as lists
-use Rattle.section_item.specs.Sections.{startOf, countOf}
-use Rattle.section_finder.specs.Finders.{createBy, IndexesBy}
+use Rattle.section_item.specs.Sections.{first, startOf, countOf}
+use Rattle.section_finder.specs.Finders.{sectionRun, createBy, IndexesBy}
 use Rattle.section_read.specs.Readers.{readerAt, readOf}
 use Rattle.section_stream.specs.Streams.{streamOf}
 use Rattle.write_layout.specs.Buffer.{lay, Writes}
@@ -43,12 +43,18 @@ pub record SectionsWhen : Type 0 where
   pub starts-16 : (s : List ℕ) → Given 16 [] (startOf s) (longest < length s)
   pub starts-1 : (s : List ℕ) → Given 1 [] (startOf s) (length s < 4)
   pub starts-25 : (s : List ℕ) → Given 25 [] (startOf s) ((length s ≤ longest) × (4 ≤ length s) × (littleAt 4 s 0 ≡ 4 → ⊥))
+  -- else there is the cursor behind the signature
+  pub starts-first : (s : List ℕ) → length s ≤ longest → 4 ≤ length s → littleAt 4 s 0 ≡ 4 → startOf s ≡ answered first
   -- what refuses the start refuses the count, and what refuses the count refuses creation; 26 and 13 come after it
   pub counts-start : (s : List ℕ) (n : ℕ) (d : List ℕ) → startOf s ≡ refused n d → countOf s ≡ refused n d
   pub creations-count : (shift : ℕ) (s t : List ℕ) (n : ℕ) (d : List ℕ) → countOf s ≡ refused n d → createBy shift s t ≡ refused n d
   pub creations-26 : (shift : ℕ) (s t : List ℕ) (n : ℕ) → countOf s ≡ answered n → Given 26 [] (createBy shift s t) (6 < shift)
   pub creations-13 : (shift : ℕ) (s t : List ℕ) (n : ℕ) → countOf s ≡ answered n → Given 13 [] (createBy shift s t) ((shift ≤ 6) × (0 < n) × (length t ≡ 0))
+  -- and nothing else where the records are counted: creation is then that of their run, which CreatedWhen.antt has whole
+  pub creations-else : (shift : ℕ) (s t : List ℕ) (n : ℕ) → countOf s ≡ answered n → Refuses (26 ∷ 13 ∷ []) (createBy shift s t)
+  pub creations-begun : (shift : ℕ) (s t : List ℕ) (n : ℕ) → countOf s ≡ answered n → createBy shift s t ≡ begunIn shift t (sectionRun n)
   -- of a stream: 16 where it would be too long, the count's own refusal, and 19 where the buffer is shorter than the section and 52
   pub streams-16 : (s : List ℕ) → Given 16 [] (streamOf s) (longest < length s + 52)
   pub streams-count : (s : List ℕ) (n : ℕ) (d : List ℕ) → length s + 52 ≤ longest → countOf s ≡ refused n d → streamOf s ≡ refused n d
   pub streams-19 : (s o : List ℕ) (n : ℕ) → length s + 52 ≤ longest → countOf s ≡ answered n → Given 19 [] (lay (streamOf s) o 0) (length o < length s + 52)
+  pub streams-else : (s o : List ℕ) (n : ℕ) → length s + 52 ≤ longest → countOf s ≡ answered n → Refuses (19 ∷ []) (lay (streamOf s) o 0)

@@ -1,6 +1,7 @@
 -- The outcomes of `startOf`, a law for each; a walk by its steps; and what the count of a section says. Assumes nothing.
 use Prim.Native.Nat.{ℕ, zero, suc, _+_, _-_, _≤_, _<_}
 use mathlib.Core.Path.{_≡_, refl, sym, ap, _∙_}
+use mathlib.Core.Logic.{_⊎_, inl, inr}
 use mathlib.Core.List.{List, []}
 use mathlib.Core.Bool.{Bool, true, false}
 use native.Mathlib.Omega.{arith}
@@ -132,6 +133,48 @@ pub last-ends : (s : List ℕ) (c d : ItemIter) → lastOf s c ≡ answered d �
 unfolding lastOf
 last-ends s c d e = walk-over (suc (length s)) s c d (omega arith) e
 
+-- ---- back: where a walk was refused
+record Stopped (s : List ℕ) (c : ItemIter) (k : ℕ) (x : List ℕ) : Type 0 where
+  pub records : ℕ
+  pub cursor : ItemIter
+  pub led : Passed s c records cursor
+  pub stops : nextOf s cursor ≡ refused k x
+
+same-refusal : {A B : Type 0} (n : ℕ) (x : List ℕ) (m : ℕ) (y : List ℕ) → _≡_ {A = Answer A} (refused n x) (refused m y) → _≡_ {A = Answer B} (refused n x) (refused m y)
+same-refusal n x m y e = let a : n ≡ m = cc in let b : x ≡ y = cc in rw (a, b)
+
+never-refused : {A : Type 0} {X : Type 0} (a : A) (n : ℕ) (x : List ℕ) → _≡_ {A = Answer A} (answered a) (refused n x) → X
+never-refused a n x e = let z : _≡_ {A = ℕ} 0 1 = cc in absurd (omega arith)
+
+walk-stopped : (j : ℕ) (s : List ℕ) (c : ItemIter) (k : ℕ) (x : List ℕ) → walkBy j s c ≡ refused k x → Stopped s c k x
+unfolding walkBy
+walk-stopped zero s c k x e = never-refused c k x e
+walk-stopped (suc j) s c k x e = go (λ b. walk-stopped j s b k x) (nextOf s c) refl
+  where
+    go : ((b : ItemIter) → walkBy j s b ≡ refused k x → Stopped s b k x) → (a : Answer Next) → nextOf s c ≡ a → Stopped s c k x
+    go on (answered done) h = never-refused c k x (sym (walk-step s j c (answered done) h) ∙ e)
+    go on (answered (yielded i b)) h =
+        let o : Stopped s b k x = on b (sym (walk-step s j c (answered (yielded i b)) h) ∙ e) in
+        record { records = suc (o .records); cursor = o .cursor; led = more h (o .led); stops = o .stops }
+    go on (refused n y) h = record { records = 0; cursor = c; led = none; stops = h ∙ same-refusal n y k x (sym (walk-step s j c (refused n y) h) ∙ e) }
+
+count-stopped : (s : List ℕ) (k : ℕ) (x : List ℕ) → countOf s ≡ refused k x
+    → (startOf s ≡ refused k x) ⊎ ((n : ℕ) × (d : ItemIter) × (startOf s ≡ answered first) × Passed s first n d × (nextOf s d ≡ refused k x))
+unfolding countOf lastOf
+count-stopped s k x e = go (startOf s) refl e
+  where
+    ended : startOf s ≡ answered first → (b : Answer ItemIter) → lastOf s first ≡ b → then b (λ d. answered (d .index - 0x1000)) ≡ refused k x
+        → (startOf s ≡ refused k x) ⊎ ((n : ℕ) × (d : ItemIter) × (startOf s ≡ answered first) × Passed s first n d × (nextOf s d ≡ refused k x))
+    ended p (answered d) l q = never-refused (d .index - 0x1000) k x q
+    ended p (refused m y) l q =
+        let w : Stopped s first k x = walk-stopped (suc (length s)) s first k x (l ∙ same-refusal m y k x q) in
+        inr (w .records, w .cursor, p, w .led, w .stops)
+
+    go : (a : Answer ItemIter) → startOf s ≡ a → then a (λ c. then (lastOf s c) (λ d. answered (d .index - 0x1000))) ≡ refused k x
+        → (startOf s ≡ refused k x) ⊎ ((n : ℕ) × (d : ItemIter) × (startOf s ≡ answered first) × Passed s first n d × (nextOf s d ≡ refused k x))
+    go (refused m y) p q = inl (p ∙ same-refusal m y k x q)
+    go (answered c) p q = let f : c ≡ first = sym (starts s c p .cursor) in ended (rw f at p) (lastOf s first) refl (rw f at q)
+
 -- ---- where there is nothing left, the cursor stands at the end
 over-end : (s : List ℕ) (c : ItemIter) → nextOf s c ≡ answered done → c .at ≡ length s
 unfolding nextOf
@@ -218,4 +261,5 @@ counts = record {
       let j : d .index - 0x1000 ≡ n = omega arith in
       count-is s first (answered d) b (left-done s first d (left-on s first first n d (left-first s first) w) o) ∙ ap (λ (m : ℕ). answered m) j;
   own = λ s n d k x b w o. count-is s first (refused k x) b (left-refused s first d (left-on s first first n d (left-first s first) w) k x o);
+  only-own = count-stopped;
 }

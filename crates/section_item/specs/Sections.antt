@@ -4,6 +4,7 @@
 use Prim.Native.Nat.{ℕ, zero, suc, _-_}
 use mathlib.Core.List.{List, []}
 use mathlib.Core.Path.{_≡_}
+use mathlib.Core.Logic.{_⊎_}
 use lib.ListN.{length}
 use lib.Dec.{ltb, eqb}
 use Rattle.answer.specs.Answer.{Answer, answered, refused, pick, stop, then}
@@ -58,8 +59,10 @@ pub record Ends (s : List ℕ) (c d : ItemIter) : Type 0 where
   pub over : nextOf s d ≡ answered done
 
 -- So the count is that of a walk from behind the signature that ends at the section's end, and of every such walk; and a walk that the iterator
--- refuses is refused by the iterator's own number
+-- refuses is refused by the iterator's own number, and nothing else refuses a count: the start, or a step of such a walk
 pub record Counts : Type 0 where
   pub walked : (s : List ℕ) (n : ℕ) → countOf s ≡ answered n → (d : ItemIter) × Passed s first n d × (nextOf s d ≡ answered done) × (d .at ≡ length s)
   pub counted : (s : List ℕ) (n : ℕ) (d : ItemIter) → startOf s ≡ answered first → Passed s first n d → nextOf s d ≡ answered done → countOf s ≡ answered n
   pub own : (s : List ℕ) (n : ℕ) (d : ItemIter) (k : ℕ) (x : List ℕ) → startOf s ≡ answered first → Passed s first n d → nextOf s d ≡ refused k x → countOf s ≡ refused k x
+  pub only-own : (s : List ℕ) (k : ℕ) (x : List ℕ) → countOf s ≡ refused k x
+      → (startOf s ≡ refused k x) ⊎ ((n : ℕ) × (d : ItemIter) × (startOf s ≡ answered first) × Passed s first n d × (nextOf s d ≡ refused k x))
