@@ -1,6 +1,7 @@
 -- All that is promised is proved. Assumes nothing.
 use Rattle.field_number.proofs.FormsProof.{shortest-form, width-said, as-before}
 use Rattle.record_layout.proofs.AsIn01.{as-in-01}
+use Rattle.word_primitive.proofs.SheetLaws.{sheet}
 use Rattle.claim_model.proofs.Demand2.{demand2}
 use Rattle.stream_finder.proofs.DemandProof.{demand3, demand3-every, not-indexed, not-indexed-every}
 use Rattle.stream_finder.proofs.SharedProof.{shared, of-runs}
@@ -54,6 +55,7 @@ demands = record {
   given-entries = entries-when;
   given-creations = created-when;
   second = demand2;
+  sheet = sheet;
   third = demand3;
   exactly-if = not-indexed;
   third-every = demand3-every;

@@ -5,6 +5,7 @@ use mathlib.Core.Path.{_≡_}
 use mathlib.Core.List.{map}
 use Rattle.field_number.specs.Forms.{ShortestForm, WidthSaid, AsBefore}
 use Rattle.record_layout.specs.Fields.{AsIn01}
+use Rattle.word_primitive.specs.Sheet.{Sheet}
 use Rattle.claim_model.specs.Demand2.{Demand2}
 use Rattle.stream_finder.specs.Demand.{Demand3, Demand3Every, NotIndexed, NotIndexedEvery}
 use Rattle.stream_finder.specs.Shared.{Shared}
@@ -66,6 +67,9 @@ pub record Demands : Type 2 where
   -- "Type leaves equal 01's layouts" is the contracts of `type_data`, `member_at` and the lists, which cite the tables of
   -- crates/record_layout/specs/Layouts.antt
   pub second : Demand2
+  -- document 02, R-8: "its rule shown over the whole table at once", at every index: crates/word_primitive/specs/Sheet.antt. That the code's rows have these
+  -- numbers is the contract of the function `entry`, which reads them
+  pub sheet : Sheet
   -- "Take an accepted stream counting at least one record, .. A lookup .. at distance d .. gives link d of the chain counted by lengths alone,
   -- having skipped d mod 8 links, or 'ended' if that chain breaks first": crates/stream_finder/specs/Demand.antt
   pub third : Demand3

@@ -27,6 +27,7 @@ pub mod WritesWhen
 pub mod PiecesWhen
 pub mod Written
 pub mod Idle
+pub mod IdleAnswers
 pub mod Examples
 pub mod DeclareExamples
 pub mod OneOutcome
