@@ -3,7 +3,7 @@ use Prim.Native.Nat.{ℕ, zero, suc, _+_, _*_, _≤_, _<_}
 use native.Mathlib.Omega.{arith}
 use mathlib.Core.Bool.{Bool, true, false, false≢true}
 use mathlib.Core.Logic.{_⊎_, inl, inr}
-use mathlib.Core.Path.{_≡_, refl, ap, sym, _∙_}
+use mathlib.Core.Path.{_≡_, refl, ap, sym, subst, _∙_}
 use mathlib.Core.List.{List, [], _∷_, _++_}
 use mathlib.Core.Option.{Option, none, some}
 use lib.ListN.{length, take, drop}
@@ -41,7 +41,9 @@ use Rattle.declare_step.specs.Steps.{stepBy, stepOf, startOf}
 use Rattle.declare_step.specs.declared.Around.{Around}
 use Rattle.declare_step.specs.declared.Step.{Step}
 use Rattle.declare_step.specs.declared.Step.the-variants as step
-use Rattle.declare_walk.specs.Walk.{Walked, printed, stopped, onto, joined, restOf, argumentsOf, listed as listedArguments, stepped, walk, declarationOf}
+use Rattle.declare_walk.specs.Walk.{Walked, printed, stopped, onto, joined, restOf, argumentsOf, listed as listedArguments, stepped, walk, capped, declarationOf}
+use Rattle.declare_walk.specs.declared.Measured.{Measured}
+use Rattle.declare_walk.specs.declared.Measured.the-variants as measured
 use Rattle.declare_type.specs.declared.DeclareAnswer.{DeclareAnswer}
 use Rattle.declare_type.specs.Declares.{textIn, declareOf, saidDeclare, lengthOf, bufferAfter, Declares}
 use Rattle.claim_promises.specs.ByTable.{Links, fits, linksFit, By, gives, refuses}
@@ -621,3 +623,62 @@ declare-says s σ i room n d h = go (ltb longest (length s)) h where
   go : (b : Bool) → stop b 16 (textIn room (declarationOf s σ i)) ≡ refused n d → Said n d
   go true k = let e : 16 ≡ n = cc in let f : [] ≡ d = cc in rw (sym e, sym f) said-16
   go false k = text-says room (declarationOf s σ i) (walk-good s σ 32 i startOf) n d k
+
+-- ---- a declaration's parts
+
+abbrev ofNodes : List ℕ
+ofNodes = 16 ∷ 26 ∷ 13 ∷ 8 ∷ 9 ∷ 1 ∷ 10 ∷ 11 ∷ 12 ∷ 24 ∷ []
+
+-- of a node and of a list: all but 23
+reason-says : (O : Type 0) (e : Refusal) → Reason O e → among (numberOf e) ofNodes ≡ true
+unfolding among within
+reason-says O e (inl l) = among-within (numberOf e) ofLookups ofNodes refl (l .low)
+reason-says O e (inr h) = rw (h .0) refl
+
+pub node-says : (s : List ℕ) (σ : State) (i : ℕ) (e : Refusal) → nodeOf s σ i ≡ node.Refused e → among (numberOf e) ofNodes ≡ true
+node-says s σ i e h = reason-says _ e (rw h at (node-is s σ i))
+
+pub list-says : (s : List ℕ) (σ : State) (i : ℕ) (e : Refusal) → listOf s σ i ≡ arguments.Refused e → among (numberOf e) ofNodes ≡ true
+list-says s σ i e h = reason-says _ e (rw h at (list-is s σ i))
+
+abbrev StepRight : Type 0 → Step → Type 0
+StepRight O (step.Last p) = Unit
+StepRight O (step.Inward l r i a) = Unit
+StepRight O (step.Call l r z g i a) = Unit
+StepRight O (step.Refused e) = Reason O e
+
+step-right : (O : Type 0) (n : Node) (a : Around) → NodeRight O n → StepRight O (stepBy n a)
+step-right O (node.Primitive k y) a h = tt
+step-right O (node.Named p n) a h = tt
+step-right O (node.Pointer i m q) a h = tt
+step-right O (node.Modifier i q) a h = tt
+step-right O (node.Array i e) a h = tt
+step-right O (node.Procedure i j) a h = tt
+step-right O (node.Refused e) a h = h
+
+step-is : (s : List ℕ) (σ : State) (i : ℕ) (a : Around) → StepRight ((0x1000 ≤ i) × OtherLeaf declaredLeaves s σ i) (stepOf s σ i a)
+unfolding stepOf
+step-is s σ i a = step-right _ (nodeOf s σ i) a (node-is s σ i)
+
+pub step-says : (s : List ℕ) (σ : State) (i : ℕ) (a : Around) (e : Refusal) → stepOf s σ i a ≡ step.Refused e → among (numberOf e) ofNodes ≡ true
+step-says s σ i a e h = reason-says _ e (rw h at (step-is s σ i a))
+
+pub walk-says : (s : List ℕ) (σ : State) (d i : ℕ) (a : Around) (k : ℕ) (e : Refusal) → walk s σ d i a ≡ stopped k e → among (numberOf e) ofWalks ≡ true
+walk-says s σ d i a k e h = let g : Good e = subst (λ (w : Walked). GoodWalk w) h (walk-good s σ d i a) in g .good
+
+-- in a room
+abbrev GoodMeasured : Measured → Type 0
+GoodMeasured (measured.Fits l r) = Unit
+GoodMeasured (measured.Refused e) = Said (numberOf e) (detailsOf e)
+
+measured-pick : (b : Bool) (x y : Measured) → GoodMeasured x → GoodMeasured y → GoodMeasured (pick b x y)
+measured-pick true x y p q = p
+measured-pick false x y p q = q
+
+capped-good : (room : ℕ) (w : Walked) → GoodWalk w → GoodMeasured (capped room w)
+unfolding capped
+capped-good room (printed l r) g = measured-pick (ltb room (length l + length r)) (measured.Refused refusal.NoRoom) (measured.Fits (length l) (length r)) said-19 tt
+capped-good room (stopped k e) g = measured-pick (ltb room k) (measured.Refused refusal.NoRoom) (measured.Refused e) said-19 (one-more (numberOf e) (g .good), in-table e)
+
+pub capped-says : (room : ℕ) (s : List ℕ) (σ : State) (d i : ℕ) (a : Around) (e : Refusal) → capped room (walk s σ d i a) ≡ measured.Refused e → among (numberOf e) (19 ∷ ofWalks) ≡ true
+capped-says room s σ d i a e h = let g : Said (numberOf e) (detailsOf e) = subst (λ (m : Measured). GoodMeasured m) h (capped-good room (walk s σ d i a) (walk-good s σ d i a)) in g .0

@@ -1,6 +1,6 @@
 -- Demand 1 is met: each field by its law. Assumes nothing.
 use Rattle.answer.proofs.OneOutcome.{in-table}
-use Rattle.stream_finder.specs.Finder.{state, createBy, updateOf}
+use Rattle.stream_finder.specs.Finder.{state, begunIn, createBy, updateOf}
 use mathlib.Core.Path.{sym, ap, _∙_}
 use lib.ListN.{length}
 use Rattle.stream_index.specs.Walk.{turnOf, saidEnd}
@@ -8,10 +8,10 @@ use Rattle.stream_places.specs.File.{narrow, formOf}
 use Rattle.stream_places.specs.Places.{loadOf, loadWideOf, formFor, saveOf, saveWideOf}
 use Rattle.record_list.specs.Lists.{stepOf}
 use Rattle.claim_promises.proofs.ReadingRefuses.{fixed-refuses, signed-refuses, optional-refuses, string-refuses, counted-refuses, string-of-refuses, bytes-refuses, padding-refuses, numeral-refuses, sized-refuses}
-use Rattle.claim_promises.proofs.StreamRefuses.{primitive-refuses, kind-refuses, mode-refuses, to-member-refuses, reference-refuses, pointer-size-refuses, header-refuses, iter-refuses, len-refuses, is-empty-refuses, next-refuses, view-refuses, raw-kind-refuses, fit-refuses, create-refuses, create-by-refuses, update-refuses, find-refuses, turn-refuses, type-refuses, id-refuses, member-refuses, method-refuses, start-refuses, step-refuses, element-by-refuses, element-refuses, element-ids-refuses, parse-refuses}
+use Rattle.claim_promises.proofs.StreamRefuses.{primitive-refuses, kind-refuses, mode-refuses, to-member-refuses, reference-refuses, pointer-size-refuses, header-refuses, iter-refuses, len-refuses, is-empty-refuses, next-refuses, view-refuses, raw-kind-refuses, fit-refuses, create-refuses, run-refuses, create-by-refuses, update-refuses, find-refuses, turn-refuses, type-refuses, id-refuses, member-refuses, method-refuses, start-refuses, step-refuses, element-by-refuses, element-refuses, element-ids-refuses, parse-refuses}
 use Rattle.claim_promises.proofs.LeftAlone.{leaves-alone, changes-nothing, leads-nowhere, steps-nowhere, saves-nothing}
 use Rattle.declare_type.specs.Declares.{declareOf}
-use Rattle.claim_promises.proofs.DeclareRefuses.{declare-says, declares-nothing}
+use Rattle.claim_promises.proofs.DeclareRefuses.{node-says, list-says, step-says, walk-says, capped-says, declare-says, declares-nothing}
 use Rattle.stream_report.specs.Report.{addOf}
 use Rattle.claim_promises.proofs.ReportRefuses.{add-refuses, reports-nothing}
 use Rattle.stream_drop.specs.Drop.{dropOf}
@@ -50,6 +50,7 @@ demand1 = record {
   raw-kinds = raw-kind-refuses;
   creations = create-refuses;
   creations-by = create-by-refuses;
+  beginnings = run-refuses;
   updates = update-refuses;
   finds = find-refuses;
   turns = turn-refuses;
@@ -63,6 +64,11 @@ demand1 = record {
   additions = add-refuses;
   drops = drop-refuses;
   declares = declare-says;
+  nodes = node-says;
+  argument-lists = list-says;
+  declaration-steps = step-says;
+  declaration-walks = walk-says;
+  declarators = capped-says;
   types = type-refuses;
   ids = id-refuses;
   members = member-refuses;
@@ -82,6 +88,7 @@ demand1 = record {
   pieces-filled = filled-laid-refuses;
   pieces-recorded = pieces-laid-refuses;
   create-keeps = λ shift s t. leaves-alone t (createBy shift s t);
+  begin-keeps = λ shift t run. leaves-alone t (begunIn shift t run);
   update-keeps = λ f t c. leaves-alone t (updateOf (state f t) c);
   load-keeps = λ s f t. leaves-alone t (loadOf s f t);
   save-keeps = λ s σ o. saves-nothing o (saveOf s σ (length o));

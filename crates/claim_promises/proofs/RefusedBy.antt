@@ -102,6 +102,7 @@ each-refused-by = record {
   stream-finder-find-id = λ s f t i. answers .stream-finder-find-id s f t i (FindRefuses (16 ∷ 26 ∷ 13 ∷ 8 ∷ 9 ∷ 1 ∷ [])) (demand1 .finds s (state f t) (item-index.Ids i));
   stream-finder-create = λ s t r t′ it. along (Refuses (16 ∷ 1 ∷ 2 ∷ 3 ∷ 4 ∷ 5 ∷ 13 ∷ [])) (it .answer) (of-finder (demand1 .creations s t));
   stream-finder-create-by = λ s t shift r t′ it. along (Refuses (16 ∷ 1 ∷ 2 ∷ 3 ∷ 4 ∷ 5 ∷ 26 ∷ 13 ∷ [])) (it .answer) (of-finder (demand1 .creations-by shift s t));
+  stream-finder-begin = λ t records shift r t′ it. along (Refuses (26 ∷ 13 ∷ [])) (it .answer) (of-finder (demand1 .beginnings shift t records));
   stream-finder-update = λ f t c r t′ it. along (Refuses (16 ∷ 26 ∷ 13 ∷ 14 ∷ [])) (it .answer) (of-finder (demand1 .updates (state f t) c));
   stream-finder-lent-item-finder-update = λ self t c r self′ t′ it. along (Refuses (16 ∷ 26 ∷ 13 ∷ 14 ∷ [])) (it .answer) (of-outcome (demand1 .updates (state self t) c));
   stream-finder-lent-update-local = λ f t c u t′ it. along (Refuses (16 ∷ 26 ∷ 13 ∷ 14 ∷ [])) (it .answer) (of-outcome (demand1 .updates (state f t) c));

@@ -29,9 +29,10 @@ use Rattle.field.specs.declared.index.Stream.the-variants as stream
 use Rattle.field.specs.declared.index.ItemIndex.{ItemIndex}
 use Rattle.stream_item.specs.declared.Entry.{Entry}
 use Rattle.stream_item.specs.declared.iter.ItemIter.{ItemIter}
-use Rattle.stream_finder.specs.Finder.{State, state, saidFinder, createOf, createBy, updateOf, findOf, Fills}
+use Rattle.stream_finder.specs.Finder.{State, state, saidFinder, begunIn, createOf, createBy, updateOf, findOf, Fills}
 use Rattle.stream_finder.specs.Lent.{saidUpdate, Updates}
 use Rattle.stream_finder.specs.declared.ItemFinder.{ItemFinder}
+use Rattle.stream_finder.specs.declared.Run.{Run}
 use Rattle.stream_finder.specs.declared.FinderAnswer.{FinderAnswer}
 use Rattle.stream_finder.specs.declared.lent.UpdateAnswer.{UpdateAnswer}
 use Rattle.stream_index.specs.Walk.{saidTurn, turnOf, Leads, Walks, IndexesBy}
@@ -51,6 +52,15 @@ use Rattle.stream_drop.specs.declared.DropAnswer.{DropAnswer}
 use Rattle.stream_report.specs.Report.{Report, addOf, saidReport, Reports}
 use Rattle.stream_report.specs.declared.ReportAnswer.{ReportAnswer}
 use Rattle.answer.specs.Tables.{among}
+use Rattle.declare_node.specs.Nodes.{nodeOf, listOf}
+use Rattle.declare_node.specs.declared.Node.the-variants as node
+use Rattle.declare_node.specs.declared.Arguments.the-variants as arguments
+use Rattle.declare_step.specs.Steps as declare
+use Rattle.declare_step.specs.declared.Around.{Around}
+use Rattle.declare_step.specs.declared.Step.the-variants as step
+use Rattle.declare_walk.specs.Walk as declaring
+use Rattle.declare_walk.specs.Walk.{stopped, capped}
+use Rattle.declare_walk.specs.declared.Measured.the-variants as measured
 use Rattle.declare_type.specs.Declares.{declareOf, saidDeclare, Declares}
 use Rattle.declare_type.specs.declared.DeclareAnswer.{DeclareAnswer}
 use Rattle.record_layout.specs.Fields.{readFields}
@@ -70,6 +80,10 @@ use Rattle.write_pieces.specs.declared.Piece.{Piece}
 use Rattle.write_pieces.specs.declared.WriteAnswer.{WriteAnswer}
 use Rattle.write_header.specs.Headers.{headerBytes}
 use Rattle.claim_promises.specs.ByTable.{Refuses, FindRefuses}
+
+-- a refusal by one of these numbers
+abbrev pub OneOf : List ℕ → Refusal → Type 0
+OneOf ns e = among (numberOf e) ns ≡ true
 
 -- What the table of `drop` holds after 30 and 19: t′ is t but for its first entries, which are old to new by every sentence of 02 on it (OldToNew), of
 -- the stream whose header is h and whose walk by `next` comes past the payloads ps
@@ -112,6 +126,7 @@ pub record Demand1 : Type 0 where
   -- the finder, by its own shift, which `create` makes 3; 1 has links passed from `find` only
   pub creations : (s t : List ℕ) → Refuses (16 ∷ 1 ∷ 2 ∷ 3 ∷ 4 ∷ 5 ∷ 13 ∷ []) (createOf s t)
   pub creations-by : (shift : ℕ) (s t : List ℕ) → Refuses (16 ∷ 1 ∷ 2 ∷ 3 ∷ 4 ∷ 5 ∷ 26 ∷ 13 ∷ []) (createBy shift s t)
+  pub beginnings : (shift : ℕ) (t : List ℕ) (r : Run) → Refuses (26 ∷ 13 ∷ []) (begunIn shift t r)
   pub updates : (σ : State) (c : ItemIter) → Refuses (16 ∷ 26 ∷ 13 ∷ 14 ∷ []) (updateOf σ c)
   pub finds : (s : List ℕ) (σ : State) (i : ItemIndex) → FindRefuses (16 ∷ 26 ∷ 13 ∷ 8 ∷ 9 ∷ 1 ∷ []) (findOf s σ i)
   pub turns : (s : List ℕ) (σ : State) (c : ItemIter) → Refuses (16 ∷ 1 ∷ 6 ∷ 7 ∷ 26 ∷ 13 ∷ 14 ∷ []) (turnOf s σ c)
@@ -132,6 +147,16 @@ pub record Demand1 : Type 0 where
   -- document 02, R-5: a declaration. 1 has the lookup's links passed, or none where a reader gives it
   pub declares : (s : List ℕ) (σ : State) (i room n : ℕ) (d : List ℕ) → declareOf s σ i room ≡ refused n d
       → (among n (19 ∷ 16 ∷ 26 ∷ 13 ∷ 8 ∷ 9 ∷ 1 ∷ 10 ∷ 11 ∷ 12 ∷ 23 ∷ 24 ∷ []) ≡ true) × (listed n d ≡ true)
+  -- and its parts: what a type and an argument list are, what a type adds, the walk with any number of types left to nest, and that walk in a room. That
+  -- each is one of these is all there is to say: every refusal is a line of the table, by `table`
+  pub nodes : (s : List ℕ) (σ : State) (i : ℕ) (e : Refusal) → nodeOf s σ i ≡ node.Refused e → OneOf (16 ∷ 26 ∷ 13 ∷ 8 ∷ 9 ∷ 1 ∷ 10 ∷ 11 ∷ 12 ∷ 24 ∷ []) e
+  pub argument-lists : (s : List ℕ) (σ : State) (i : ℕ) (e : Refusal) → listOf s σ i ≡ arguments.Refused e → OneOf (16 ∷ 26 ∷ 13 ∷ 8 ∷ 9 ∷ 1 ∷ 10 ∷ 11 ∷ 12 ∷ 24 ∷ []) e
+  pub declaration-steps : (s : List ℕ) (σ : State) (i : ℕ) (a : Around) (e : Refusal) → declare.stepOf s σ i a ≡ step.Refused e
+      → OneOf (16 ∷ 26 ∷ 13 ∷ 8 ∷ 9 ∷ 1 ∷ 10 ∷ 11 ∷ 12 ∷ 24 ∷ []) e
+  pub declaration-walks : (s : List ℕ) (σ : State) (left i : ℕ) (a : Around) (k : ℕ) (e : Refusal) → declaring.walk s σ left i a ≡ stopped k e
+      → OneOf (16 ∷ 26 ∷ 13 ∷ 8 ∷ 9 ∷ 1 ∷ 10 ∷ 11 ∷ 12 ∷ 23 ∷ 24 ∷ []) e
+  pub declarators : (room : ℕ) (s : List ℕ) (σ : State) (left i : ℕ) (a : Around) (e : Refusal) → capped room (declaring.walk s σ left i a) ≡ measured.Refused e
+      → OneOf (19 ∷ 16 ∷ 26 ∷ 13 ∷ 8 ∷ 9 ∷ 1 ∷ 10 ∷ 11 ∷ 12 ∷ 23 ∷ 24 ∷ []) e
   -- records, members, methods, and entries of a stream
   pub types : (s : List ℕ) → Refuses (1 ∷ 10 ∷ 11 ∷ 12 ∷ []) (recordOf typeLeaves s)
   pub ids : (s : List ℕ) → Refuses (1 ∷ 10 ∷ []) (recordOf idLeaves s)
@@ -158,6 +183,7 @@ pub record Demand1 : Type 0 where
 
   -- the table, lent to creation with any shift, to `update` by value, to a turn and to a walk
   pub create-keeps : (shift : ℕ) (s t : List ℕ) (r : FinderAnswer) (t′ : List ℕ) (n : ℕ) (d : List ℕ) → Fills t (createBy shift s t) r t′ → saidFinder r ≡ refused n d → t′ ≡ t
+  pub begin-keeps : (shift : ℕ) (t : List ℕ) (run : Run) (r : FinderAnswer) (t′ : List ℕ) (n : ℕ) (d : List ℕ) → Fills t (begunIn shift t run) r t′ → saidFinder r ≡ refused n d → t′ ≡ t
   pub update-keeps : (f : ItemFinder) (t : List ℕ) (c : ItemIter) (r : FinderAnswer) (t′ : List ℕ) (n : ℕ) (d : List ℕ)
       → Fills t (updateOf (state f t) c) r t′ → saidFinder r ≡ refused n d → t′ ≡ t
   -- the table, lent to `load`, and the buffer, lent to `save`
