@@ -82,7 +82,7 @@ filled-right m (two f) (a ∷ []) e r h = never e h
 filled-right m (two f) (a ∷ b ∷ []) e r h = rw (sym (same (f a b) e h)) (r a b)
 filled-right m (two f) (a ∷ b ∷ c ∷ d) e r h = never e h
 
-named-right : (ls : List (Line Named)) → AllRight ls → (n : ℕ) (d : List ℕ) (e : Refusal) → inTable ls n d ≡ some e → numberOf e ≡ n
+pub named-right : (ls : List (Line Named)) → AllRight ls → (n : ℕ) (d : List ℕ) (e : Refusal) → inTable ls n d ≡ some e → numberOf e ≡ n
 unfolding inTable
 named-right [] r n d e h = never e h
 named-right ((m is w) ∷ ls) r n d e h = go (eqb n m) refl (filled w d) refl (λ k. named-right ls (r .1) n d e k) where
@@ -93,7 +93,7 @@ named-right ((m is w) ∷ ls) r n d e h = go (eqb n m) refl (filled w d) refl (�
   go true f none g later = later (rw (f, g) at h)
   go false f o g later = later (rw f at h)
 
-all-right : AllRight refusals
+pub all-right : AllRight refusals
 unfolding refusals
 all-right =
     (refl, (λ a. refl, (refl, (refl, (refl, (refl, (refl, (refl, (λ a. refl, (λ a b. refl, (λ a. refl, (refl, (refl, (refl, (refl, (refl, (refl, (refl, (refl, (refl, (refl, (refl, (refl, (refl, (refl, (refl, (refl, (refl, (refl, (refl, (refl, tt)))))))))))))))))))))))))))))))

@@ -11,7 +11,8 @@ use Rattle.claim_promises.proofs.ReadingRefuses.{fixed-refuses, signed-
 use Rattle.claim_promises.proofs.StreamRefuses.{primitive-refuses, kind-refuses, mode-refuses, to-member-refuses, reference-refuses, pointer-size-refuses, header-refuses, iter-refuses, len-refuses, is-empty-refuses, next-refuses, view-refuses, raw-kind-refuses, fit-refuses, create-refuses, run-refuses, create-by-refuses, update-refuses, find-refuses, turn-refuses, type-refuses, id-refuses, member-refuses, method-refuses, start-refuses, step-refuses, element-by-refuses, element-refuses, element-ids-refuses, parse-refuses}
 use Rattle.claim_promises.proofs.LeftAlone.{leaves-alone, changes-nothing, leads-nowhere, steps-nowhere, saves-nothing}
 use Rattle.declare_type.specs.Declares.{declareOf}
-use Rattle.claim_promises.proofs.DeclareRefuses.{node-says, list-says, step-says, walk-says, capped-says, declare-says, declares-nothing}
+use Rattle.claim_promises.proofs.DeclareRefuses.{declares-nothing}
+use Rattle.claim_promises.proofs.DeclareParts.{node-says, list-says, step-says, walk-says, capped-says, declare-says}
 use Rattle.stream_report.specs.Report.{addOf}
 use Rattle.claim_promises.proofs.ReportRefuses.{add-refuses, reports-nothing}
 use Rattle.stream_drop.specs.Drop.{dropOf}

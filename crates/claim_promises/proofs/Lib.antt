@@ -8,6 +8,7 @@ pub mod DropLeaves
 pub mod WritersRefuse
 pub mod DeclareModes
 pub mod DeclarePaths
+pub mod DeclareParts
 pub mod DeclareRefuses
 pub mod Digits
 pub mod LeftAlone

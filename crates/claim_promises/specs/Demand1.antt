@@ -144,19 +144,19 @@ pub record Demand1 : Type 0 where
   pub additions : (ρ : Report) (s : List ℕ) → Refuses (27 ∷ 28 ∷ []) (addOf ρ s)
   -- document 02, R-13: the stream of the records that some roots reach. 8 has the first root at or above the maximum
   pub drops : (s roots : List ℕ) (places room : ℕ) → Refuses (16 ∷ 1 ∷ 2 ∷ 3 ∷ 4 ∷ 5 ∷ 29 ∷ 8 ∷ 13 ∷ 30 ∷ 19 ∷ []) (answerOf (dropOf s roots places room))
-  -- document 02, R-5: a declaration. 1 has the lookup's links passed, or none where a reader gives it
+  -- document 02, R-5: a declaration. 1 has the lookup's links passed, or none where a reader gives it; never 10, since each leaf that is read is known
   pub declares : (s : List ℕ) (σ : State) (i room n : ℕ) (d : List ℕ) → declareOf s σ i room ≡ refused n d
-      → (among n (19 ∷ 16 ∷ 26 ∷ 13 ∷ 8 ∷ 9 ∷ 1 ∷ 10 ∷ 11 ∷ 12 ∷ 23 ∷ 24 ∷ []) ≡ true) × (listed n d ≡ true)
+      → (among n (19 ∷ 16 ∷ 26 ∷ 13 ∷ 8 ∷ 9 ∷ 1 ∷ 11 ∷ 12 ∷ 23 ∷ 24 ∷ []) ≡ true) × (listed n d ≡ true)
   -- and its parts: what a type and an argument list are, what a type adds, the walk with any number of types left to nest, and that walk in a room. That
   -- each is one of these is all there is to say: every refusal is a line of the table, by `table`
-  pub nodes : (s : List ℕ) (σ : State) (i : ℕ) (e : Refusal) → nodeOf s σ i ≡ node.Refused e → OneOf (16 ∷ 26 ∷ 13 ∷ 8 ∷ 9 ∷ 1 ∷ 10 ∷ 11 ∷ 12 ∷ 24 ∷ []) e
-  pub argument-lists : (s : List ℕ) (σ : State) (i : ℕ) (e : Refusal) → listOf s σ i ≡ arguments.Refused e → OneOf (16 ∷ 26 ∷ 13 ∷ 8 ∷ 9 ∷ 1 ∷ 10 ∷ 11 ∷ 12 ∷ 24 ∷ []) e
+  pub nodes : (s : List ℕ) (σ : State) (i : ℕ) (e : Refusal) → nodeOf s σ i ≡ node.Refused e → OneOf (16 ∷ 26 ∷ 13 ∷ 8 ∷ 9 ∷ 1 ∷ 11 ∷ 12 ∷ 24 ∷ []) e
+  pub argument-lists : (s : List ℕ) (σ : State) (i : ℕ) (e : Refusal) → listOf s σ i ≡ arguments.Refused e → OneOf (16 ∷ 26 ∷ 13 ∷ 8 ∷ 9 ∷ 1 ∷ 11 ∷ 12 ∷ 24 ∷ []) e
   pub declaration-steps : (s : List ℕ) (σ : State) (i : ℕ) (a : Around) (e : Refusal) → declare.stepOf s σ i a ≡ step.Refused e
-      → OneOf (16 ∷ 26 ∷ 13 ∷ 8 ∷ 9 ∷ 1 ∷ 10 ∷ 11 ∷ 12 ∷ 24 ∷ []) e
+      → OneOf (16 ∷ 26 ∷ 13 ∷ 8 ∷ 9 ∷ 1 ∷ 11 ∷ 12 ∷ 24 ∷ []) e
   pub declaration-walks : (s : List ℕ) (σ : State) (left i : ℕ) (a : Around) (k : ℕ) (e : Refusal) → declaring.walk s σ left i a ≡ stopped k e
-      → OneOf (16 ∷ 26 ∷ 13 ∷ 8 ∷ 9 ∷ 1 ∷ 10 ∷ 11 ∷ 12 ∷ 23 ∷ 24 ∷ []) e
+      → OneOf (16 ∷ 26 ∷ 13 ∷ 8 ∷ 9 ∷ 1 ∷ 11 ∷ 12 ∷ 23 ∷ 24 ∷ []) e
   pub declarators : (room : ℕ) (s : List ℕ) (σ : State) (left i : ℕ) (a : Around) (e : Refusal) → capped room (declaring.walk s σ left i a) ≡ measured.Refused e
-      → OneOf (19 ∷ 16 ∷ 26 ∷ 13 ∷ 8 ∷ 9 ∷ 1 ∷ 10 ∷ 11 ∷ 12 ∷ 23 ∷ 24 ∷ []) e
+      → OneOf (19 ∷ 16 ∷ 26 ∷ 13 ∷ 8 ∷ 9 ∷ 1 ∷ 11 ∷ 12 ∷ 23 ∷ 24 ∷ []) e
   -- records, members, methods, and entries of a stream
   pub types : (s : List ℕ) → Refuses (1 ∷ 10 ∷ 11 ∷ 12 ∷ []) (recordOf typeLeaves s)
   pub ids : (s : List ℕ) → Refuses (1 ∷ 10 ∷ []) (recordOf idLeaves s)
