@@ -7,8 +7,9 @@ use mathlib.Core.Logic.{_⊎_, inl, inr}
 use mathlib.Core.List.{List, [], _∷_, map}
 use lib.ListN.{length, getD, take, List·getD-append, List·getD-eq-default}
 use lib.Seq.{getD-take}
-use lib.Dec.{leb}
-use borrow.Author.Tests.{leb-true, leb-false}
+use mathlib.Core.Option.{Option, none as no-root, some as a-root}
+use lib.Dec.{leb, ltb}
+use borrow.Author.Tests.{leb-true, leb-false, ltb-true, ltb-false}
 use Rattle.answer.specs.Answer.{answered, pick}
 use Rattle.field.specs.declared.index.Stream.the-variants as stream
 use Rattle.field_put.specs.Bytes.{Octets}
@@ -32,8 +33,8 @@ use Rattle.stream_prune.proofs.HeadLaws.{head-long, size-inside}
 use Rattle.stream_prune.proofs.Walks.{fit-count}
 use Rattle.stream_prune.proofs.NewStream.{Old, op, low, octets, goods, count, new-count, renewed}
 use Rattle.stream_prune.proofs.DroppedLaws.{names-down, all-close, drops}
-use Rattle.stream_drop.specs.Drop.{someReadAsNone, dropOf, written}
-use Rattle.stream_drop.specs.Sentences.{through, IsKept, rewritten, keptBy, upward, OldToNew, Says, ReadsAsNone, When, Sentences}
+use Rattle.stream_drop.specs.Drop.{firstAbove, someReadAsNone, dropOf, written}
+use Rattle.stream_drop.specs.Sentences.{through, IsKept, rewritten, keptBy, upward, OldToNew, Says, ReadsAsNone, FirstAbove, here, later, Case, by-8, by-13, by-30, by-19, by-none, When, Sentences}
 use Rattle.stream_drop.proofs.UpLaws.{AllKnown, named-kept, all-known}
 use Rattle.stream_drop.proofs.DropLaws.{all-below}
 use Rattle.stream_drop.proofs.ThroughLaws.{same-fits, same-map, marked-kept, kept-marked, through-new, kept-by, all-numbers, all-index, reads-found, reads-there}
@@ -306,6 +307,8 @@ record Decides (roots : List ℕ) (h : Header) (ps : List (List ℕ)) : Type 0 w
   says-so : OldToNew roots h ps (numbers (h .«minimum_index») (marksOf (h .«minimum_index») ps roots))
   yes : ReadsAsNone (h .«minimum_index») (numbers (h .«minimum_index») (marksOf (h .«minimum_index») ps roots)) ps
       → someReadAsNone (h .«minimum_index») (marksOf (h .«minimum_index») ps roots) 0 ps ≡ true
+  found : someReadAsNone (h .«minimum_index») (marksOf (h .«minimum_index») ps roots) 0 ps ≡ true
+      → ReadsAsNone (h .«minimum_index») (numbers (h .«minimum_index») (marksOf (h .«minimum_index») ps roots)) ps
   not : (ReadsAsNone (h .«minimum_index») (numbers (h .«minimum_index») (marksOf (h .«minimum_index») ps roots)) ps → ⊥)
       → someReadAsNone (h .«minimum_index») (marksOf (h .«minimum_index») ps roots) 0 ps ≡ false
 
@@ -314,6 +317,7 @@ unfolding someReadAsNone
 decides-none roots h z inside = record {
   says-so = none-to-new roots h z inside;
   yes = λ x. absurd (none-kept (h .«minimum_index») (marksOf (h .«minimum_index») [] roots) (x .holder) (marks-long (h .«minimum_index») [] roots) (x .kept));
+  found = λ e. let z : _≡_ {A = ℕ} 0 1 = cc in absurd (omega arith);
   not = λ n. refl;
 }
 
@@ -335,8 +339,43 @@ module _ (roots : List ℕ) (c : ItemIter) (ps : List (List ℕ)) where
       record {
         says-so = old-to-new (x ∷ s) h c ps roots old inside;
         yes = reads-back (x ∷ s) h c ps roots old inside;
+        found = reads-on (x ∷ s) h c ps roots old inside;
         not = reads-not (x ∷ s) h c ps roots old inside;
       }
+
+-- the cases leave nothing out
+above-or-below : (maximum : ℕ) (roots : List ℕ) (x : ℕ) → firstAbove maximum roots ≡ a-root x → FirstAbove maximum roots x
+unfolding firstAbove
+above-or-below maximum [] x e = let z : _≡_ {A = ℕ} 0 1 = cc in absurd (omega arith)
+above-or-below maximum (y ∷ ys) x e = go (leb maximum y) refl e (above-or-below maximum ys x)
+  where
+    go : (b : Bool) → leb maximum y ≡ b → pick b (a-root y) (firstAbove maximum ys) ≡ a-root x → (firstAbove maximum ys ≡ a-root x → FirstAbove maximum ys x) → FirstAbove maximum (y ∷ ys) x
+    go true f g more = let z : y ≡ x = cc in rw (← z) (here (leb-true maximum y f))
+    go false f g more = later (leb-false maximum y f) (more g)
+
+case-of : (roots : List ℕ) (h : Header) (ps : List (List ℕ)) (new : List ℕ) (places room : ℕ) → (((x : ℕ) → IsIn x roots → x < h .«maximum_index») → Decides roots h ps)
+    → Case roots h ps (numbers (h .«minimum_index») (marksOf (h .«minimum_index») ps roots)) new places room
+case-of roots h ps new places room d = by-root (firstAbove (h .«maximum_index») roots) refl
+  where
+    by-room : ((x : ℕ) → IsIn x roots → x < h .«maximum_index») → length ps ≤ places
+        → (ReadsAsNone (h .«minimum_index») (numbers (h .«minimum_index») (marksOf (h .«minimum_index») ps roots)) ps → ⊥) → (b : Bool) → ltb room (length new) ≡ b
+        → Case roots h ps (numbers (h .«minimum_index») (marksOf (h .«minimum_index») ps roots)) new places room
+    by-room i l n true e = by-19 i l n (ltb-true room (length new) e)
+    by-room i l n false e = by-none i l n (ltb-false room (length new) e)
+
+    by-reads : ((x : ℕ) → IsIn x roots → x < h .«maximum_index») → length ps ≤ places → (b : Bool) → someReadAsNone (h .«minimum_index») (marksOf (h .«minimum_index») ps roots) 0 ps ≡ b
+        → Case roots h ps (numbers (h .«minimum_index») (marksOf (h .«minimum_index») ps roots)) new places room
+    by-reads i l true e = by-30 i l (d i .found e)
+    by-reads i l false e = by-room i l (λ r. let g = d i .yes r in let z : _≡_ {A = ℕ} 0 1 = cc in absurd (omega arith)) (ltb room (length new)) refl
+
+    by-places : ((x : ℕ) → IsIn x roots → x < h .«maximum_index») → (b : Bool) → ltb places (length ps) ≡ b
+        → Case roots h ps (numbers (h .«minimum_index») (marksOf (h .«minimum_index») ps roots)) new places room
+    by-places i true e = by-13 i (ltb-true places (length ps) e)
+    by-places i false e = by-reads i (ltb-false places (length ps) e) (someReadAsNone (h .«minimum_index») (marksOf (h .«minimum_index») ps roots) 0 ps) refl
+
+    by-root : (o : Option ℕ) → firstAbove (h .«maximum_index») roots ≡ o → Case roots h ps (numbers (h .«minimum_index») (marksOf (h .«minimum_index») ps roots)) new places room
+    by-root (a-root x) e = by-8 x (above-or-below (h .«maximum_index») roots x e)
+    by-root no-root e = by-places (all-below (h .«maximum_index») roots e) (ltb places (length ps)) refl
 
 when : (s roots : List ℕ) (h : Header) (c : ItemIter) (ps : List (List ℕ)) → Octets s → headerOf s ≡ answered h → iterOf stream.Types s ≡ answered c → fitOf s ≡ answered fit → Walked s c ps
     → When s roots h c ps
@@ -352,6 +391,7 @@ when s roots h c ps o e i f w =
       places = λ places room inside l. drop places room ∙ few-places s h ps roots places room (below inside) l;
       none = λ places room inside l r. drop places room ∙ reads-none s h ps roots places room (below inside) l (d inside .yes r);
       room = λ places room inside l n k. drop places room ∙ no-room s h ps roots places room (below inside) l (d inside .not n) k;
+      covers = λ places room. case-of roots h ps (newStream s h (marksOf (h .«minimum_index») ps roots) ps) places room d;
       answers = λ places room inside l n k. drop places room ∙ writes s h ps roots places room (below inside) l (d inside .not n) k;
     }
 

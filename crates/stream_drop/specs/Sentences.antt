@@ -105,7 +105,17 @@ pub data FirstAbove (maximum : ℕ) : List ℕ → ℕ → Type 0 where
   here : {x : ℕ} {xs : List ℕ} → maximum ≤ x → FirstAbove maximum (x ∷ xs) x
   later : {x y : ℕ} {xs : List ℕ} → x < maximum → FirstAbove maximum xs y → FirstAbove maximum (x ∷ xs) y
 
--- Of a fit stream with this header, whose walk comes past ps: which outcome there is, each exactly when its premise holds and none before it does
+-- The cases of a fit stream: a root at or above the maximum; else too few places; else a reference that reads as none; else too little room; else none
+-- of these
+pub data Case (roots : List ℕ) (h : Header) (ps : List (List ℕ)) (entries new : List ℕ) (places room : ℕ) : Type 0 where
+  by-8 : (x : ℕ) → FirstAbove (h .«maximum_index») roots x → Case roots h ps entries new places room
+  by-13 : ((x : ℕ) → IsIn x roots → x < h .«maximum_index») → places < length ps → Case roots h ps entries new places room
+  by-30 : ((x : ℕ) → IsIn x roots → x < h .«maximum_index») → length ps ≤ places → ReadsAsNone (h .«minimum_index») entries ps → Case roots h ps entries new places room
+  by-19 : ((x : ℕ) → IsIn x roots → x < h .«maximum_index») → length ps ≤ places → (ReadsAsNone (h .«minimum_index») entries ps → ⊥) → room < length new → Case roots h ps entries new places room
+  by-none : ((x : ℕ) → IsIn x roots → x < h .«maximum_index») → length ps ≤ places → (ReadsAsNone (h .«minimum_index») entries ps → ⊥) → length new ≤ room → Case roots h ps entries new places room
+
+-- Of a fit stream with this header, whose walk comes past ps: which outcome there is, each where its premise holds and none before it does. `covers` says
+-- that these are all, so each outcome is given exactly then
 pub record When (s roots : List ℕ) (h : Header) (c : ItemIter) (ps : List (List ℕ)) : Type 0 where
   pub entries : List ℕ
   pub new : List ℕ
@@ -120,6 +130,7 @@ pub record When (s roots : List ℕ) (h : Header) (c : ItemIter) (ps : List (Lis
   -- 19: the new stream does not fit the buffer; the table holds old to new
   pub room : (places room : ℕ) → ((x : ℕ) → IsIn x roots → x < h .«maximum_index») → length ps ≤ places → (ReadsAsNone (h .«minimum_index») entries ps → ⊥) → room < length new
       → dropOf s roots places room ≡ numbersOnly 19 entries
+  pub covers : (places room : ℕ) → Case roots h ps entries new places room
   -- else it is written
   pub answers : (places room : ℕ) → ((x : ℕ) → IsIn x roots → x < h .«maximum_index») → length ps ≤ places → (ReadsAsNone (h .«minimum_index») entries ps → ⊥) → length new ≤ room
       → dropOf s roots places room ≡ written entries new
