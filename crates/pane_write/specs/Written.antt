@@ -1,11 +1,13 @@
 -- What C gets of a writer: the place behind what was written, and the buffer after the call.
-use Prim.Native.Nat.{ℕ, _-_, _^_}
+use Prim.Native.Nat.{ℕ}
 use mathlib.Core.List.{List, [], _∷_}
-use lib.Dec.{ltb}
-use lib.IntN.{ℤ, pos, negsuc}
+use lib.IntN.{ℤ}
+use mir.Syntax.{w32}
+use mir.Val.{toZ}
 use lib.ListN.{getD}
-use Rattle.answer.specs.Answer.{Answer, answered, refused, pick}
+use Rattle.answer.specs.Answer.{Answer}
 use Rattle.stream_header.specs.declared.Header.{Header}
+use Rattle.stream_header.specs.declared.Slice.{Slice}
 use Rattle.write_layout.specs.Buffer.{Written, placeAfter, bufferAfter}
 use Rattle.pane_out.specs.Handed.{handed}
 
@@ -15,9 +17,12 @@ placeField p = p ∷ []
 abbrev pub outWrite : List ℕ → Answer Written → ℕ × List ℕ × List ℕ
 outWrite s a = (handed 1 placeField (placeAfter a) .0, handed 1 placeField (placeAfter a) .1, bufferAfter s a)
 
--- a signed number from its 32 bits
+-- the number whose two's complement these 32 bits are
 abbrev pub signedOf : ℕ → ℤ
-signedOf n = pick (ltb n (2 ^ 31)) (pos n) (negsuc (2 ^ 32 - 1 - n))
+signedOf n = toZ w32 n
+
+abbrev pub sliceIn : ℕ → ℕ → Slice
+sliceIn offset size = record { offset = signedOf offset; size = size }
 
 -- a header from the numbers that C gives: the thirteen of 32 bits in the order of its bytes, offsets as their bits, and the two stream numbers
 abbrev pub headerIn : List ℕ → ℕ → ℕ → Header
@@ -31,7 +36,7 @@ headerIn f stream pad = record {
   «tpi_hash_pad_stream» = pad;
   «hash_key_size» = getD f 5 0;
   «hash_bucket_size» = getD f 6 0;
-  «hash_values» = record { offset = signedOf (getD f 7 0); size = getD f 8 0 };
-  «ti_off» = record { offset = signedOf (getD f 9 0); size = getD f 10 0 };
-  «hash_adj» = record { offset = signedOf (getD f 11 0); size = getD f 12 0 };
+  «hash_values» = sliceIn (getD f 7 0) (getD f 8 0);
+  «ti_off» = sliceIn (getD f 9 0) (getD f 10 0);
+  «hash_adj» = sliceIn (getD f 11 0) (getD f 12 0);
 }

@@ -100,5 +100,5 @@ leaf-read : (table : Table) (leaf : ℕ) (s : List ℕ) (p : ℕ) → and-then (
 unfolding readLeaf
 leaf-read table leaf s p = by-leaf (find leaf table) leaf s p
 
-pub rows-tell : CellsTell
-rows-tell = record { back = row-back; one-row = row-one; told = row-told; as-read = leaf-read }
+pub cells-tell : CellsTell
+cells-tell = record { back = row-back; one-row = row-one; told = row-told; as-read = leaf-read }

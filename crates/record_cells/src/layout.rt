@@ -1,8 +1,9 @@
 // The layouts of document 01 as numbers: five bits a field, the first field lowest. specs/Codes.antt says which field a code is.
 ghost use mathlib.Core.Path.{_≡_};
+ghost use mathlib.Core.Option.{some};
 ghost use Rattle.answer.specs.Tables.{find};
 ghost use Rattle.record_layout.specs.Layouts.{typeLeaves, memberLeaves, idLeaves, method};
-ghost use Rattle.record_cells.specs.Codes.{layoutIn, fieldsOf};
+ghost use Rattle.record_cells.specs.Codes.{layoutIn, codeIn, typeCodes, memberCodes, idCodes, methodCode};
 
 // 01's names of the fields.
 
@@ -120,7 +121,7 @@ const LIST_METHOD: u64 = WORD16 | GAP << 5 | T << 10 | OFFSET << 15;
 
 // The layout of a type record; 0 for a leaf that the type reader does not take.
 pub fn type_layout(leaf: u16) -> u64
-    ensures { λ r. ⌜ layoutIn r ≡ find leaf typeLeaves ⌝ }
+    ensures { λ r. ⌜ (layoutIn r ≡ find leaf typeLeaves) × (r ≡ codeIn typeCodes leaf) ⌝ }
 {
     match leaf {
         0x1001 => MODIFIER,
@@ -145,7 +146,7 @@ pub fn type_layout(leaf: u16) -> u64
 
 // The layout of a member of a field list; 0 for a leaf that is none.
 pub fn member_layout(leaf: u16) -> u64
-    ensures { λ r. ⌜ layoutIn r ≡ find leaf memberLeaves ⌝ }
+    ensures { λ r. ⌜ (layoutIn r ≡ find leaf memberLeaves) × (r ≡ codeIn memberCodes leaf) ⌝ }
 {
     match leaf {
         0x1400 => BASE,
@@ -165,14 +166,14 @@ pub fn member_layout(leaf: u16) -> u64
 
 // The layout of a method of a method list.
 pub fn method_layout() -> u64
-    ensures { λ r. ⌜ fieldsOf r ≡ method ⌝ }
+    ensures { λ r. ⌜ (layoutIn r ≡ some method) × (r ≡ methodCode) ⌝ }
 {
     LIST_METHOD
 }
 
 // The layout of an id record; 0 for a leaf that the id reader does not take.
 pub fn id_layout(leaf: u16) -> u64
-    ensures { λ r. ⌜ layoutIn r ≡ find leaf idLeaves ⌝ }
+    ensures { λ r. ⌜ (layoutIn r ≡ find leaf idLeaves) × (r ≡ codeIn idCodes leaf) ⌝ }
 {
     match leaf {
         0x1601 => FUNCTION,
