@@ -1,9 +1,8 @@
 -- How an answer goes over the C boundary: the result, and the numbers behind `out`. "In a refusal every answer field but number and detail is zero."
 use Prim.Native.Nat.{ℕ, _-_, _/_, _%_, _^_}
 use mathlib.Core.List.{List, [], _∷_}
-use lib.ListN.{getD, replicate}
 use lib.IntN.{ℤ, pos, negsuc}
-use Rattle.answer.specs.Answer.{Answer, answered, refused}
+use Rattle.answer.specs.Answer.{Answer}
 use Rattle.stream_header.specs.declared.Header.{Header}
 use Rattle.field.specs.Indices.{numberIn}
 use Rattle.stream_item.specs.Iterator.{Next, done, yielded}
@@ -23,6 +22,7 @@ use Rattle.stream_report.specs.Report.{Report, totalsIn}
 use Rattle.stream_report.specs.Report as reporting
 use Rattle.stream_report.specs.declared.Totals.{Totals}
 use Rattle.word_primitive.specs.declared.PrimitiveType.{PrimitiveType}
+use Rattle.pane_out.specs.Handed.{handed}
 
 -- ---- what C gives
 
@@ -46,10 +46,7 @@ totalsAt taken refusals headers records bytes length stream index rows = record 
   rows = rows;
 }
 
--- ---- what C gets: the number, and behind `out` two details and w fields. An answer has no details, a refusal no fields
-abbrev pub handed : {A : Type 0} → ℕ → (A → List ℕ) → Answer A → ℕ × List ℕ
-handed w fields (answered a) = (0, 0 ∷ 0 ∷ fields a)
-handed w fields (refused n d) = (n, getD d 0 0 ∷ getD d 1 0 ∷ replicate w 0)
+-- ---- what C gets
 
 -- the 32 bits of a signed number
 abbrev pub bitsOf : ℤ → ℕ

@@ -7,8 +7,7 @@
 // plain function's contract cites (specs/Out.antt).
 ghost use mathlib.Core.Path.{_≡_};
 ghost use mathlib.Core.List.{_∷_};
-ghost use lib.ListN.{length, getD};
-ghost use Rattle.answer.specs.Refusals.{detailsOf};
+ghost use lib.ListN.{length};
 ghost use Rattle.stream_header.specs.Header.{headerOf};
 ghost use Rattle.stream_item.specs.Iterator.{nextOf};
 ghost use Rattle.stream_finder.specs.Finder.{updateOf, findOf};
@@ -18,8 +17,6 @@ ghost use Rattle.stream_drop.specs.Drop.{dropOf};
 ghost use Rattle.stream_report.specs.Report.{reportIn, addOf};
 ghost use Rattle.word_primitive.specs.Primitive.{primitiveOf};
 ghost use Rattle.pane.specs.Out.{bitsOf, headerFields, cursorAt, finderAt, typeAt, outHeader, outNext, outUpdate, outFind, outPrimitive, outLoad, outSave, outFit, outDrop, totalsAt, outReport};
-use answer::Details;
-use answer::Refusal;
 use field::index::Stream;
 use field::index::TypeIndex;
 use stream_drop::DropAnswer;
@@ -37,28 +34,6 @@ use stream_report::Largest;
 use stream_report::ReportAnswer;
 use stream_report::Totals;
 use word_primitive::PrimitiveAnswer;
-
-// The first detail of a refusal, 0 where it has none.
-fn first(e: Refusal) -> u64
-    ensures { λ r. ⌜ r ≡ getD (detailsOf e) 0 0 ⌝ }
-{
-    match e.details() {
-        Details::None => 0,
-        Details::One(a) => a as u64,
-        Details::Two(a, _) => a as u64,
-    }
-}
-
-// The second.
-fn second(e: Refusal) -> u64
-    ensures { λ r. ⌜ r ≡ getD (detailsOf e) 1 0 ⌝ }
-{
-    match e.details() {
-        Details::None => 0,
-        Details::One(_) => 0,
-        Details::Two(_, b) => b as u64,
-    }
-}
 
 // The 32 bits of a signed number. Compiles to nothing.
 fn bits(x: i32) -> u64
@@ -112,8 +87,8 @@ pub extern "C" fn pdb_header(s: &[u8], out: &mut [u64; 18]) -> u32
         }
         HeaderAnswer::Refused(e) => {
             *out = [
-                first(e),
-                second(e),
+                pane_out::first(e),
+                pane_out::second(e),
                 0,
                 0,
                 0,
@@ -167,7 +142,7 @@ pub extern "C" fn pdb_next(s: &[u8], at: usize, index: u32, out: &mut [u64; 8]) 
             0
         }
         NextAnswer::Refused(e) => {
-            *out = [first(e), second(e), 0, 0, 0, 0, 0, 0];
+            *out = [pane_out::first(e), pane_out::second(e), 0, 0, 0, 0, 0, 0];
             e.number()
         }
     }
@@ -205,7 +180,7 @@ pub extern "C" fn pdb_update(
             0
         }
         FinderAnswer::Refused(e) => {
-            *out = [first(e), second(e), 0];
+            *out = [pane_out::first(e), pane_out::second(e), 0];
             e.number()
         }
     }
@@ -244,7 +219,7 @@ pub extern "C" fn pdb_find(
             }
         },
         FindAnswer::Refused(e) => {
-            *out = [first(e), second(e), 0, 0, 0, 0];
+            *out = [pane_out::first(e), pane_out::second(e), 0, 0, 0, 0];
             e.number()
         }
     }
@@ -261,7 +236,7 @@ pub extern "C" fn pdb_primitive(index: u32, out: &mut [u64; 4]) -> u32
             0
         }
         PrimitiveAnswer::Refused(e) => {
-            *out = [first(e), second(e), 0, 0];
+            *out = [pane_out::first(e), pane_out::second(e), 0, 0];
             e.number()
         }
     }
@@ -286,7 +261,7 @@ pub extern "C" fn pdb_load(s: &[u8], file: &[u8], table: &mut [u32], out: &mut [
             0
         }
         FinderAnswer::Refused(e) => {
-            *out = [first(e), second(e), 0, 0, 0, 0];
+            *out = [pane_out::first(e), pane_out::second(e), 0, 0, 0, 0];
             e.number()
         }
     }
@@ -319,7 +294,7 @@ pub extern "C" fn pdb_save(
             0
         }
         SaveAnswer::Refused(e) => {
-            *out = [first(e), second(e), 0];
+            *out = [pane_out::first(e), pane_out::second(e), 0];
             e.number()
         }
     }
@@ -340,7 +315,7 @@ pub extern "C" fn pdb_fit(s: &[u8], out: &mut [u64; 5]) -> u32
             0
         }
         FitAnswer::Refused(e) => {
-            *out = [first(e), second(e), 0, 0, 0];
+            *out = [pane_out::first(e), pane_out::second(e), 0, 0, 0];
             e.number()
         }
     }
@@ -364,7 +339,7 @@ pub extern "C" fn pdb_drop(
             0
         }
         DropAnswer::Refused(e) => {
-            *out = [first(e), second(e), 0];
+            *out = [pane_out::first(e), pane_out::second(e), 0];
             e.number()
         }
     }
@@ -421,7 +396,19 @@ pub extern "C" fn pdb_report(
             0
         }
         ReportAnswer::Refused(e) => {
-            *out = [first(e), second(e), 0, 0, 0, 0, 0, 0, 0, 0, 0];
+            *out = [
+                pane_out::first(e),
+                pane_out::second(e),
+                0,
+                0,
+                0,
+                0,
+                0,
+                0,
+                0,
+                0,
+                0,
+            ];
             e.number()
         }
     }
