@@ -1,9 +1,9 @@
--- `pane::pdb_load` meets its contract: what stands behind `out` is what `outLoad` says of the loader's answer, and the table is the loader's. Assumes nothing.
+-- `pane_index::pdb_load` meets its contract: what stands behind `out` is what `outFinder` says of the loader's answer, and the table is the loader's. Assumes nothing.
 use borrow.Author.Needs.{needs}
 use Rattle.answer.proofs.Told.{told}
 use Rattle.stream_finder.specs.Finder.{saidFinder}
-use Rattle.pane.proofs.pdb_load.Statement.{statement}
-use Rattle.pane.proofs.pdb_load.Tie as tie
+use Rattle.pane_index.proofs.pdb_load.Statement.{statement}
+use Rattle.pane_index.proofs.pdb_load.Tie as tie
 
 returns : tie.Need-returns
 returns c =

@@ -1,9 +1,9 @@
--- `pane::pdb_save` meets its contract: what stands behind `out` is what `outSave` says of the writer's answer, and the buffer is the writer's. Assumes nothing.
+-- `pane_index::pdb_save` meets its contract: what stands behind `out` is what `outSave` says of the writer's answer, and the buffer is the writer's. Assumes nothing.
 use borrow.Author.Needs.{needs}
 use Rattle.answer.proofs.Told.{told}
 use Rattle.stream_places.specs.Places.{saidSave}
-use Rattle.pane.proofs.pdb_save.Statement.{statement}
-use Rattle.pane.proofs.pdb_save.Tie as tie
+use Rattle.pane_index.proofs.pdb_save.Statement.{statement}
+use Rattle.pane_index.proofs.pdb_save.Tie as tie
 
 returns : tie.Need-returns
 returns c =

@@ -1,9 +1,9 @@
--- `pane::pdb_drop` meets its contract: what stands behind `out` is what `outDrop` says of the outcome, and the table and the buffer are those after the call. Assumes nothing.
+-- `pane_drop::pdb_drop` meets its contract: what stands behind `out` is what `outDrop` says of the outcome, and the table and the buffer are those after the call. Assumes nothing.
 use borrow.Author.Needs.{needs}
 use Rattle.answer.proofs.Told.{told}
 use Rattle.stream_drop.specs.Drop.{saidDrop}
-use Rattle.pane.proofs.pdb_drop.Statement.{statement}
-use Rattle.pane.proofs.pdb_drop.Tie as tie
+use Rattle.pane_drop.proofs.pdb_drop.Statement.{statement}
+use Rattle.pane_drop.proofs.pdb_drop.Tie as tie
 
 returns : tie.Need-returns
 returns c =

@@ -1,9 +1,9 @@
--- `pane::pdb_report` meets its contract: what stands behind `out` is what `outReport` says of the report, and the table is that after the call. Assumes nothing.
+-- `pane_report::pdb_report` meets its contract: what stands behind `out` is what `outReport` says of the report, and the table is that after the call. Assumes nothing.
 use borrow.Author.Needs.{needs}
 use Rattle.answer.proofs.Told.{told}
 use Rattle.stream_report.specs.Report.{saidReport}
-use Rattle.pane.proofs.pdb_report.Statement.{statement}
-use Rattle.pane.proofs.pdb_report.Tie as tie
+use Rattle.pane_report.proofs.pdb_report.Statement.{statement}
+use Rattle.pane_report.proofs.pdb_report.Tie as tie
 
 returns : tie.Need-returns
 returns c =

@@ -1,9 +1,9 @@
--- `pane::pdb_fit` meets its contract: what stands behind `out` is what `outFit` says of the verdict. Assumes nothing.
+-- `pane_fit::pdb_fit` meets its contract: what stands behind `out` is what `outFit` says of the verdict. Assumes nothing.
 use borrow.Author.Needs.{needs}
 use Rattle.answer.proofs.Told.{told}
 use Rattle.stream_fit.specs.Fit.{saidFit}
-use Rattle.pane.proofs.pdb_fit.Statement.{statement}
-use Rattle.pane.proofs.pdb_fit.Tie as tie
+use Rattle.pane_fit.proofs.pdb_fit.Statement.{statement}
+use Rattle.pane_fit.proofs.pdb_fit.Tie as tie
 
 returns : tie.Need-returns
 returns c = rw (told saidFit (c .before .before .before .fit .ensures) (c .before .enum-told .given .1))
