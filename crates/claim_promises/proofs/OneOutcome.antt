@@ -33,7 +33,7 @@ use Rattle.record_member.proofs.OneOutcome.{one-member, one-entry}
 use Rattle.record_list.proofs.OneOutcome.{one-start, one-step, one-element}
 use Rattle.record_reader.proofs.OneOutcome.{one-reader, one-steps}
 use Rattle.record_parse.proofs.OneOutcome.{one-parse}
-use Rattle.pane.proofs.OneOutcome.{one-out, one-out-table, one-out-both}
+use Rattle.pane_out.proofs.OneOutcome.{one-out, one-out-table, one-out-both}
 use Rattle.write_pieces.proofs.OneOutcome.{one-measure, one-writes}
 use Rattle.stream_item.specs.declared.iter.ItemIter.{ItemIter}
 use Rattle.stream_finder.specs.Finder.{State, state, begunIn, createOf, createBy, updateOf}

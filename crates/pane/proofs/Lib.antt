@@ -4,4 +4,3 @@ pub mod RestLaws
 pub mod TallyProof
 pub mod SameProof
 pub mod TallyWitness
-pub mod OneOutcome

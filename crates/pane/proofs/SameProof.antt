@@ -31,7 +31,8 @@ use Rattle.word_primitive.specs.Primitive.{primitiveOf, known, unknown}
 use Rattle.word_primitive.specs.declared.PrimitiveKind.{PrimitiveKind}
 use Rattle.word_primitive.specs.declared.Indirection.{Indirection}
 use Rattle.word_primitive.specs.declared.PrimitiveType.{PrimitiveType}
-use Rattle.pane.specs.Out.{cursorAt, finderAt, outNext, outFind}
+use Rattle.pane_state.specs.Given.{cursorAt, finderAt}
+use Rattle.pane.specs.Out.{outNext, outFind}
 use Rattle.pane.specs.Same.{Same}
 
 -- ---- what C gets of two answers is the same after the same tests

@@ -16,7 +16,8 @@ use Rattle.stream_finder.specs.Finder.{State, blockOf, distance, createBy, upda
 use Rattle.word_primitive.specs.Kinds.{kinds, indirections}
 use Rattle.word_primitive.specs.Primitive.{primitiveOf}
 use Rattle.word_primitive.specs.declared.PrimitiveType.{PrimitiveType}
-use Rattle.pane.specs.Out.{cursorAt, finderAt, outNext, outFind}
+use Rattle.pane_state.specs.Given.{cursorAt, finderAt}
+use Rattle.pane.specs.Out.{outNext, outFind}
 
 pub record Same : Type 0 where
   -- of an id stream, `next` and `find` give C the same numbers

@@ -1,64 +1,29 @@
 // The debugger's pane: header, next, update, find and primitive for a caller that is written in C (or in anything that calls C), through plain
-// numbers and byte slices, R-14 of document 02; and beside them the places of a finder kept in a file, R-3 and R-10, whether a stream is fit to bind,
-// R-9, the stream of what some roots reach, R-13, and a report over streams, R-12. c/pdb.h declares all for C, rust/ wraps the five for Rust.
+// numbers and byte slices, R-14 of document 02. c/pdb.h declares them for C, rust/ wraps them for Rust; every other function that C can call is an
+// export of a crate of the same family.
 //
 // The result is the number of 01 or 02, 0 for an answer. Behind `out`, which is written whole by every call: the two detail values, then the
 // answer's fields, 0 where there is none. So what C gets is one value, and each contract is one equation between it and the definition that the
 // plain function's contract cites (specs/Out.antt).
 ghost use mathlib.Core.Path.{_≡_};
 ghost use mathlib.Core.List.{_∷_};
-ghost use lib.ListN.{length, getD};
-ghost use Rattle.answer.specs.Refusals.{detailsOf};
 ghost use Rattle.stream_header.specs.Header.{headerOf};
 ghost use Rattle.stream_item.specs.Iterator.{nextOf};
 ghost use Rattle.stream_finder.specs.Finder.{updateOf, findOf};
-ghost use Rattle.stream_places.specs.Places.{loadWideOf, saveWideOf};
-ghost use Rattle.stream_fit.specs.Fit.{fitOf};
-ghost use Rattle.stream_drop.specs.Drop.{dropOf};
-ghost use Rattle.stream_report.specs.Report.{reportIn, addOf};
 ghost use Rattle.word_primitive.specs.Primitive.{primitiveOf};
-ghost use Rattle.pane.specs.Out.{bitsOf, headerFields, cursorAt, finderAt, typeAt, outHeader, outNext, outUpdate, outFind, outPrimitive, outLoad, outSave, outFit, outDrop, totalsAt, outReport};
-use answer::Details;
-use answer::Refusal;
+ghost use Rattle.pane_state.specs.Given.{cursorAt, finderAt};
+ghost use Rattle.pane.specs.Out.{bitsOf, headerFields, typeAt, outHeader, outNext, outUpdate, outFind, outPrimitive};
 use field::index::Stream;
 use field::index::TypeIndex;
-use stream_drop::DropAnswer;
 use stream_finder::FindAnswer;
 use stream_finder::FinderAnswer;
 use stream_finder::ItemFinder;
-use stream_fit::FitAnswer;
 use stream_header::Header;
 use stream_header::HeaderAnswer;
 use stream_item::Entry;
 use stream_item::iter::ItemIter;
 use stream_item::iter::NextAnswer;
-use stream_places::SaveAnswer;
-use stream_report::Largest;
-use stream_report::ReportAnswer;
-use stream_report::Totals;
 use word_primitive::PrimitiveAnswer;
-
-// The first detail of a refusal, 0 where it has none.
-fn first(e: Refusal) -> u64
-    ensures { λ r. ⌜ r ≡ getD (detailsOf e) 0 0 ⌝ }
-{
-    match e.details() {
-        Details::None => 0,
-        Details::One(a) => a as u64,
-        Details::Two(a, _) => a as u64,
-    }
-}
-
-// The second.
-fn second(e: Refusal) -> u64
-    ensures { λ r. ⌜ r ≡ getD (detailsOf e) 1 0 ⌝ }
-{
-    match e.details() {
-        Details::None => 0,
-        Details::One(_) => 0,
-        Details::Two(_, b) => b as u64,
-    }
-}
 
 // The 32 bits of a signed number. Compiles to nothing.
 fn bits(x: i32) -> u64
@@ -112,8 +77,8 @@ pub extern "C" fn pdb_header(s: &[u8], out: &mut [u64; 18]) -> u32
         }
         HeaderAnswer::Refused(e) => {
             *out = [
-                first(e),
-                second(e),
+                pane_out::first(e),
+                pane_out::second(e),
                 0,
                 0,
                 0,
@@ -167,7 +132,7 @@ pub extern "C" fn pdb_next(s: &[u8], at: usize, index: u32, out: &mut [u64; 8]) 
             0
         }
         NextAnswer::Refused(e) => {
-            *out = [first(e), second(e), 0, 0, 0, 0, 0, 0];
+            *out = [pane_out::first(e), pane_out::second(e), 0, 0, 0, 0, 0, 0];
             e.number()
         }
     }
@@ -205,7 +170,7 @@ pub extern "C" fn pdb_update(
             0
         }
         FinderAnswer::Refused(e) => {
-            *out = [first(e), second(e), 0];
+            *out = [pane_out::first(e), pane_out::second(e), 0];
             e.number()
         }
     }
@@ -244,7 +209,7 @@ pub extern "C" fn pdb_find(
             }
         },
         FindAnswer::Refused(e) => {
-            *out = [first(e), second(e), 0, 0, 0, 0];
+            *out = [pane_out::first(e), pane_out::second(e), 0, 0, 0, 0];
             e.number()
         }
     }
@@ -261,167 +226,7 @@ pub extern "C" fn pdb_primitive(index: u32, out: &mut [u64; 4]) -> u32
             0
         }
         PrimitiveAnswer::Refused(e) => {
-            *out = [first(e), second(e), 0, 0];
-            e.number()
-        }
-    }
-}
-
-// The finder whose places a file keeps, of either form. Behind `out`: the details, the finder's minimum and maximum, how many places it holds, and its
-// shift. The table has the places first, or is as it was.
-#[no_mangle]
-pub extern "C" fn pdb_load(s: &[u8], file: &[u8], table: &mut [u32], out: &mut [u64; 6]) -> u32
-    ensures { λ r. ⌜ (r, now (out .exit), now (table .exit)) ≡ outLoad (now (table .entry)) (loadWideOf (now (s .entry)) (now (file .entry)) (now (table .entry))) ⌝ }
-{
-    match stream_places::load_wide(s, file, table) {
-        FinderAnswer::Answered(g) => {
-            *out = [
-                0,
-                0,
-                g.minimum_index as u64,
-                g.maximum_index as u64,
-                g.held as u64,
-                g.shift as u64,
-            ];
-            0
-        }
-        FinderAnswer::Refused(e) => {
-            *out = [first(e), second(e), 0, 0, 0, 0];
-            e.number()
-        }
-    }
-}
-
-// The file that keeps the places of a finder, in the first bytes of the buffer. Behind `out`: the details, and how many bytes the file has. At a refusal the
-// buffer is as it was.
-#[no_mangle]
-pub extern "C" fn pdb_save(
-    s: &[u8],
-    table: &[u32],
-    minimum: u32,
-    maximum: u32,
-    held: usize,
-    shift: u32,
-    buffer: &mut [u8],
-    out: &mut [u64; 3],
-) -> u32
-    ensures { λ r. ⌜ (r, now (out .exit), now (buffer .exit)) ≡ outSave (now (buffer .entry)) (saveWideOf (now (s .entry)) (finderAt minimum maximum held shift (now (table .entry))) (length (now (buffer .entry)))) ⌝ }
-{
-    let f = ItemFinder {
-        minimum_index: minimum,
-        maximum_index: maximum,
-        held: held,
-        shift: shift,
-    };
-    match stream_places::save_wide(s, f, table, buffer) {
-        SaveAnswer::Answered(n) => {
-            *out = [0, 0, n as u64];
-            0
-        }
-        SaveAnswer::Refused(e) => {
-            *out = [first(e), second(e), 0];
-            e.number()
-        }
-    }
-}
-
-// Is a type stream fit to bind? Behind `out`: the details; 1 for yes and 0 for no; the record at fault and the rule that it breaks, 0 where there is none.
-#[no_mangle]
-pub extern "C" fn pdb_fit(s: &[u8], out: &mut [u64; 5]) -> u32
-    ensures { λ r. ⌜ (r, now (out .exit)) ≡ outFit (fitOf (now (s .entry))) ⌝ }
-{
-    match stream_fit::fit(s) {
-        FitAnswer::Yes => {
-            *out = [0, 0, 1, 0, 0];
-            0
-        }
-        FitAnswer::No(record, rule) => {
-            *out = [0, 0, 0, record as u64, rule as u64];
-            0
-        }
-        FitAnswer::Refused(e) => {
-            *out = [first(e), second(e), 0, 0, 0];
-            e.number()
-        }
-    }
-}
-
-// The stream of the records that the roots reach, in the first bytes of the buffer; and old to new in the first entries of the table. Behind `out`: the
-// details, and how many bytes the stream has. At a refusal the buffer is as it was, and the table too but after 30 and 19.
-#[no_mangle]
-pub extern "C" fn pdb_drop(
-    s: &[u8],
-    roots: &[u32],
-    table: &mut [u32],
-    buffer: &mut [u8],
-    out: &mut [u64; 3],
-) -> u32
-    ensures { λ r. ⌜ (r, now (out .exit), now (table .exit), now (buffer .exit)) ≡ outDrop (now (table .entry)) (now (buffer .entry)) (dropOf (now (s .entry)) (now (roots .entry)) (length (now (table .entry))) (length (now (buffer .entry)))) ⌝ }
-{
-    match stream_drop::drop(s, roots, table, buffer) {
-        DropAnswer::Written(n) => {
-            *out = [0, 0, n as u64];
-            0
-        }
-        DropAnswer::Refused(e) => {
-            *out = [first(e), second(e), 0];
-            e.number()
-        }
-    }
-}
-
-// A stream added to a report, which is nine numbers and a lent table of 64 rows of leaf, records and payload bytes. Behind `out`: the details, and the
-// nine numbers after it, in the order that they are given. At a refusal the table is as it was, and so is the report that the caller has.
-#[no_mangle]
-pub extern "C" fn pdb_report(
-    s: &[u8],
-    taken: u64,
-    refused: u64,
-    headers: u64,
-    records: u64,
-    bytes: u64,
-    length: u64,
-    stream: u64,
-    index: u32,
-    rows: u64,
-    table: &mut [u64; 192],
-    out: &mut [u64; 11],
-) -> u32
-    ensures { λ r. ⌜ (r, now (out .exit), now (table .exit)) ≡ outReport (now (table .entry)) (addOf (reportIn (totalsAt taken refused headers records bytes length stream index rows) (now (table .entry))) (now (s .entry))) ⌝ }
-{
-    let totals = Totals {
-        taken: taken,
-        refused: refused,
-        headers: headers,
-        records: records,
-        bytes: bytes,
-        largest: Largest {
-            length: length,
-            stream: stream,
-            index: index,
-        },
-        rows: rows,
-    };
-    match stream_report::add(totals, table, s) {
-        ReportAnswer::Added(t) => {
-            let largest = t.largest;
-            *out = [
-                0,
-                0,
-                t.taken,
-                t.refused,
-                t.headers,
-                t.records,
-                t.bytes,
-                largest.length,
-                largest.stream,
-                largest.index as u64,
-                t.rows,
-            ];
-            0
-        }
-        ReportAnswer::Refused(e) => {
-            *out = [first(e), second(e), 0, 0, 0, 0, 0, 0, 0, 0, 0];
+            *out = [pane_out::first(e), pane_out::second(e), 0, 0];
             e.number()
         }
     }

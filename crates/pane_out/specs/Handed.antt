@@ -1,7 +1,7 @@
 -- How an answer goes over the C boundary: the result, and the numbers behind `out`. "In a refusal every answer field but number and detail is zero."
 use Prim.Native.Nat.{ℕ}
 use mathlib.Core.Bool.{Bool, true, false}
-use mathlib.Core.List.{List, _∷_}
+use mathlib.Core.List.{List, [], _∷_}
 use lib.Dec.{eqb}
 use lib.ListN.{getD, replicate}
 use Rattle.answer.specs.Answer.{Answer, answered, refused, pick}
@@ -10,6 +10,10 @@ use Rattle.answer.specs.Answer.{Answer, answered, refused, pick}
 abbrev pub handed : {A : Type 0} → ℕ → (A → List ℕ) → Answer A → ℕ × List ℕ
 handed w fields (answered a) = (0, 0 ∷ 0 ∷ fields a)
 handed w fields (refused n d) = (n, getD d 0 0 ∷ getD d 1 0 ∷ replicate w 0)
+
+-- a number of bytes: how many were written
+abbrev pub sizeField : ℕ → List ℕ
+sizeField n = n ∷ []
 
 -- a yes or no that C gives: any number but 0 is a yes
 abbrev pub isSet : ℕ → Bool

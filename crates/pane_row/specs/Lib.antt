@@ -1,0 +1,5 @@
+pub mod Slots
+pub mod TypePlaces
+pub mod IdPlaces
+pub mod ElementPlaces
+pub mod Stand

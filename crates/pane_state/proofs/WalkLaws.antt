@@ -1,0 +1,76 @@
+-- A walk by its contract in stream_index, so many turns and then none, ends where `walkOf` says. Assumes nothing.
+use Prim.Native.Nat.{ℕ, zero, suc, _+_, _-_, _≤_}
+use mathlib.Core.Path.{_≡_, sym, ap, _∙_, subst}
+use mathlib.Core.List.{List}
+use native.Mathlib.Omega.{arith}
+use lib.ListN.{length}
+use Rattle.answer.specs.Answer.{Answer, answered, then}
+use Rattle.answer.specs.declared.Refusal.{Refusal}
+use Rattle.field.specs.declared.index.Stream.{Stream}
+use Rattle.stream_item.specs.Iterator.{iterOf}
+use Rattle.stream_item.specs.declared.iter.ItemIter.{ItemIter}
+use Rattle.stream_finder.specs.Finder.{State, state}
+use Rattle.stream_index.specs.Walk.{moved, turnOf, Turns, none, more, saidEnd, Walks, IndexesBy}
+use Rattle.stream_index.specs.declared.End.{End}
+use Rattle.stream_index.specs.declared.End.the-variants as end
+use Rattle.stream_index.specs.declared.Tour.{Tour}
+use Rattle.stream_index.specs.declared.IndexAnswer.{IndexAnswer}
+use Rattle.stream_index.specs.declared.IndexAnswer.the-variants as walk
+use Rattle.stream_index.proofs.WalkLaws.{Further, turn-further}
+use Rattle.pane_state.specs.Walk.{Arrived, arrived, onward, walkUpTo, walkOf, indexOf, saidIndex}
+
+-- ---- there are no more turns than bytes
+turns-on : (s : List ℕ) (c : ItemIter) (σ : State) (n : ℕ) (d : ItemIter) (τ : State) → Turns s c σ n d τ → c .at + n ≤ d .at
+turns-on s c σ zero d τ none = omega arith
+turns-on s c σ (suc n) d τ (more {d = d₀} {τ = τ₀} w e) =
+    let m : Further s d₀ d = turn-further s τ₀ d₀ τ d e in
+    let h : c .at + n ≤ d₀ .at = turns-on s c σ n d₀ τ₀ w in
+    omega (arith, m .on)
+
+turns-inside : (s : List ℕ) (c : ItemIter) (σ : State) (n : ℕ) (d : ItemIter) (τ : State) → Turns s c σ n d τ → n ≤ length s
+turns-inside s c σ zero d τ none = omega arith
+turns-inside s c σ (suc n) d τ (more {d = d₀} {τ = τ₀} w e) =
+    let m : Further s d₀ d = turn-further s τ₀ d₀ τ d e in
+    let h : c .at + n ≤ d₀ .at = turns-on s c σ n d₀ τ₀ w in
+    omega (arith, m .on, m .inside)
+
+-- ---- a walk goes through its turns, and ends where there is none
+walk-turn : (m : ℕ) (s : List ℕ) (c : ItemIter) (σ : State) (τ : State) (d : ItemIter) → turnOf s σ c ≡ answered (moved τ d) → walkUpTo (suc m) s c σ ≡ walkUpTo m s d τ
+unfolding walkUpTo
+walk-turn m s c σ τ d e = ap (onward (walkUpTo m s) c σ) e
+
+walk-turns : (m : ℕ) (s : List ℕ) (c : ItemIter) (σ : State) (n : ℕ) (d : ItemIter) (τ : State) → Turns s c σ n d τ → walkUpTo (n + m) s c σ ≡ walkUpTo m s d τ
+walk-turns m s c σ zero d τ none = ap (λ (k : ℕ). walkUpTo k s d τ) (omega arith)
+walk-turns m s c σ (suc n) d τ (more {d = d₀} {τ = τ₀} w e) =
+    ap (λ (k : ℕ). walkUpTo k s c σ) (omega arith) ∙ walk-turns (suc m) s c σ n d₀ τ₀ w ∙ walk-turn m s d₀ τ₀ τ d e
+
+walk-ends : (m : ℕ) (s : List ℕ) (c : ItemIter) (σ : State) (x : End) → turnOf s σ c ≡ saidEnd x → walkUpTo m s c σ ≡ arrived c σ (saidEnd x)
+unfolding walkUpTo
+walk-ends zero s c σ x e = ap (arrived c σ) e
+walk-ends (suc m) s c σ end.Done e = ap (onward (walkUpTo m s) c σ) e
+walk-ends (suc m) s c σ (end.Refused r) e = ap (onward (walkUpTo m s) c σ) e
+
+pub walk-is : (s : List ℕ) (c : ItemIter) (σ : State) (r : Tour) (t′ : List ℕ) → Walks s c σ r t′ → walkOf s c σ ≡ arrived (r .cursor) (state (r .finder) t′) (saidEnd (r .end))
+walk-is s c σ r t′ w =
+    let h : w .turns ≤ length s = turns-inside s c σ (w .turns) (r .cursor) (state (r .finder) t′) (w .led) in
+    let k : length s ≡ w .turns + (length s - w .turns) = omega arith in
+    ap (λ (n : ℕ). walkUpTo n s c σ) k
+    ∙ walk-turns (length s - w .turns) s c σ (w .turns) (r .cursor) (state (r .finder) t′) (w .led)
+    ∙ walk-ends (length s - w .turns) s (r .cursor) (state (r .finder) t′) (r .end) (sym (w .ended))
+
+-- ---- a whole stream's
+index-is : (shift : ℕ) (tag : Stream) (s t : List ℕ) (r : IndexAnswer) (t′ : List ℕ) → IndexesBy shift tag s t r t′ → indexOf shift tag s t ≡ saidIndex r t′
+unfolding indexOf
+index-is shift tag s t (walk.Answered r) t′ w =
+    ap (λ (a : Answer State). then a (λ σ. then (iterOf tag s) (λ c. answered (walkOf s c σ)))) (w .created)
+    ∙ ap (λ (a : Answer ItemIter). then a (λ c. answered (walkOf s c (w .fresh)))) (w .begun)
+    ∙ ap (λ (a : Arrived). answered a) (walk-is s (w .first) (w .fresh) r t′ (w .walks))
+index-is shift tag s t (walk.Refused e) t′ w = ap (λ (a : Answer State). then a (λ σ. then (iterOf tag s) (λ c. answered (walkOf s c σ)))) (w .0)
+
+-- at the case x that the answer is known to be
+pub index-told : (shift : ℕ) (tag : Stream) (s t : List ℕ) (r : IndexAnswer) (t′ : List ℕ) (x : IndexAnswer) → IndexesBy shift tag s t r t′ → r ≡ x → indexOf shift tag s t ≡ saidIndex x t′
+index-told shift tag s t r t′ x w e = index-is shift tag s t r t′ w ∙ ap (λ (y : IndexAnswer). saidIndex y t′) e
+
+-- a refused one leaves the table
+pub index-kept : (shift : ℕ) (tag : Stream) (s t : List ℕ) (r : IndexAnswer) (t′ : List ℕ) (e : Refusal) → IndexesBy shift tag s t r t′ → r ≡ walk.Refused e → t′ ≡ t
+index-kept shift tag s t r t′ e w h = subst (λ (x : IndexAnswer). IndexesBy shift tag s t x t′) h w .1

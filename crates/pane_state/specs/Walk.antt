@@ -1,0 +1,79 @@
+-- A walk as C gets it. Of a walk stream_index says that so many turns lead to where it ended, and that from there the next turn is over or refused; here is
+-- where that is, as a function of what the walk started from: so a walk's contract is one equation too. proofs/WalkLaws.antt has that both say the same.
+use Prim.Native.Nat.{ℕ, zero, suc}
+use mathlib.Core.Path.{_≡_}
+use mathlib.Core.List.{List, [], _∷_, _++_}
+use lib.ListN.{length, getD}
+use Rattle.answer.specs.Answer.{Answer, answered, refused, then}
+use Rattle.answer.specs.Refusals.{no}
+use Rattle.field.specs.declared.index.Stream.{Stream}
+use Rattle.field.specs.declared.index.Stream.the-variants.{Types, Ids}
+use Rattle.stream_item.specs.Iterator.{iterOf}
+use Rattle.stream_item.specs.declared.iter.ItemIter.{ItemIter}
+use Rattle.stream_finder.specs.Finder.{State, state, createBy}
+use Rattle.stream_finder.specs.declared.ItemFinder.{ItemFinder}
+use Rattle.stream_index.specs.Walk.{Turn, over, moved, turnOf, saidEnd}
+use Rattle.stream_index.specs.declared.IndexAnswer.{IndexAnswer}
+use Rattle.stream_index.specs.declared.IndexAnswer.the-variants as walk
+use Rattle.pane_out.specs.Handed.{handed}
+use Rattle.pane_state.specs.Finders.{finderFields}
+
+-- where a walk ended: the finder, its table and the cursor then, and the answer of the turn that was not made
+pub record Arrived : Type 0 where
+  pub finder : ItemFinder
+  pub table : List ℕ
+  pub cursor : ItemIter
+  pub end : Answer Turn
+
+abbrev pub arrived : ItemIter → State → Answer Turn → Arrived
+arrived c σ e = record { finder = σ .finder; table = σ .table; cursor = c; end = e }
+
+-- on from where a turn moved to; else the walk ended here
+abbrev pub onward : (ItemIter → State → Arrived) → ItemIter → State → Answer Turn → Arrived
+onward go c σ (answered over) = arrived c σ (answered over)
+onward go c σ (answered (moved τ d)) = go d τ
+onward go c σ (refused n x) = arrived c σ (refused n x)
+
+-- turns as long as they move, at most n of them
+unfoldable pub walkUpTo : ℕ → List ℕ → ItemIter → State → Arrived
+walkUpTo zero s c σ = arrived c σ (turnOf s σ c)
+walkUpTo (suc n) s c σ = onward (walkUpTo n s) c σ (turnOf s σ c)
+
+-- all of them: a turn moves by two bytes or more and stays inside, so that there are never more turns than bytes
+abbrev pub walkOf : List ℕ → ItemIter → State → Arrived
+walkOf s c σ = walkUpTo (length s) s c σ
+
+-- from a fresh finder and a fresh cursor: refused as the creation is, 16, the header's own, 26, then 13
+unfoldable pub indexOf : ℕ → Stream → List ℕ → List ℕ → Answer Arrived
+indexOf shift tag s t = then (createBy shift s t) (λ σ. then (iterOf tag s) (λ c. answered (walkOf s c σ)))
+
+-- ---- what the function says, t′ being the table after it
+abbrev pub saidIndex : IndexAnswer → List ℕ → Answer Arrived
+saidIndex (walk.Answered r) t′ = answered (arrived (r .cursor) (state (r .finder) t′) (saidEnd (r .end)))
+saidIndex (walk.Refused e) t′ = no e
+
+-- ---- what C gets
+
+-- how a walk ended: 0 where no record was left, else the refusal's number; and its two details
+abbrev pub endFields : Answer Turn → List ℕ
+endFields (answered a) = 0 ∷ 0 ∷ 0 ∷ []
+endFields (refused n d) = n ∷ getD d 0 0 ∷ getD d 1 0 ∷ []
+
+-- the finder, the cursor behind the last record, and how it ended
+abbrev pub tourFields : ItemFinder → ItemIter → Answer Turn → List ℕ
+tourFields f c e = finderFields f ++ (c .at ∷ c .index ∷ endFields e)
+
+abbrev pub walkFields : Arrived → List ℕ
+walkFields a = tourFields (a .finder) (a .cursor) (a .end)
+
+-- the table t after it: a walk that is refused at its start changes nothing
+abbrev pub walkedTable : List ℕ → Answer Arrived → List ℕ
+walkedTable t (answered a) = a .table
+walkedTable t (refused n d) = t
+
+abbrev pub outWalk : List ℕ → Answer Arrived → ℕ × List ℕ × List ℕ
+outWalk t a = (handed 9 walkFields a .0, handed 9 walkFields a .1, walkedTable t a)
+
+pub record SameWalk : Type 0 where
+  -- of an id stream C gets the same numbers and the same table
+  pub of-ids : (shift : ℕ) (s t : List ℕ) → outWalk t (indexOf shift Ids s t) ≡ outWalk t (indexOf shift Types s t)
