@@ -10,6 +10,7 @@ use Rattle.record_list.specs.declared.ListCursor.{ListCursor}
 use Rattle.pane_out.specs.Handed.{handed, isSet, mark}
 use Rattle.pane_row.specs.TypePlaces.{typeRow}
 use Rattle.pane_row.specs.IdPlaces.{idRow}
+use Rattle.pane_row.specs.ListPlaces.{cursorRow}
 use Rattle.pane_row.specs.ElementPlaces.{elementRow}
 
 -- ---- what C gives
@@ -29,11 +30,8 @@ outType = handed 13 typeRow
 abbrev pub outId : Answer (List Shown) → ℕ × List ℕ
 outId = handed 10 idRow
 
-abbrev pub cursorFields : ListCursor → List ℕ
-cursorFields c = c .leaf ∷ c .at ∷ c .left ∷ mark (c .padded) ∷ []
-
 abbrev pub outList : Answer ListCursor → ℕ × List ℕ
-outList = handed 4 cursorFields
+outList = handed 4 cursorRow
 
 -- the cursor behind the element, without the leaf, which stays; and the element
 abbrev pub stepFields : Step → List ℕ

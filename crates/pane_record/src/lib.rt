@@ -12,6 +12,7 @@ use pane_out::first;
 use pane_out::flag;
 use pane_out::is_set;
 use pane_out::second;
+use pane_row::cursor_row;
 use pane_row::element_row;
 use pane_row::id_row;
 use pane_row::type_row;
@@ -73,15 +74,7 @@ pub extern "C" fn pdb_list(s: &[u8], ids: u32, out: &mut [u64; 6]) -> u32
 {
     match record_list::start(stream(ids), s) {
         StartAnswer::Answered(c) => {
-            let padded = c.padded;
-            *out = [
-                0,
-                0,
-                c.leaf as u64,
-                c.at as u64,
-                c.left as u64,
-                flag(padded),
-            ];
+            *out = cursor_row(c);
             0
         }
         StartAnswer::Refused(e) => {

@@ -14,6 +14,7 @@ ghost use Rattle.record_list.specs.Said.{elementValues};
 ghost use Rattle.pane_row.specs.Slots.{bitsOf, negative, formIn, firstOf, secondOf};
 ghost use Rattle.pane_row.specs.TypePlaces.{typeRow};
 ghost use Rattle.pane_row.specs.IdPlaces.{idRow};
+ghost use Rattle.pane_row.specs.ListPlaces.{cursorRow};
 ghost use Rattle.pane_row.specs.ElementPlaces.{methodRow, memberRow, elementRow};
 use field::index::OptIdIndex;
 use field::index::OptTypeIndex;
@@ -22,6 +23,7 @@ use field_number::Number;
 use field_number::Size;
 use field_number::Variant;
 use field_text::OptString;
+use pane_out::flag;
 use record_data::ArgumentList;
 use record_data::ArrayType;
 use record_data::BitfieldType;
@@ -44,6 +46,7 @@ use record_id::StringListId;
 use record_id::UserDefinedTypeSourceFileRef;
 use record_id::UserDefinedTypeSourceId;
 use record_list::Element;
+use record_list::ListCursor;
 use record_member::BaseClassType;
 use record_member::EnumerateType;
 use record_member::Member;
@@ -600,6 +603,21 @@ pub fn id_row(d: IdData) -> [u64; 12]
         IdData::String(x) => string_id_row(x),
         IdData::UserDefinedTypeSource(x) => source_row(x),
     }
+}
+
+// The row of a list's cursor: two zeros, leaf, place, elements left, padded.
+pub fn cursor_row(c: ListCursor) -> [u64; 6]
+    ensures { λ r. ⌜ r ≡ 0 ∷ 0 ∷ cursorRow c ⌝ }
+{
+    let padded = c.padded;
+    [
+        0,
+        0,
+        c.leaf as u64,
+        c.at as u64,
+        c.left as u64,
+        flag(padded),
+    ]
 }
 
 // The row of each element, behind the cursor after it: place, elements left, padded.

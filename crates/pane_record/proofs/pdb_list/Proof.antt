@@ -7,8 +7,8 @@ use Rattle.pane_record.proofs.pdb_list.Tie as tie
 
 returns : tie.Need-returns
 returns c =
-    let t = rw (c .before .before .before .before .before .before .before .before .stream .ensures) at (told saidStart (c .before .before .before .before .before .before .before .start .ensures) (c .before .before .before .before .before .c .given .1)) in
-    rw (t, c .before .flag .ensures)
+    let t = rw (c .before .before .before .before .before .stream .ensures) at (told saidStart (c .before .before .before .before .start .ensures) (c .before .before .c .given .1)) in
+    rw (t, c .cursor-row .ensures)
 
 returns-2 : tie.Need-returns-2
 returns-2 c =
@@ -16,4 +16,4 @@ returns-2 c =
     rw (t, c .number .ensures, c .before .before .before .first .ensures, c .before .before .second .ensures)
 
 pub pdb-list-spec : {M : Type 1} → statement M
-pdb-list-spec = tie.close (tie.spec (λ c κs. search needs) (λ c κs. search needs) (λ c. search needs) (λ c. search needs) (λ c. search needs) (λ c κs. search needs) (λ c. search needs) (λ c κs. search needs) (λ c κs. search needs) (λ c κs. search needs) returns returns-2)
+pdb-list-spec = tie.close (tie.spec (λ c κs. search needs) (λ c κs. search needs) (λ c. search needs) (λ c κs. search needs) (λ c. search needs) (λ c κs. search needs) (λ c κs. search needs) (λ c κs. search needs) returns returns-2)
