@@ -1,6 +1,6 @@
 -- A walk as C gets it. Of a walk stream_index says that so many turns lead to where it ended, and that from there the next turn is over or refused; here is
 -- where that is, as a function of what the walk started from: so a walk's contract is one equation too. proofs/WalkLaws.antt has that both say the same.
-use Prim.Native.Nat.{ℕ, zero, suc}
+use Prim.Native.Nat.{ℕ, zero, suc, _≤_}
 use mathlib.Core.Path.{_≡_}
 use mathlib.Core.List.{List, [], _∷_, _++_}
 use lib.ListN.{length, getD}
@@ -75,5 +75,7 @@ abbrev pub outWalk : List ℕ → Answer Arrived → ℕ × List ℕ × List ℕ
 outWalk t a = (handed 9 walkFields a .0, handed 9 walkFields a .1, walkedTable t a)
 
 pub record SameWalk : Type 0 where
+  -- the bound on turns is none: with more of them a walk ends at the same place
+  pub enough : (s : List ℕ) (c : ItemIter) (σ : State) (n : ℕ) → length s ≤ n → walkUpTo n s c σ ≡ walkOf s c σ
   -- of an id stream C gets the same numbers and the same table
   pub of-ids : (shift : ℕ) (s t : List ℕ) → outWalk t (indexOf shift Ids s t) ≡ outWalk t (indexOf shift Types s t)
