@@ -43,47 +43,47 @@ static void properties(uint32_t word)
 
 static void field_attributes(uint32_t word)
 {
-    OUT(out, PDB_FIELD_ATTRIBUTES_OUT);
+    OUT(out, PDB_FIELD_OUT);
     pdb_field_attributes((uint16_t)word, out);
     field("field ", word & 0xffff);
-    field(" access=", out[PDB_FIELD_ATTRIBUTES_ACCESS]);
-    field(" mprop=", out[PDB_FIELD_ATTRIBUTES_METHOD_PROPERTIES]);
-    field(" static=", out[PDB_FIELD_ATTRIBUTES_IS_STATIC]);
-    field(" virtual=", out[PDB_FIELD_ATTRIBUTES_IS_VIRTUAL]);
-    field(" pure=", out[PDB_FIELD_ATTRIBUTES_IS_PURE_VIRTUAL]);
-    field(" intro=", out[PDB_FIELD_ATTRIBUTES_IS_INTRO_VIRTUAL]);
+    field(" access=", out[PDB_FIELD_ACCESS]);
+    field(" mprop=", out[PDB_FIELD_METHOD_PROPERTIES]);
+    field(" static=", out[PDB_FIELD_IS_STATIC]);
+    field(" virtual=", out[PDB_FIELD_IS_VIRTUAL]);
+    field(" pure=", out[PDB_FIELD_IS_PURE_VIRTUAL]);
+    field(" intro=", out[PDB_FIELD_IS_INTRO_VIRTUAL]);
     put("\n");
 }
 
 static void function_attributes(uint32_t word)
 {
-    OUT(out, PDB_FUNCTION_ATTRIBUTES_OUT);
+    OUT(out, PDB_FUNCTION_OUT);
     pdb_function_attributes((uint16_t)word, out);
     field("func ", word & 0xffff);
-    field(" call=", out[PDB_FUNCTION_ATTRIBUTES_CALLING_CONVENTION]);
-    field(" udt=", out[PDB_FUNCTION_ATTRIBUTES_CXX_RETURN_UDT]);
-    field(" ctor=", out[PDB_FUNCTION_ATTRIBUTES_IS_CONSTRUCTOR]);
-    field(" vbases=", out[PDB_FUNCTION_ATTRIBUTES_IS_CONSTRUCTOR_WITH_VIRTUAL_BASES]);
+    field(" call=", out[PDB_FUNCTION_CALLING_CONVENTION]);
+    field(" udt=", out[PDB_FUNCTION_CXX_RETURN_UDT]);
+    field(" ctor=", out[PDB_FUNCTION_IS_CONSTRUCTOR]);
+    field(" vbases=", out[PDB_FUNCTION_IS_CONSTRUCTOR_WITH_VIRTUAL_BASES]);
     put("\n");
 }
 
 static void pointer_attributes(uint32_t word)
 {
-    OUT(out, PDB_POINTER_ATTRIBUTES_OUT);
+    OUT(out, PDB_POINTER_OUT);
     pdb_pointer_attributes(word, out);
-    uint64_t mode = out[PDB_POINTER_ATTRIBUTES_MODE_REFUSED];
+    uint64_t mode = out[PDB_POINTER_MODE_REFUSED];
     field("ptr ", word);
-    or_refused(" kind=", out[PDB_POINTER_ATTRIBUTES_KIND_REFUSED], out[PDB_POINTER_ATTRIBUTES_KIND]);
-    or_refused(" mode=", mode, out[PDB_POINTER_ATTRIBUTES_MODE]);
-    or_refused(" member=", mode, out[PDB_POINTER_ATTRIBUTES_POINTER_TO_MEMBER]);
-    or_refused(" ref=", mode, out[PDB_POINTER_ATTRIBUTES_IS_REFERENCE]);
-    field(" flat32=", out[PDB_POINTER_ATTRIBUTES_IS_FLAT_32]);
-    field(" volatile=", out[PDB_POINTER_ATTRIBUTES_IS_VOLATILE]);
-    field(" const=", out[PDB_POINTER_ATTRIBUTES_IS_CONST]);
-    field(" unaligned=", out[PDB_POINTER_ATTRIBUTES_IS_UNALIGNED]);
-    field(" restrict=", out[PDB_POINTER_ATTRIBUTES_IS_RESTRICT]);
-    or_refused(" size=", out[PDB_POINTER_ATTRIBUTES_SIZE_REFUSED], out[PDB_POINTER_ATTRIBUTES_SIZE]);
-    field(" mocom=", out[PDB_POINTER_ATTRIBUTES_IS_MOCOM]);
+    or_refused(" kind=", out[PDB_POINTER_KIND_REFUSED], out[PDB_POINTER_KIND]);
+    or_refused(" mode=", mode, out[PDB_POINTER_MODE]);
+    or_refused(" member=", mode, out[PDB_POINTER_TO_MEMBER]);
+    or_refused(" ref=", mode, out[PDB_POINTER_IS_REFERENCE]);
+    field(" flat32=", out[PDB_POINTER_IS_FLAT_32]);
+    field(" volatile=", out[PDB_POINTER_IS_VOLATILE]);
+    field(" const=", out[PDB_POINTER_IS_CONST]);
+    field(" unaligned=", out[PDB_POINTER_IS_UNALIGNED]);
+    field(" restrict=", out[PDB_POINTER_IS_RESTRICT]);
+    or_refused(" size=", out[PDB_POINTER_SIZE_REFUSED], out[PDB_POINTER_SIZE]);
+    field(" mocom=", out[PDB_POINTER_IS_MOCOM]);
     put("\n");
 }
 

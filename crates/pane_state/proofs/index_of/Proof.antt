@@ -1,8 +1,8 @@
--- `pane_index::index_of` meets its contract. Assumes nothing.
+-- `pane_state::index_of` meets its contract. Assumes nothing.
 use borrow.Author.Needs.{needs}
 use mathlib.Core.Path.{sym, _∙_}
-use Rattle.pane_index.proofs.index_of.Statement.{statement}
-use Rattle.pane_index.proofs.index_of.Tie as tie
+use Rattle.pane_state.proofs.index_of.Statement.{statement}
+use Rattle.pane_state.proofs.index_of.Tie as tie
 
 returns : tie.Need-returns
 returns c = rw (sym (c .before .is-set .ensures) ∙ c .if1 .taken)

@@ -1,10 +1,10 @@
--- `pane_section::type_out` meets its contract. Assumes nothing.
+-- `pane_parse::type_out` meets its contract. Assumes nothing.
 use Rattle.pane_row.proofs.LengthLaws.{row-length, one-by-one}
 use Rattle.pane_row.specs.TypePlaces.{typeSlots, typeRow}
 use Rattle.record_data.specs.Said.{typeValues}
 use borrow.Author.Needs.{needs}
-use Rattle.pane_section.proofs.type_out.Statement.{statement}
-use Rattle.pane_section.proofs.type_out.Tie as tie
+use Rattle.pane_parse.proofs.type_out.Statement.{statement}
+use Rattle.pane_parse.proofs.type_out.Tie as tie
 
 returns : tie.Need-returns
 returns c =

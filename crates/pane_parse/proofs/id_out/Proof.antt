@@ -1,4 +1,4 @@
--- `pane_section::id_out` meets its contract. Assumes nothing.
+-- `pane_parse::id_out` meets its contract. Assumes nothing.
 use Prim.Native.Nat.{ℕ}
 use mathlib.Core.Path.{ap}
 use mathlib.Core.List.{List, _∷_, _++_}
@@ -7,8 +7,8 @@ use Rattle.pane_row.proofs.LengthLaws.{row-length, one-by-one}
 use Rattle.pane_row.specs.IdPlaces.{idSlots, idRow}
 use Rattle.record_id.specs.Said.{idValues}
 use borrow.Author.Needs.{needs}
-use Rattle.pane_section.proofs.id_out.Statement.{statement}
-use Rattle.pane_section.proofs.id_out.Tie as tie
+use Rattle.pane_parse.proofs.id_out.Statement.{statement}
+use Rattle.pane_parse.proofs.id_out.Tie as tie
 
 returns : tie.Need-returns
 returns c =

@@ -1,8 +1,8 @@
--- `pane_index::entry_of` meets its contract. Assumes nothing.
+-- `pane_state::entry_of` meets its contract. Assumes nothing.
 use borrow.Author.Needs.{needs}
 use mathlib.Core.Path.{sym, _∙_}
-use Rattle.pane_index.proofs.entry_of.Statement.{statement}
-use Rattle.pane_index.proofs.entry_of.Tie as tie
+use Rattle.pane_state.proofs.entry_of.Statement.{statement}
+use Rattle.pane_state.proofs.entry_of.Tie as tie
 
 returns : tie.Need-returns
 returns c = rw (c .before .before .index-of .ensures, sym (c .before .is-set .ensures) ∙ c .if1 .taken)

@@ -1,9 +1,9 @@
--- `pane_section::pdb_section_read` meets its contract. Assumes nothing.
+-- `pane_parse::pdb_section_read` meets its contract. Assumes nothing.
 use Rattle.answer.proofs.Told.{told}
 use Rattle.record_parse.specs.Record.{saidParse}
 use borrow.Author.Needs.{needs}
-use Rattle.pane_section.proofs.pdb_section_read.Statement.{statement}
-use Rattle.pane_section.proofs.pdb_section_read.Tie as tie
+use Rattle.pane_parse.proofs.pdb_section_read.Statement.{statement}
+use Rattle.pane_parse.proofs.pdb_section_read.Tie as tie
 
 returns : tie.Need-returns
 returns c = rw (told saidParse (c .before .before .before .before .parse .ensures) (c .before .before .d .given .1), c .type-out .ensures)
