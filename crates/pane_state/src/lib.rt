@@ -1,16 +1,14 @@
 // A finder, a cursor and a walk, as C gives and gets them: definitions in specs/, laws in proofs/. Streams and sections are walked alike, so what goes behind
 // `out` for a walk stands here, once for both.
 ghost use mathlib.Core.Path.{_≡_};
-ghost use mathlib.Core.List.{_∷_};
-ghost use Rattle.stream_index.specs.Walk.{saidEnd};
-ghost use Rattle.pane_state.specs.Walk.{tourFields};
+ghost use Rattle.pane_state.specs.Walk.{tourOut};
 use stream_index::End;
 use stream_index::Tour;
 
 // What goes behind `out` for a walk: no details; the finder's minimum and maximum, how many places it holds, and its shift; the cursor behind the last
 // record, its place and index; and how the walk ended, 0 where no record was left, else the refusal's number, and its two details.
 pub fn walk_out(t: Tour) -> [u64; 11]
-    ensures { λ r. ⌜ r ≡ 0 ∷ 0 ∷ tourFields (t .finder) (t .cursor) (saidEnd (t .end)) ⌝ }
+    ensures { λ r. ⌜ r ≡ tourOut t ⌝ }
 {
     let f = t.finder;
     let c = t.cursor;
