@@ -83,15 +83,15 @@ pub extern "C" fn pdb_parse(
     tpi: &[u8],
     ipi: &[u8],
     ids: u32,
-    is_record: u32,
+    item: u32,
     index: u32,
     place: usize,
     length: usize,
     out: &mut [u64; 16],
 ) -> u32
-    ensures { λ r. ⌜ (r, now (out .exit)) ≡ outRead index (parseOf (now (tpi .entry)) (now (ipi .entry)) (entryAt ids «is_record» index place length)) ⌝ }
+    ensures { λ r. ⌜ (r, now (out .exit)) ≡ outRead index (parseOf (now (tpi .entry)) (now (ipi .entry)) (entryAt ids item index place length)) ⌝ }
 {
-    let entry = pane_state::entry_of(ids, is_record, index, place, length);
+    let entry = pane_state::entry_of(ids, item, index, place, length);
     match record_parse::parse(tpi, ipi, entry) {
         ParseAnswer::Type(d) => {
             *out = type_out(d);

@@ -17,7 +17,7 @@ use Rattle.stream_index.specs.declared.Tour.{Tour}
 use Rattle.stream_index.specs.declared.IndexAnswer.{IndexAnswer}
 use Rattle.stream_index.specs.declared.IndexAnswer.the-variants as walk
 use Rattle.stream_index.proofs.WalkLaws.{Further, turn-further}
-use Rattle.pane_state.specs.Walk.{Arrived, arrived, onward, walkUpTo, walkOf, indexOf, saidIndex}
+use Rattle.pane_state.specs.Walk.{Arrived, arrived, onward, walkUpTo, walkOf, indexAllBy, saidIndex}
 
 -- ---- there are no more turns than bytes
 turns-on : (s : List ℕ) (c : ItemIter) (σ : State) (n : ℕ) (d : ItemIter) (τ : State) → Turns s c σ n d τ → c .at + n ≤ d .at
@@ -98,8 +98,8 @@ module _ (s : List ℕ) where
       ap (λ (m : ℕ). walkUpTo m s c σ) k ∙ with-more (length s) (n - length s) c σ (omega arith)
 
 -- ---- a whole stream's
-index-is : (shift : ℕ) (tag : Stream) (s t : List ℕ) (r : IndexAnswer) (t′ : List ℕ) → IndexesBy shift tag s t r t′ → indexOf shift tag s t ≡ saidIndex r t′
-unfolding indexOf
+index-is : (shift : ℕ) (tag : Stream) (s t : List ℕ) (r : IndexAnswer) (t′ : List ℕ) → IndexesBy shift tag s t r t′ → indexAllBy shift tag s t ≡ saidIndex r t′
+unfolding indexAllBy
 index-is shift tag s t (walk.Answered r) t′ w =
     ap (λ (a : Answer State). then a (λ σ. then (iterOf tag s) (λ c. answered (walkOf s c σ)))) (w .created)
     ∙ ap (λ (a : Answer ItemIter). then a (λ c. answered (walkOf s c (w .fresh)))) (w .begun)
@@ -107,7 +107,7 @@ index-is shift tag s t (walk.Answered r) t′ w =
 index-is shift tag s t (walk.Refused e) t′ w = ap (λ (a : Answer State). then a (λ σ. then (iterOf tag s) (λ c. answered (walkOf s c σ)))) (w .0)
 
 -- at the case x that the answer is known to be
-pub index-told : (shift : ℕ) (tag : Stream) (s t : List ℕ) (r : IndexAnswer) (t′ : List ℕ) (x : IndexAnswer) → IndexesBy shift tag s t r t′ → r ≡ x → indexOf shift tag s t ≡ saidIndex x t′
+pub index-told : (shift : ℕ) (tag : Stream) (s t : List ℕ) (r : IndexAnswer) (t′ : List ℕ) (x : IndexAnswer) → IndexesBy shift tag s t r t′ → r ≡ x → indexAllBy shift tag s t ≡ saidIndex x t′
 index-told shift tag s t r t′ x w e = index-is shift tag s t r t′ w ∙ ap (λ (y : IndexAnswer). saidIndex y t′) e
 
 -- a refused one leaves the table

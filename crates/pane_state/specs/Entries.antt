@@ -12,6 +12,6 @@ use Rattle.pane_out.specs.Handed.{isSet}
 abbrev pub indexAt : ℕ → ℕ → ItemIndex
 indexAt ids i = indexIn (pick (isSet ids) Ids Types) i
 
--- a record's entry, with its place and length, where the second number is set, else the marker, which has neither
+-- a record's entry, with its place and length, where `item` is set, else the marker, which has neither
 abbrev pub entryAt : ℕ → ℕ → ℕ → ℕ → ℕ → Entry
-entryAt ids isRecord i p n = pick (isSet isRecord) (entry.Record (record { index = indexAt ids i; place = p; length = n })) (entry.Marker (indexAt ids i))
+entryAt ids item i p n = pick (isSet item) (entry.Record (record { index = indexAt ids i; place = p; length = n })) (entry.Marker (indexAt ids i))

@@ -13,6 +13,7 @@ use Rattle.stream_item.specs.declared.iter.ItemIter.{ItemIter}
 use Rattle.stream_finder.specs.Finder.{State, state, createBy}
 use Rattle.stream_finder.specs.declared.ItemFinder.{ItemFinder}
 use Rattle.stream_index.specs.Walk.{Turn, over, moved, turnOf, saidEnd}
+use Rattle.stream_index.specs.declared.Tour.{Tour}
 use Rattle.stream_index.specs.declared.IndexAnswer.{IndexAnswer}
 use Rattle.stream_index.specs.declared.IndexAnswer.the-variants as walk
 use Rattle.pane_out.specs.Handed.{handed}
@@ -44,8 +45,8 @@ abbrev pub walkOf : List ℕ → ItemIter → State → Arrived
 walkOf s c σ = walkUpTo (length s) s c σ
 
 -- from a fresh finder and a fresh cursor: refused as the creation is, 16, the header's own, 26, then 13
-unfoldable pub indexOf : ℕ → Stream → List ℕ → List ℕ → Answer Arrived
-indexOf shift tag s t = then (createBy shift s t) (λ σ. then (iterOf tag s) (λ c. answered (walkOf s c σ)))
+unfoldable pub indexAllBy : ℕ → Stream → List ℕ → List ℕ → Answer Arrived
+indexAllBy shift tag s t = then (createBy shift s t) (λ σ. then (iterOf tag s) (λ c. answered (walkOf s c σ)))
 
 -- ---- what the function says, t′ being the table after it
 abbrev pub saidIndex : IndexAnswer → List ℕ → Answer Arrived
@@ -63,6 +64,10 @@ endFields (refused n d) = n ∷ getD d 0 0 ∷ getD d 1 0 ∷ []
 abbrev pub tourFields : ItemFinder → ItemIter → Answer Turn → List ℕ
 tourFields f c e = finderFields f ++ (c .at ∷ c .index ∷ endFields e)
 
+-- what goes behind `out` for a walk that the function made
+abbrev pub tourOut : Tour → List ℕ
+tourOut r = 0 ∷ 0 ∷ tourFields (r .finder) (r .cursor) (saidEnd (r .end))
+
 abbrev pub walkFields : Arrived → List ℕ
 walkFields a = tourFields (a .finder) (a .cursor) (a .end)
 
@@ -78,4 +83,4 @@ pub record SameWalk : Type 0 where
   -- the bound on turns is none: with more of them a walk ends at the same place
   pub enough : (s : List ℕ) (c : ItemIter) (σ : State) (n : ℕ) → length s ≤ n → walkUpTo n s c σ ≡ walkOf s c σ
   -- of an id stream C gets the same numbers and the same table
-  pub of-ids : (shift : ℕ) (s t : List ℕ) → outWalk t (indexOf shift Ids s t) ≡ outWalk t (indexOf shift Types s t)
+  pub of-ids : (shift : ℕ) (s t : List ℕ) → outWalk t (indexAllBy shift Ids s t) ≡ outWalk t (indexAllBy shift Types s t)
