@@ -311,14 +311,14 @@ void item_data(const uint8_t *s, size_t n, bool ids, uint32_t index, bool forms)
 /* A record of a section, by the reader that takes its leaf. */
 void section_data(const uint8_t *section, size_t size, uint32_t index, size_t place, size_t length)
 {
-    OUT(out, PDB_SECTION_READ_OUT);
+    OUT(out, PDB_PARSE_OUT);
     uint32_t number = pdb_section_read(section, size, index, place, length, out);
     /* the fields stand one place higher than in the answers of pdb_type and pdb_id */
     const uint64_t *fields = out + 1;
     if (number != 0) {
         refusal(number, out);
     } else {
-        if (out[PDB_SECTION_READ_WHICH] == 0)
+        if (out[PDB_PARSE_WHICH] == 0)
             type_fields(fields, false);
         else
             id_fields(fields);
@@ -366,7 +366,12 @@ void on_itemid(Words *w)
     on_item(w, true, true, false);
 }
 
-/* The name of a type's data. */
+/* Whether a type has a name as the crate's `name` gives it: an array's is not among them, nor a method's among the members. */
+static bool is_named(uint64_t leaf)
+{
+    return (leaf >= PDB_LF_CLASS && leaf <= PDB_LF_ENUM) || leaf == PDB_LF_INTERFACE || leaf == PDB_LF_STRUCTURE19;
+}
+
 void on_name(Words *w)
 {
     Bytes b = next_bytes(w);
@@ -376,9 +381,8 @@ void on_name(Words *w)
         return;
     }
     uint32_t number = pdb_type(b.at, b.length, out);
-    bool named = out[PDB_TYPE_LEAF] != PDB_LF_VTSHAPE && out[PDB_TYPE_LEAF] != PDB_LF_ARGLIST && out[PDB_TYPE_NAME] != 0;
     if (number == 0)
-        part("0 ", named, out[PDB_TYPE_NAME], out[PDB_TYPE_NAME_LENGTH]);
+        part("0 ", is_named(out[PDB_TYPE_LEAF]), out[PDB_TYPE_NAME], out[PDB_TYPE_NAME_LENGTH]);
     else
         refusal(number, out);
     put("\n");
@@ -450,8 +454,9 @@ void on_membername(Words *w)
         refusal_line(number, out);
         return;
     }
-    part("0 ", out[PDB_STEP_NAME] != 0, out[PDB_STEP_NAME], out[PDB_STEP_NAME_LENGTH]);
-    if (out[PDB_STEP_NAME] != 0) {
+    bool named = out[PDB_STEP_NAME] != 0 && out[PDB_STEP_LEAF] != PDB_LF_ONEMETHOD;
+    part("0 ", named, out[PDB_STEP_NAME], out[PDB_STEP_NAME_LENGTH]);
+    if (named) {
         put(" ");
         hex(b.at + out[PDB_STEP_NAME], (size_t)out[PDB_STEP_NAME_LENGTH]);
     }
