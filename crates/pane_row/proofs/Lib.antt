@@ -1,3 +1,5 @@
 pub mod LengthLaws
 pub mod RowLaws
 pub mod Stands
+pub mod FieldsTell
+pub mod RowsTellProof

@@ -2,13 +2,14 @@
 use mathlib.Core.Path.{refl}
 use Rattle.answer.specs.Tables.{among}
 use Rattle.record_layout.specs.Layouts.{typeLeaves, idLeaves, memberLeaves}
+use Rattle.pane_row.specs.Kinds.{kindOf, fitting}
 use Rattle.pane_row.specs.TypePlaces.{typeSlots}
 use Rattle.pane_row.specs.IdPlaces.{idSlots}
 use Rattle.pane_row.specs.ElementPlaces.{memberSlots}
 use Rattle.pane_row.specs.Stand.{placesOf, apart, stands, lined, SlotsStand}
 
 pub slots-stand : SlotsStand
-unfolding among typeLeaves idLeaves memberLeaves typeSlots idSlots memberSlots placesOf apart stands lined
+unfolding among typeLeaves idLeaves memberLeaves typeSlots idSlots memberSlots kindOf fitting placesOf apart stands lined
 slots-stand = record {
   types-lined = refl;
   ids-lined = refl;
@@ -16,5 +17,6 @@ slots-stand = record {
   types-apart = refl;
   ids-apart = refl;
   members-apart = refl;
+  methods-fitting = refl;
   methods-apart = refl;
 }

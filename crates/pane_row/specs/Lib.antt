@@ -3,4 +3,6 @@ pub mod TypePlaces
 pub mod IdPlaces
 pub mod ElementPlaces
 pub mod ListPlaces
+pub mod Kinds
 pub mod Stand
+pub mod Back
