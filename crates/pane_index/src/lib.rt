@@ -7,18 +7,15 @@ ghost use Rattle.stream_finder.specs.Finder.{createBy, maxIndexOf};
 ghost use Rattle.stream_view.specs.Views.{viewOf, rawKindOf};
 ghost use Rattle.stream_places.specs.Places.{loadOf, loadWideOf, saveOf, saveWideOf};
 ghost use Rattle.pane_state.specs.Given.{finderWith, finderAt};
+ghost use Rattle.pane_state.specs.Entries.{entryAt};
 ghost use Rattle.pane_state.specs.Finders.{outFinder};
 ghost use Rattle.pane_state.specs.Walk.{indexAllBy, outWalk};
-ghost use Rattle.pane_index.specs.Out.{indexAt, entryAt, outView, outKind, outSave};
-use field::index::IdIndex;
-use field::index::ItemIndex;
+ghost use Rattle.pane_index.specs.Out.{outView, outKind, outSave};
 use field::index::Stream;
-use field::index::TypeIndex;
+use pane_state::entry_of;
 use stream_finder::FinderAnswer;
 use stream_finder::ItemFinder;
 use stream_index::IndexAnswer;
-use stream_item::Entry;
-use stream_item::Item;
 use stream_places::SaveAnswer;
 use stream_view::RawKindAnswer;
 use stream_view::ViewAnswer;
@@ -92,31 +89,6 @@ pub extern "C" fn pdb_max_index(minimum: u32, maximum: u32, held: usize, shift: 
     };
     let highest = f.max_type_index();
     highest.0
-}
-
-// The index that C names: of the id stream where `ids` is set, else of the type stream.
-fn index_of(ids: u32, index: u32) -> ItemIndex
-    ensures { λ r. ⌜ r ≡ indexAt ids index ⌝ }
-{
-    if pane_out::is_set(ids) {
-        return ItemIndex::Ids(IdIndex(index));
-    }
-    ItemIndex::Types(TypeIndex(index))
-}
-
-// The entry that C names.
-fn entry_of(ids: u32, item: u32, index: u32, place: usize, length: usize) -> Entry
-    ensures { λ r. ⌜ r ≡ entryAt ids item index place length ⌝ }
-{
-    let named = index_of(ids, index);
-    if pane_out::is_set(item) {
-        return Entry::Record(Item {
-            index: named,
-            place: place,
-            length: length,
-        });
-    }
-    Entry::Marker(named)
 }
 
 // Where an entry's bytes lie, of the two streams in the one that its index names. Behind `out`: the details, their place and their length.

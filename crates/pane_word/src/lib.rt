@@ -1,6 +1,7 @@
 // The words and the fields that records are made of, for C: strings, padding and numeric leaves at a place of some bytes, optional indices, and the four
 // attribute words. What all exports have in common stands in pane_out.
 ghost use mathlib.Core.Path.{_≡_};
+ghost use lib.Dec.{leb};
 ghost use Rattle.field.specs.Indices.{optionalOf, noType, noId};
 ghost use Rattle.field_text.specs.Texts.{stringOf, paddingAfter};
 ghost use Rattle.field_number.specs.Forms.{numeralAt, sizedAt};
@@ -150,6 +151,17 @@ pub extern "C" fn pdb_optional_id(index: u32) -> u32
         OptIdIndex::None => 0,
         OptIdIndex::Some(_) => 1,
     }
+}
+
+// Does a number of a type or an id name one of another module? 1 for yes.
+#[no_mangle]
+pub extern "C" fn pdb_is_cross_module(index: u32) -> u32
+    ensures { λ r. ⌜ r ≡ mark (leb 0x80000000 index) ⌝ }
+{
+    if TypeIndex(index).is_cross_module() {
+        return 1;
+    }
+    0
 }
 
 // The word of a class, structure, interface, union or enumeration. Behind `out`: no details, eleven flags from bit 0 on, hfa, intrinsic type and mocom.

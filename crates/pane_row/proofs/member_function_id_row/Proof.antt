@@ -1,0 +1,15 @@
+-- `pane_row::member_function_id_row` meets its contract. Assumes nothing.
+use mathlib.Core.Path.{refl}
+use Rattle.answer.specs.Tables.{find}
+use Rattle.pane_row.specs.Slots.{puts, rowBy}
+use Rattle.pane_row.specs.IdPlaces.{idSlots}
+use borrow.Author.Needs.{needs}
+use Rattle.pane_row.proofs.member_function_id_row.Statement.{statement}
+use Rattle.pane_row.proofs.member_function_id_row.Tie as tie
+
+returns : tie.Need-returns
+unfolding find idSlots rowBy puts
+returns c = refl
+
+pub member-function-id-row-spec : {M : Type 1} → statement M
+member-function-id-row-spec = tie.close (tie.spec (λ c. search needs) (λ c. search needs) returns)
