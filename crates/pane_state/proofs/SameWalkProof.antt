@@ -1,4 +1,4 @@
--- A walk does not depend on a bound on its turns, nor on which of the two streams it counts in, but for the cursor's tag, which C does not get. Assumes nothing.
+-- A walk as a function says what the contract says, without a bound on its turns, and of both streams the same but for the cursor's tag, which C does not get. Assumes nothing.
 use Prim.Native.Nat.{ℕ, zero, suc, _+_}
 use mathlib.Core.Bool.{Bool, true, false}
 use mathlib.Core.Path.{_≡_, refl, sym, ap, _∙_}
@@ -17,7 +17,7 @@ use Rattle.stream_finder.specs.Finder.{State, createBy, updateOf}
 use Rattle.stream_index.specs.Walk.{Turn, over, moved, updating, turnOf}
 use Rattle.pane_state.specs.Given.{cursorAt}
 use Rattle.pane_state.specs.Walk.{Arrived, arrived, onward, walkUpTo, walkOf, indexAllBy, outWalk, SameWalk}
-use Rattle.pane_state.proofs.WalkLaws.{walk-enough}
+use Rattle.pane_state.proofs.WalkLaws.{walk-is, walk-back, walk-enough}
 
 abbrev tagged : Stream → ItemIter → ItemIter
 tagged tag c = record { stream = tag; at = c .at; index = c .index }
@@ -102,4 +102,4 @@ index-ids shift s t = go (createBy shift s t)
     go (refused n x) = refl
 
 pub same-walk : SameWalk
-same-walk = record { enough = walk-enough; of-ids = index-ids }
+same-walk = record { contract = walk-is; back = walk-back; enough = walk-enough; of-ids = index-ids }

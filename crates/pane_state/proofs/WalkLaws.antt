@@ -1,5 +1,6 @@
--- A walk by its contract in stream_index, so many turns and then none, ends where `walkOf` says. Assumes nothing.
+-- A walk by its contract in stream_index, so many turns and then none, ends where `walkOf` says; and where `walkOf` ends, so many turns have led. Assumes nothing.
 use Prim.Native.Nat.{ℕ, zero, suc, _+_, _-_, _≤_}
+use mathlib.Core.Bool.{false}
 use mathlib.Core.Path.{_≡_, refl, sym, ap, _∙_, subst}
 use mathlib.Core.List.{List}
 use native.Mathlib.Omega.{arith}
@@ -17,7 +18,7 @@ use Rattle.stream_index.specs.declared.Tour.{Tour}
 use Rattle.stream_index.specs.declared.IndexAnswer.{IndexAnswer}
 use Rattle.stream_index.specs.declared.IndexAnswer.the-variants as walk
 use Rattle.stream_index.proofs.WalkLaws.{Further, turn-further}
-use Rattle.pane_state.specs.Walk.{Arrived, arrived, onward, walkUpTo, walkOf, indexAllBy, saidIndex}
+use Rattle.pane_state.specs.Walk.{Arrived, arrived, onward, walkUpTo, walkOf, indexAllBy, saidIndex, moves, Led}
 
 -- ---- there are no more turns than bytes
 turns-on : (s : List ℕ) (c : ItemIter) (σ : State) (n : ℕ) (d : ItemIter) (τ : State) → Turns s c σ n d τ → c .at + n ≤ d .at
@@ -96,6 +97,29 @@ module _ (s : List ℕ) where
   walk-enough c σ n l =
       let k : n ≡ length s + (n - length s) = omega arith in
       ap (λ (m : ℕ). walkUpTo m s c σ) k ∙ with-more (length s) (n - length s) c σ (omega arith)
+
+-- ---- and back: where it ends so many turns have led
+module _ (s : List ℕ) (c : ItemIter) (σ : State) where
+  walk-led : (m n : ℕ) (d : ItemIter) (τ : State) → Turns s c σ n d τ → length s ≤ d .at + m → Led s c σ (walkUpTo m s d τ)
+  unfolding walkUpTo
+  walk-led zero n d τ w l = record { turns = n; led = w; ended = refl; still = go (turnOf s τ d) refl }
+    where
+      go : (a : Answer Turn) → turnOf s τ d ≡ a → moves a ≡ false
+      go (answered over) e = refl
+      go (answered (moved ρ x)) e = absurd (no-turn s d τ ρ x (omega arith) e)
+      go (refused k x) e = refl
+  walk-led (suc m) n d τ w l = go (λ k x ρ v h. walk-led m k x ρ v h) (turnOf s τ d) refl
+    where
+      go : ((k : ℕ) (x : ItemIter) (ρ : State) → Turns s c σ k x ρ → length s ≤ x .at + m → Led s c σ (walkUpTo m s x ρ))
+          → (a : Answer Turn) → turnOf s τ d ≡ a → Led s c σ (onward (walkUpTo m s) d τ a)
+      go h (answered over) e = record { turns = n; led = w; ended = e; still = refl }
+      go h (answered (moved ρ x)) e =
+          let f : Further s d x = turn-further s τ d ρ x e in
+          h (suc n) x ρ (more w e) (omega (arith, f .on))
+      go h (refused k x) e = record { turns = n; led = w; ended = e; still = refl }
+
+  pub walk-back : Led s c σ (walkOf s c σ)
+  walk-back = walk-led (length s) 0 c σ none (omega arith)
 
 -- ---- a whole stream's
 index-is : (shift : ℕ) (tag : Stream) (s t : List ℕ) (r : IndexAnswer) (t′ : List ℕ) → IndexesBy shift tag s t r t′ → indexAllBy shift tag s t ≡ saidIndex r t′

@@ -1,6 +1,7 @@
 -- A walk as C gets it. Of a walk stream_index says that so many turns lead to where it ended, and that from there the next turn is over or refused; here is
--- where that is, as a function of what the walk started from: so a walk's contract is one equation too. proofs/WalkLaws.antt has that both say the same.
+-- where that is, as a function of what the walk started from: so a walk's contract is one equation too. `SameWalk` has that both say the same.
 use Prim.Native.Nat.{ℕ, zero, suc, _≤_}
+use mathlib.Core.Bool.{Bool, true, false}
 use mathlib.Core.Path.{_≡_}
 use mathlib.Core.List.{List, [], _∷_, _++_}
 use lib.ListN.{length, getD}
@@ -12,7 +13,7 @@ use Rattle.stream_item.specs.Iterator.{iterOf}
 use Rattle.stream_item.specs.declared.iter.ItemIter.{ItemIter}
 use Rattle.stream_finder.specs.Finder.{State, state, createBy}
 use Rattle.stream_finder.specs.declared.ItemFinder.{ItemFinder}
-use Rattle.stream_index.specs.Walk.{Turn, over, moved, turnOf, saidEnd}
+use Rattle.stream_index.specs.Walk.{Turn, over, moved, turnOf, Turns, saidEnd, Walks}
 use Rattle.stream_index.specs.declared.Tour.{Tour}
 use Rattle.stream_index.specs.declared.IndexAnswer.{IndexAnswer}
 use Rattle.stream_index.specs.declared.IndexAnswer.the-variants as walk
@@ -79,7 +80,25 @@ walkedTable t (refused n d) = t
 abbrev pub outWalk : List ℕ → Answer Arrived → ℕ × List ℕ × List ℕ
 outWalk t a = (handed 9 walkFields a .0, handed 9 walkFields a .1, walkedTable t a)
 
+-- ---- that the function says what stream_index's contract says
+
+-- a turn that moved
+abbrev pub moves : Answer Turn → Bool
+moves (answered over) = false
+moves (answered (moved τ d)) = true
+moves (refused n x) = false
+
+-- so many turns lead there, and from there the next turn is the answer that ended the walk, which is none that moves
+pub record Led (s : List ℕ) (c : ItemIter) (σ : State) (a : Arrived) : Type 0 where
+  pub turns : ℕ
+  pub led : Turns s c σ turns (a .cursor) (state (a .finder) (a .table))
+  pub ended : turnOf s (state (a .finder) (a .table)) (a .cursor) ≡ a .end
+  pub still : moves (a .end) ≡ false
+
 pub record SameWalk : Type 0 where
+  -- what the contract of a walk says is where `walkOf` ends, and where `walkOf` ends is what it says
+  pub contract : (s : List ℕ) (c : ItemIter) (σ : State) (r : Tour) (t′ : List ℕ) → Walks s c σ r t′ → walkOf s c σ ≡ arrived (r .cursor) (state (r .finder) t′) (saidEnd (r .end))
+  pub back : (s : List ℕ) (c : ItemIter) (σ : State) → Led s c σ (walkOf s c σ)
   -- the bound on turns is none: with more of them a walk ends at the same place
   pub enough : (s : List ℕ) (c : ItemIter) (σ : State) (n : ℕ) → length s ≤ n → walkUpTo n s c σ ≡ walkOf s c σ
   -- of an id stream C gets the same numbers and the same table
