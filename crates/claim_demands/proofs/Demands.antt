@@ -38,6 +38,9 @@ use Rattle.claim_promises.proofs.PiecesWhen.{pieces-when}
 use Rattle.claim_promises.proofs.SectionsProof.{sections-refuse, sections-when}
 use Rattle.claim_promises.proofs.DeclareRefuses.{declare-when}
 use Rattle.claim_promises.proofs.Digits.{lengths-shown}
+use Rattle.claim_promises.proofs.Widths.{size-width-said}
+use Rattle.claim_promises.proofs.Indexed.{streams-indexed}
+use Rattle.claim_promises.proofs.Paged.{section-tally}
 use Rattle.claim_promises.proofs.Examples.{examples-hold}
 use Rattle.claim_promises.proofs.DeclareExamples.{declarations-hold}
 use Rattle.claim_promises.proofs.Answers.{answers}
@@ -61,8 +64,10 @@ demands = record {
   third-every = demand3-every;
   exactly-if-every = not-indexed-every;
   shared-by-many = shared;
+  streams-indexed = streams-indexed;
   shortest-form = shortest-form;
   width-said = width-said;
+  size-width-said = size-width-said;
   numbers-as-before = as-before;
   layouts-as-before = as-in-01;
   loaded = load-serves;
@@ -94,6 +99,7 @@ demands = record {
   lengths-shown = lengths-shown;
   declarations-shown = declarations-hold;
   paged = tally-holds;
+  sections-paged = section-tally;
   five = same;
   of-runs = of-runs;
   of-sections = of-sections;
