@@ -19,7 +19,7 @@ use Rattle.stream_places.specs.Kept.{LoadServes, WideServes, RoundTrip, WideTri
 use Rattle.stream_report.specs.Sums.{AddsUp, Exactly, MadeSums}
 use Rattle.write_layout.specs.RoundTrip.{FieldsReadBack, RecordReadsBack, Exactly17}
 use Rattle.write_row.specs.Rows.{RowsShow}
-use Rattle.write_list.specs.ListsBack.{ListsReadBack}
+use Rattle.write_list.specs.ListsBack.{ListsReadBack, ListsExactly17}
 use Rattle.write_header.specs.Headers.{HeaderReadsBack}
 use Rattle.write_header.specs.Streams.{StreamWalks}
 use Rattle.stream_finder.specs.Runs.{OfRuns}
@@ -42,6 +42,7 @@ use Rattle.claim_promises.specs.PiecesWhen.{PiecesWhen}
 use Rattle.claim_promises.specs.Sections.{SectionsRefuse, SectionsWhen}
 use Rattle.claim_promises.specs.DeclareWhen.{DeclareWhen}
 use Rattle.claim_promises.specs.Digits.{LengthsShown}
+use Rattle.claim_promises.specs.OneBuffer.{OneBuffer}
 use Rattle.claim_promises.specs.Widths.{SizeWidthSaid}
 use Rattle.claim_promises.specs.Indexed.{StreamsIndexed}
 use Rattle.claim_promises.specs.Paged.{SectionTally}
@@ -124,16 +125,18 @@ pub record Demands : Type 2 where
   pub reports-refuse : Exactly
   pub reports-sum : MadeSums
   -- document 02, R-1: "Reading back gives the fields, and writing those the same bytes", of every layout and of a record of every table; 17 exactly
-  -- where no bytes read back: crates/write_layout/specs/RoundTrip.antt. Of the elements of the two lists, which are given as rows:
-  -- crates/write_list/specs/ListsBack.antt, crates/write_row/specs/Rows.antt. Of a header, and of a stream of a written header and written records:
-  -- crates/write_header/specs/Headers.antt, Streams.antt
+  -- where no bytes read back: crates/write_layout/specs/RoundTrip.antt. Of the elements of the two lists, which are given as rows, with where the members
+  -- stand: crates/write_list/specs/ListsBack.antt, crates/write_row/specs/Rows.antt. Of a header, and of a stream of a written header and written records:
+  -- crates/write_header/specs/Headers.antt, Streams.antt; of such a stream made in one buffer, OneBuffer.antt
   pub fields-read-back : FieldsReadBack
   pub records-read-back : RecordReadsBack
   pub exactly-17 : Exactly17
   pub lists-read-back : ListsReadBack
+  pub lists-exactly-17 : ListsExactly17
   pub rows-show : RowsShow
   pub headers-read-back : HeaderReadsBack
   pub streams-walk : StreamWalks
+  pub one-buffer : OneBuffer
   -- and when each of its numbers is given: WritesWhen.antt
   pub given-writing : WritesWhen
   -- of the pieces that records and lists are made of: PiecesWhen.antt

@@ -29,6 +29,7 @@ pub mod PiecesWhen
 pub mod Written
 pub mod Idle
 pub mod IdleAnswers
+pub mod OneBuffer
 pub mod Widths
 pub mod Indexed
 pub mod Paged
