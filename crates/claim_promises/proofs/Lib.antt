@@ -40,3 +40,4 @@ pub mod OneOutcome
 pub mod Answers
 pub mod RefusedBy
 pub mod SectionsProof
+pub mod Border

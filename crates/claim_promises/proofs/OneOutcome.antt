@@ -34,6 +34,11 @@ use Rattle.record_list.proofs.OneOutcome.{one-start, one-step, one-element}
 use Rattle.record_reader.proofs.OneOutcome.{one-reader, one-steps}
 use Rattle.record_parse.proofs.OneOutcome.{one-parse}
 use Rattle.pane_out.proofs.OneOutcome.{one-out, one-out-table, one-out-both}
+use Rattle.answer.specs.Tables.{find}
+use Rattle.record_cells.specs.Cells.{cellsOf}
+use Rattle.record_cells.specs.Filled.{fieldsBy}
+use Rattle.record_cells.proofs.OneOutcome.{one-answer as one-cells, one-out as one-cells-out}
+use Rattle.write_cells.specs.Cells.{cellValues}
 use Rattle.write_pieces.proofs.OneOutcome.{one-measure, one-writes}
 use Rattle.stream_item.specs.declared.iter.ItemIter.{ItemIter}
 use Rattle.stream_finder.specs.Finder.{State, state, begunIn, createOf, createBy, updateOf}
@@ -91,6 +96,67 @@ one-reader-step x r q m k a b =
 
 pub one-outcome : OneOutcome
 one-outcome = record {
+  pane-declare-pdb-declare = λ s table minimum maximum held shift index buffer. one-out-table _;
+  pane-drop-pdb-drop = λ s roots table buffer. one-out-both _;
+  pane-fit-pdb-fit = λ s. one-out _;
+  pane-index-pdb-create = λ s table shift. one-out-table _;
+  pane-index-pdb-index = λ s table shift. one-out-table _;
+  pane-index-pdb-max-index = λ minimum maximum held shift r q a b. a ∙ sym b;
+  pane-index-pdb-view = λ tpi ipi ids item index place length. one-out _;
+  pane-index-pdb-kind = λ tpi ipi ids item index place length. one-out _;
+  pane-index-pdb-load = λ s file table. one-out-table _;
+  pane-index-pdb-load-short = λ s file table. one-out-table _;
+  pane-index-pdb-save = λ s table minimum maximum held shift buffer. one-out-table _;
+  pane-index-pdb-save-short = λ s table minimum maximum held shift buffer. one-out-table _;
+  pane-out-first = λ e r q a b. a ∙ sym b;
+  pane-out-second = λ e r q a b. a ∙ sym b;
+  pane-out-is-set = λ n r q a b. a ∙ sym b;
+  pane-out-flag = λ yes r q a b. a ∙ sym b;
+  pane-parse-pdb-parse = λ tpi ipi ids item index place length. one-out _;
+  pane-parse-pdb-section-read = λ s index place length. one-out _;
+  pane-record-pdb-type = λ s. one-out _;
+  pane-record-pdb-id = λ s. one-out _;
+  pane-record-pdb-list = λ s ids. one-out _;
+  pane-record-pdb-step = λ s leaf at left padded. one-out _;
+  pane-report-pdb-report = λ s taken refused headers records bytes length stream index rows table. one-out-table _;
+  pane-row-type-row = λ d r q a b. a ∙ sym b;
+  pane-row-id-row = λ d r q a b. a ∙ sym b;
+  pane-row-cursor-row = λ c r q a b. a ∙ sym b;
+  pane-row-element-row = λ at left padded x r q a b. a ∙ sym b;
+  pane-section-pdb-section-start = λ s. one-out _;
+  pane-section-pdb-section-count = λ s. one-out _;
+  pane-section-pdb-section-create = λ s table shift. one-out-table _;
+  pane-section-pdb-section-index = λ s table shift. one-out-table _;
+  pane-section-pdb-section-stream = λ s buffer. one-out-table _;
+  pane-section-pdb-section-list = λ s. one-out _;
+  pane-state-walk-out = λ t r q a b. a ∙ sym b;
+  pane-state-entry-of = λ ids item index place length r q a b. a ∙ sym b;
+  pane-word-pdb-string = λ s leaf at. one-out _;
+  pane-word-pdb-padding = λ s at. one-out _;
+  pane-word-pdb-size = λ s at. one-out _;
+  pane-word-pdb-number = λ s at. one-out _;
+  pane-word-pdb-optional-type = λ index r q a b. a ∙ sym b;
+  pane-word-pdb-optional-id = λ index r q a b. a ∙ sym b;
+  pane-word-pdb-is-cross-module = λ index r q a b. a ∙ sym b;
+  pane-word-pdb-properties = λ word. one-out _;
+  pane-word-pdb-field-attributes = λ word. one-out _;
+  pane-word-pdb-function-attributes = λ word. one-out _;
+  pane-word-pdb-pointer-attributes = λ word. one-out _;
+  pane-write-pdb-write-type = λ text leaf cells buffer at. one-out-table _;
+  pane-write-pdb-write-id = λ text leaf cells buffer at. one-out-table _;
+  pane-write-pdb-write-fields = λ text rows buffer at. one-out-table _;
+  pane-write-pdb-write-methods = λ text rows buffer at. one-out-table _;
+  pane-write-pdb-write-header = λ fields stream pad buffer at. one-out-table _;
+  pane-write-pdb-cells = λ s ids cells. one-out-table _;
+  pane-write-pdb-layout = λ which leaf r q a b. a .1 ∙ sym (b .1);
+  record-cells-type-cells = λ s leaf at out r q m k a b. (one-cells (cellsOf 9) (fieldsBy (find leaf typeLeaves) leaf s at) r q out m k a b, one-cells-out (cellsOf 9) (fieldsBy (find leaf typeLeaves) leaf s at) r q out m k a b);
+  record-cells-id-cells = λ s leaf at out r q m k a b. (one-cells (cellsOf 9) (fieldsBy (find leaf idLeaves) leaf s at) r q out m k a b, one-cells-out (cellsOf 9) (fieldsBy (find leaf idLeaves) leaf s at) r q out m k a b);
+  record-cells-layout-type-layout = λ leaf r q a b. a .1 ∙ sym (b .1);
+  record-cells-layout-member-layout = λ leaf r q a b. a .1 ∙ sym (b .1);
+  record-cells-layout-method-layout = λ r q a b. a .1 ∙ sym (b .1);
+  record-cells-layout-id-layout = λ leaf r q a b. a .1 ∙ sym (b .1);
+  write-cells-write-type = λ text leaf row out at. one-writes out (lay (writeRecord typeLeaves (givenAll text (cellValues leaf row))) out at);
+  write-cells-write-id = λ text leaf row out at. one-writes out (lay (writeRecord idLeaves (givenAll text (cellValues leaf row))) out at);
   declare-kind-kind = λ k. one-spells (kindText k);
   declare-kind-size = λ k by r q a b. a ∙ sym b;
   declare-node-node-of = λ s f t i r q a b. a ∙ sym b;
@@ -139,11 +205,6 @@ one-outcome = record {
   pane-pdb-header = λ s. one-out _;
   pane-pdb-next = λ s at index. one-out _;
   pane-pdb-update = λ table minimum maximum held shift at index. one-out-table _;
-  pane-pdb-load = λ s file table. one-out-table _;
-  pane-pdb-save = λ s table minimum maximum held shift buffer. one-out-table _;
-  pane-pdb-fit = λ s. one-out _;
-  pane-pdb-drop = λ s roots table buffer. one-out-both _;
-  pane-pdb-report = λ s taken refused headers records bytes length stream index rows table. one-out-table _;
   pane-pdb-find = λ s table minimum maximum held shift index. one-out _;
   pane-pdb-primitive = λ index. one-out _;
   record-data-type-data-name = λ self r q a b. one-type-name r q (a ∙ sym b);

@@ -17,7 +17,6 @@ use Rattle.field.specs.declared.index.Stream.{Stream}
 use Rattle.field.specs.declared.index.TypeIndex.{TypeIndex}
 use Rattle.field_number.specs.Forms.{numeralAt, saidSize as saidSize-of-field-number, saidVariant, sizedAt}
 use Rattle.field_text.specs.Texts.{paddingAfter, saidString, stringAt, stringOf}
-use Rattle.pane.specs.Out.{cursorAt, finderAt, outDrop, outFind, outFit, outHeader, outLoad, outNext, outPrimitive, outReport, outSave, outUpdate, totalsAt, typeAt}
 use Rattle.record_data.specs.Said.{saidTypeData, typeValues}
 use Rattle.record_data.specs.declared.TypeData.{TypeData}
 use Rattle.record_id.specs.Said.{idValues, saidIdData}
@@ -186,20 +185,6 @@ pub record Answers : Type 1 where
   pub write-pieces-write-filled : (text : List ℕ) (xs : List Piece-of-write-pieces) (out : List ℕ) (at : ℕ) (r : WriteAnswer) (out′ : List ℕ) → contract.write-pieces-write-filled text xs out at r out′ → Writes out (lay (limited (filledEach (piecesOf text xs))) out at) (saidWrite r) out′
   pub write-pieces-write-record : (text : List ℕ) (xs : List Piece-of-write-pieces) (out : List ℕ) (at : ℕ) (r : WriteAnswer) (out′ : List ℕ) → contract.write-pieces-write-record text xs out at r out′ → Writes out (lay (recordBytes (piecesOf text xs)) out at) (saidWrite r) out′
   pub write-type-write-type : (text : List ℕ) (d : TypeData) (out : List ℕ) (at : ℕ) (r : WriteAnswer) (out′ : List ℕ) → contract.write-type-write-type text d out at r out′ → Writes out (lay (writeRecord typeLeaves (givenAll text (typeValues d))) out at) (saidWrite r) out′
-  -- the exports for C
-  pub pane-pdb-header : (s : List ℕ) (r : ℕ) (out′ : List ℕ) → contract.pane-pdb-header s r out′ → (r, out′) ≡ outHeader (headerOf s)
-  pub pane-pdb-next : (s : List ℕ) (at : ℕ) (index : ℕ) (r : ℕ) (out′ : List ℕ) → contract.pane-pdb-next s at index r out′ → (r, out′) ≡ outNext (nextOf s (cursorAt at index))
-  pub pane-pdb-update : (table : List ℕ) (minimum : ℕ) (maximum : ℕ) (held : ℕ) (shift : ℕ) (at : ℕ) (index : ℕ) (r : ℕ) (table′ : List ℕ) (out′ : List ℕ) → contract.pane-pdb-update table minimum maximum held shift at index r table′ out′ → (r, out′, table′) ≡ outUpdate table (updateOf (finderAt minimum maximum held shift table) (cursorAt at index))
-  pub pane-pdb-load : (s : List ℕ) (file : List ℕ) (table : List ℕ) (r : ℕ) (table′ : List ℕ) (out′ : List ℕ) → contract.pane-pdb-load s file table r table′ out′ → (r, out′, table′) ≡ outLoad table (loadWideOf s file table)
-  pub pane-pdb-save : (s : List ℕ) (table : List ℕ) (minimum : ℕ) (maximum : ℕ) (held : ℕ) (shift : ℕ) (buffer : List ℕ) (r : ℕ) (buffer′ : List ℕ) (out′ : List ℕ) → contract.pane-pdb-save s table minimum maximum held shift buffer r buffer′ out′ → (r, out′, buffer′) ≡ outSave buffer (saveWideOf s (finderAt minimum maximum held shift table) (length buffer))
-  pub pane-pdb-fit : (s : List ℕ) (r : ℕ) (out′ : List ℕ) → contract.pane-pdb-fit s r out′ → (r, out′) ≡ outFit (fitOf s)
-  pub pane-pdb-drop : (s : List ℕ) (roots : List ℕ) (table : List ℕ) (buffer : List ℕ) (r : ℕ) (table′ : List ℕ) (buffer′ : List ℕ) (out′ : List ℕ)
-      → contract.pane-pdb-drop s roots table buffer r table′ buffer′ out′ → (r, out′, table′, buffer′) ≡ outDrop table buffer (dropOf s roots (length table) (length buffer))
-  pub pane-pdb-report : (s : List ℕ) (taken : ℕ) (refused : ℕ) (headers : ℕ) (records : ℕ) (bytes : ℕ) (length : ℕ) (stream : ℕ) (index : ℕ) (rows : ℕ) (table : List ℕ) (r : ℕ) (table′ : List ℕ) (out′ : List ℕ)
-      → contract.pane-pdb-report s taken refused headers records bytes length stream index rows table r table′ out′
-      → (r, out′, table′) ≡ outReport table (addOf (reportIn (totalsAt taken refused headers records bytes length stream index rows) table) s)
-  pub pane-pdb-find : (s : List ℕ) (table : List ℕ) (minimum : ℕ) (maximum : ℕ) (held : ℕ) (shift : ℕ) (index : ℕ) (r : ℕ) (out′ : List ℕ) → contract.pane-pdb-find s table minimum maximum held shift index r out′ → (r, out′) ≡ outFind (findOf s (finderAt minimum maximum held shift table) (typeAt index))
-  pub pane-pdb-primitive : (index : ℕ) (r : ℕ) (out′ : List ℕ) → contract.pane-pdb-primitive index r out′ → (r, out′) ≡ outPrimitive index (primitiveOf index)
   -- attribute words: the crate's own methods
   pub word-attributes-type-properties-packed : (self : TypeProperties) → Says (contract.word-attributes-type-properties-packed self) (λ r. r) (crate.packed (self .0))
   pub word-attributes-type-properties-constructors : (self : TypeProperties) → Says (contract.word-attributes-type-properties-constructors self) (λ r. r) (crate.constructors (self .0))

@@ -87,7 +87,7 @@ use Rattle.pane_word.specs.Words.{outField, outFunction, outPointer, outPropert
 use Rattle.pane_write.specs.Read.{codesOf, leavesOf, outCells, tableOf}
 use Rattle.pane_write.specs.Written.{headerIn, outWrite}
 use Rattle.record_cells.specs.Cells.{cellsOf}
-use Rattle.record_cells.specs.Codes.{codeIn, fieldsOf, idCodes, layoutIn, memberCodes, methodCode, typeCodes}
+use Rattle.record_cells.specs.Codes.{codeIn, idCodes, layoutIn, memberCodes, methodCode, typeCodes}
 use Rattle.record_cells.specs.Filled.{FillsCells, fieldsBy}
 use Rattle.record_cells.specs.declared.CellsAnswer.{CellsAnswer}
 use Rattle.record_data.specs.Said.{saidTypeData, stringValue, typeName, typeValues}
@@ -182,11 +182,11 @@ use Rattle.word_primitive.specs.Primitive.{primitiveOf, saidPrimitive}
 use Rattle.word_primitive.specs.declared.Indirection.{Indirection}
 use Rattle.word_primitive.specs.declared.PrimitiveAnswer.{PrimitiveAnswer}
 use Rattle.word_primitive.specs.declared.PrimitiveKind.{PrimitiveKind}
-use Rattle.write_cells.specs.Cells.{cellValues, leftBytes}
+use Rattle.write_cells.specs.Cells.{cellValues}
 use Rattle.write_fit.specs.Fit.{halfPiece, naturalPiece, ofPart, ofRun, runPiece, textPiece, wordPiece}
 use Rattle.write_header.specs.Headers.{headerBytes}
 use Rattle.write_layout.specs.Buffer.{Writes, lay}
-use Rattle.write_layout.specs.Fields.{and-also, fixedBytes, givenAll, numericBytes, writeField}
+use Rattle.write_layout.specs.Fields.{fixedBytes, givenAll, numericBytes, writeField}
 use Rattle.write_layout.specs.Lists.{fieldListBytes, filledEach, methodListBytes}
 use Rattle.write_layout.specs.Records.{limited, recordBytes, writeRecord}
 use Rattle.write_pieces.specs.Pieces.{pieceOf, piecesOf, saidMeasure, saidWrite}
@@ -606,10 +606,6 @@ pane-write-pdb-cells s ids cells r cells′ out′ = (r, out′, cells′) ≡ o
 -- pane_write::pdb_layout
 abbrev pub pane-write-pdb-layout : (which : ℕ) (leaf : ℕ) → ℕ → Type 0
 pane-write-pdb-layout which leaf r = (layoutIn r ≡ leavesOf which leaf) × (r ≡ codesOf which leaf)
-
--- record_cells::cells_at
-abbrev pub record-cells-cells-at : (s : List ℕ) (at : ℕ) (layout : ℕ) (out : List ℕ) → CellsAnswer → List ℕ → Type 0
-record-cells-cells-at s at layout out r out′ = FillsCells (cellsOf 9) (readFields (fieldsOf layout) 0 s at) r out out′
 
 -- record_cells::type_cells
 abbrev pub record-cells-type-cells : (s : List ℕ) (leaf : ℕ) (at : ℕ) (out : List ℕ) → CellsAnswer → List ℕ → Type 0
@@ -1046,10 +1042,6 @@ word-attributes-pointer-attributes-is-mocom self r = r ≡ bit 19 (self .0)
 -- word_primitive::primitive
 abbrev pub word-primitive-primitive : (index : TypeIndex) → PrimitiveAnswer → Type 0
 word-primitive-primitive index r = saidPrimitive r ≡ primitiveOf (index .0)
-
--- write_cells::pieces
-abbrev pub write-cells-pieces : (leaf : ℕ) (layout : ℕ) (row : List ℕ) → List Piece-of-write-pieces → Type 0
-write-cells-pieces leaf layout row xs = ((t : List ℕ) → piecesOf t xs ≡ and-also (fixedBytes 2 leaf) (leftBytes 9 layout 0 t row))
 
 -- write_cells::write_type
 abbrev pub write-cells-write-type : (text : List ℕ) (leaf : ℕ) (row : List ℕ) (out : List ℕ) (at : ℕ) → WriteAnswer → List ℕ → Type 0

@@ -187,7 +187,6 @@ pub record OneOutcome : Type 1 where
   pub pane-write-pdb-cells : (s : List ℕ) (ids : ℕ) (cells : List ℕ) → OnceLentTwo (contract.pane-write-pdb-cells s ids cells)
   pub pane-write-pdb-layout : (which : ℕ) (leaf : ℕ) → Once (contract.pane-write-pdb-layout which leaf)
   -- record_cells
-  pub record-cells-cells-at : (s : List ℕ) (at : ℕ) (layout : ℕ) (out : List ℕ) → OnceLent (contract.record-cells-cells-at s at layout out)
   pub record-cells-type-cells : (s : List ℕ) (leaf : ℕ) (at : ℕ) (out : List ℕ) → OnceLent (contract.record-cells-type-cells s leaf at out)
   pub record-cells-id-cells : (s : List ℕ) (leaf : ℕ) (at : ℕ) (out : List ℕ) → OnceLent (contract.record-cells-id-cells s leaf at out)
   pub record-cells-layout-type-layout : (leaf : ℕ) → Once (contract.record-cells-layout-type-layout leaf)
@@ -320,7 +319,6 @@ pub record OneOutcome : Type 1 where
   -- word_primitive
   pub word-primitive-primitive : (index : TypeIndex) → Once (contract.word-primitive-primitive index)
   -- write_cells
-  pub write-cells-pieces : (leaf : ℕ) (layout : ℕ) (row : List ℕ) → Once (contract.write-cells-pieces leaf layout row)
   pub write-cells-write-type : (text : List ℕ) (leaf : ℕ) (row : List ℕ) (out : List ℕ) (at : ℕ) → OnceLent (contract.write-cells-write-type text leaf row out at)
   pub write-cells-write-id : (text : List ℕ) (leaf : ℕ) (row : List ℕ) (out : List ℕ) (at : ℕ) → OnceLent (contract.write-cells-write-id text leaf row out at)
   -- write_fit

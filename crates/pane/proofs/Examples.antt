@@ -12,7 +12,8 @@ use Rattle.stream_item.specs.Iterator.{nextOf}
 use Rattle.stream_finder.specs.Finder.{updateOf}
 use Rattle.word_primitive.specs.Kinds.{kinds, indirections}
 use Rattle.word_primitive.specs.Primitive.{primitiveOf}
-use Rattle.pane.specs.Out.{cursorAt, finderAt, outHeader, outNext, outUpdate, outPrimitive}
+use Rattle.pane_state.specs.Given.{cursorAt, finderAt}
+use Rattle.pane.specs.Out.{outHeader, outNext, outUpdate, outPrimitive}
 
 -- a header whose fields differ, with an offset of −1
 abbrev headerX : List ℕ

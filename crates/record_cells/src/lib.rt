@@ -458,7 +458,7 @@ fn field_at(s: &[u8], p: usize, code: u64, w: u32) -> FieldAnswer
 }
 
 // The fields of a layout at a place, as a row of nine cells; `out` stays as it is where a field is refused.
-pub fn cells_at(s: &[u8], at: usize, layout: u64, out: &mut [u64; 27]) -> CellsAnswer
+fn cells_at(s: &[u8], at: usize, layout: u64, out: &mut [u64; 27]) -> CellsAnswer
     ensures { λ r. ⌜ FillsCells (cellsOf 9) (readFields (fieldsOf layout) 0 (now (s .entry)) at) r (now (out .entry)) (now (out .exit)) ⌝ }
 {
     let mut row = [0u64; 27];

@@ -347,7 +347,7 @@ fn word_after(code: u64, kind: u64, value: u64, w: u64) -> u64
 }
 
 // The pieces of a record: its leaf, and the fields of this layout from the cells of the row, one for each.
-pub fn pieces(leaf: u16, layout: u64, row: [u64; 27]) -> [Piece; 16]
+fn pieces(leaf: u16, layout: u64, row: [u64; 27]) -> [Piece; 16]
     ensures { λ xs. ⌜ ((t : List ℕ) → piecesOf t xs ≡ and-also (fixedBytes 2 leaf) (leftBytes 9 layout 0 t row)) ⌝ }
 {
     let mut xs = [Piece::Nothing; 16];
