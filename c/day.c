@@ -13,7 +13,7 @@
 #include <stdlib.h>
 #include <string.h>
 
-#include "records.h"
+
 
 struct paged {
     uint8_t *bytes;

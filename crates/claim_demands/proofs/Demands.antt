@@ -17,6 +17,7 @@ use Rattle.write_layout.proofs.RoundTripProof.{fields-read-back, record-reads-b
 use Rattle.write_layout.proofs.Rewrite.{exactly-17}
 use Rattle.write_row.proofs.RowLaws.{rows-show}
 use Rattle.write_list.proofs.ListBack.{lists-read-back}
+use Rattle.write_list.proofs.Lists17.{lists-exactly-17}
 use Rattle.write_header.proofs.HeaderBack.{header-reads-back}
 use Rattle.write_header.proofs.StreamWalks.{stream-walks}
 use Rattle.section_item.proofs.SectionLaws.{counts}
@@ -38,6 +39,10 @@ use Rattle.claim_promises.proofs.PiecesWhen.{pieces-when}
 use Rattle.claim_promises.proofs.SectionsProof.{sections-refuse, sections-when}
 use Rattle.claim_promises.proofs.DeclareRefuses.{declare-when}
 use Rattle.claim_promises.proofs.Digits.{lengths-shown}
+use Rattle.claim_promises.proofs.OneBuffer.{one-buffer}
+use Rattle.claim_promises.proofs.Widths.{size-width-said}
+use Rattle.claim_promises.proofs.Indexed.{streams-indexed}
+use Rattle.claim_promises.proofs.Paged.{section-tally}
 use Rattle.claim_promises.proofs.Examples.{examples-hold}
 use Rattle.claim_promises.proofs.DeclareExamples.{declarations-hold}
 use Rattle.claim_promises.proofs.Answers.{answers}
@@ -61,8 +66,10 @@ demands = record {
   third-every = demand3-every;
   exactly-if-every = not-indexed-every;
   shared-by-many = shared;
+  streams-indexed = streams-indexed;
   shortest-form = shortest-form;
   width-said = width-said;
+  size-width-said = size-width-said;
   numbers-as-before = as-before;
   layouts-as-before = as-in-01;
   loaded = load-serves;
@@ -85,15 +92,18 @@ demands = record {
   records-read-back = record-reads-back;
   exactly-17 = exactly-17;
   lists-read-back = lists-read-back;
+  lists-exactly-17 = lists-exactly-17;
   rows-show = rows-show;
   headers-read-back = header-reads-back;
   streams-walk = stream-walks;
+  one-buffer = one-buffer;
   given-writing = writes-when;
   given-pieces = pieces-when;
   given-declarations = declare-when;
   lengths-shown = lengths-shown;
   declarations-shown = declarations-hold;
   paged = tally-holds;
+  sections-paged = section-tally;
   five = same;
   of-runs = of-runs;
   of-sections = of-sections;

@@ -19,7 +19,7 @@ use Rattle.stream_places.specs.Kept.{LoadServes, WideServes, RoundTrip, WideTri
 use Rattle.stream_report.specs.Sums.{AddsUp, Exactly, MadeSums}
 use Rattle.write_layout.specs.RoundTrip.{FieldsReadBack, RecordReadsBack, Exactly17}
 use Rattle.write_row.specs.Rows.{RowsShow}
-use Rattle.write_list.specs.ListsBack.{ListsReadBack}
+use Rattle.write_list.specs.ListsBack.{ListsReadBack, ListsExactly17}
 use Rattle.write_header.specs.Headers.{HeaderReadsBack}
 use Rattle.write_header.specs.Streams.{StreamWalks}
 use Rattle.stream_finder.specs.Runs.{OfRuns}
@@ -42,6 +42,10 @@ use Rattle.claim_promises.specs.PiecesWhen.{PiecesWhen}
 use Rattle.claim_promises.specs.Sections.{SectionsRefuse, SectionsWhen}
 use Rattle.claim_promises.specs.DeclareWhen.{DeclareWhen}
 use Rattle.claim_promises.specs.Digits.{LengthsShown}
+use Rattle.claim_promises.specs.OneBuffer.{OneBuffer}
+use Rattle.claim_promises.specs.Widths.{SizeWidthSaid}
+use Rattle.claim_promises.specs.Indexed.{StreamsIndexed}
+use Rattle.claim_promises.specs.Paged.{SectionTally}
 use Rattle.claim_promises.specs.Examples.{examples, asked, given as answers}
 use Rattle.claim_promises.specs.DeclareExamples.{declarations, declared, expected}
 use Rattle.claim_promises.specs.Answers.{Answers}
@@ -80,10 +84,15 @@ pub record Demands : Type 2 where
   pub exactly-if-every : NotIndexedEvery
   -- document 02, R-11: "any order of updates to a finder fresh on this stream, from any number of cursors ..": crates/stream_finder/specs/Shared.antt
   pub shared-by-many : Shared
-  -- document 02, R-4: what is said of the form of a number, "and whether a shorter form existed under R-1's rule": crates/field_number/specs/Forms.antt.
+  -- a stream that `index_all_by` has indexed: demand 3 holds of what it leaves, N being the records that it walked; and indexed, saved and loaded, each
+  -- lookup is what it was: Indexed.antt
+  pub streams-indexed : StreamsIndexed
+  -- document 02, R-4: what is said of the form of a number, "and whether a shorter form existed under R-1's rule": crates/field_number/specs/Forms.antt; of
+  -- one that is read as a size, Widths.antt.
   -- "Values and refusals of 01 stay", of a numeric leaf and of every layout: crates/record_layout/specs/Fields.antt
   pub shortest-form : ShortestForm
   pub width-said : WidthSaid
+  pub size-width-said : SizeWidthSaid
   pub numbers-as-before : AsBefore
   pub layouts-as-before : AsIn01
   -- document 02, R-9: a stream is fit exactly when every sentence holds, and the no names the lowest faulty record and the first rule that it breaks:
@@ -116,16 +125,18 @@ pub record Demands : Type 2 where
   pub reports-refuse : Exactly
   pub reports-sum : MadeSums
   -- document 02, R-1: "Reading back gives the fields, and writing those the same bytes", of every layout and of a record of every table; 17 exactly
-  -- where no bytes read back: crates/write_layout/specs/RoundTrip.antt. Of the elements of the two lists, which are given as rows:
-  -- crates/write_list/specs/ListsBack.antt, crates/write_row/specs/Rows.antt. Of a header, and of a stream of a written header and written records:
-  -- crates/write_header/specs/Headers.antt, Streams.antt
+  -- where no bytes read back: crates/write_layout/specs/RoundTrip.antt. Of the elements of the two lists, which are given as rows, with where the members
+  -- stand: crates/write_list/specs/ListsBack.antt, crates/write_row/specs/Rows.antt. Of a header, and of a stream of a written header and written records:
+  -- crates/write_header/specs/Headers.antt, Streams.antt; of such a stream made in one buffer, OneBuffer.antt
   pub fields-read-back : FieldsReadBack
   pub records-read-back : RecordReadsBack
   pub exactly-17 : Exactly17
   pub lists-read-back : ListsReadBack
+  pub lists-exactly-17 : ListsExactly17
   pub rows-show : RowsShow
   pub headers-read-back : HeaderReadsBack
   pub streams-walk : StreamWalks
+  pub one-buffer : OneBuffer
   -- and when each of its numbers is given: WritesWhen.antt
   pub given-writing : WritesWhen
   -- of the pieces that records and lists are made of: PiecesWhen.antt
@@ -137,9 +148,10 @@ pub record Demands : Type 2 where
   pub lengths-shown : LengthsShown
   -- examples of declarations and of their refusals, together as one statement over their list: DeclareExamples.antt
   pub declarations-shown : map declared declarations ≡ map expected declarations
-  -- document 02, R-14: "the links passed for looking up each of c indices once, upward from the minimum": crates/pane/specs/Tally.antt; and that the
-  -- five functions for C are enough: crates/pane/specs/Same.antt
+  -- document 02, R-14: "the links passed for looking up each of c indices once, upward from the minimum": crates/pane/specs/Tally.antt, of a section's
+  -- finder Paged.antt; and that the five functions for C are enough: crates/pane/specs/Same.antt
   pub paged : Tally
+  pub sections-paged : SectionTally
   pub five : Same
   -- document 02, R-6: "Demand 3 holds of the section with 4 for header_size, 4096 for the minimum and 4096 plus the records for the maximum":
   -- crates/section_finder/specs/Demand.antt, by the theorems of any run, crates/stream_finder/specs/Runs.antt; the records are those of a whole walk:
@@ -147,8 +159,8 @@ pub record Demands : Type 2 where
   pub of-runs : OfRuns
   pub of-sections : OfSections
   pub sections-counted : Counts
-  -- the stream that is made of a section: its header is accepted, its walk is the section's with places 52 higher, its lookups agree:
-  -- crates/section_stream/specs/Made.antt
+  -- the stream that is made of a section: its header is accepted and counts the section's records, their bytes are kept, its walk is the section's with
+  -- places 52 higher, its lookups agree: crates/section_stream/specs/Made.antt
   pub made-stream : StreamMade
   -- "each item goes to the reader that takes its leaf": crates/section_read/specs/Readers.antt
   pub each-taken : EachTaken

@@ -2,21 +2,22 @@
 use Prim.Native.Nat.{ℕ, _≤_, _<_}
 use native.Mathlib.Omega.{arith}
 use mathlib.Core.Bool.{true}
-use mathlib.Core.Path.{_≡_, _∙_}
+use mathlib.Core.Path.{_≡_, refl, _∙_}
 use mathlib.Core.List.{List, [], _∷_}
 use lib.ListN.{length}
 use lib.Dec.{leb, ltb, eqb}
 use borrow.Author.Tests.{ltb-true, ltb-false, leb-true}
-use Rattle.answer.specs.Answer.{answered}
+use Rattle.answer.specs.Tables.{among}
+use Rattle.answer.specs.Answer.{answered, refused}
 use Rattle.stream_header.specs.Header.{headerOf}
 use Rattle.stream_header.specs.declared.Header.{Header}
 use Rattle.stream_finder.specs.Finder.{runOf, begunIn, createBy}
 use Rattle.stream_finder.specs.declared.Run.{Run}
 use Rattle.stream_finder.proofs.FinderLaws.{run-shift, run-none, run-full, run-some, begun-is, create-is}
 use Rattle.claim_promises.specs.ByTable.{Refuses}
-use Rattle.claim_promises.specs.Given.{by, Given}
+use Rattle.claim_promises.specs.Given.{by, Given, RefusedAs}
 use Rattle.claim_promises.specs.CreatedWhen.{CreatedWhen}
-use Rattle.claim_promises.proofs.Given.{off, at-stop, at-pick}
+use Rattle.claim_promises.proofs.Given.{off, at-stop, at-pick, apart, as-first}
 use Rattle.claim_promises.proofs.StreamRefuses.{run-refuses}
 
 module _ (shift : ℕ) (t : List ℕ) (r : Run) where
@@ -42,8 +43,14 @@ creations shift s t h e = create-is shift s t (answered h) e ∙ begun-is shift 
 creations-else : (shift : ℕ) (s t : List ℕ) (h : Header) → headerOf s ≡ answered h → Refuses (26 ∷ 13 ∷ []) (createBy shift s t)
 creations-else shift s t h e = rw (creations shift s t h e) (run-refuses shift t (runOf h))
 
+creations-own : (shift : ℕ) (s t : List ℕ) → RefusedAs (16 ∷ 1 ∷ 2 ∷ 3 ∷ 4 ∷ 5 ∷ []) (createBy shift s t) (headerOf s)
+unfolding apart among
+creations-own shift s t =
+    as-first (16 ∷ 1 ∷ 2 ∷ 3 ∷ 4 ∷ 5 ∷ []) (26 ∷ 13 ∷ []) (createBy shift s t) (headerOf s) refl (λ n d e. create-is shift s t (refused n d) e) (creations-else shift s t)
+
 pub created-when : CreatedWhen
 created-when = record {
+  creations-own = creations-own;
   begins-26 = begins-26;
   begins-13 = begins-13;
   begins-else = run-refuses;

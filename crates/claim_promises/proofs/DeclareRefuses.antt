@@ -48,7 +48,7 @@ use Rattle.declare_type.specs.declared.DeclareAnswer.{DeclareAnswer}
 use Rattle.declare_type.specs.Declares.{textIn, declareOf, saidDeclare, lengthOf, bufferAfter, Declares}
 use Rattle.claim_promises.specs.ByTable.{Links, fits, linksFit, By, gives, refuses}
 use Rattle.claim_promises.specs.Given.{by, Given}
-use Rattle.claim_promises.specs.DeclareWhen.{fixedBy, unlimited, Visits, Fault, too-deep, its-own, its-lists, Meets, StopsBy, TooDeep, EntryOther, FoundOther, OtherLeaf, NotPrinted, other-leaf, no-list, other-list, OtherMet, HasRoom, DeclareWhen}
+use Rattle.claim_promises.specs.DeclareWhen.{fixedBy, unlimited, Visits, Fault, too-deep, its-own, its-lists, Meets, StopsBy, TooDeep, EntryOther, FoundOther, OtherLeaf, NotPrinted, other-leaf, no-list, other-list, OtherMet, HasRoom, DeclareWhen, Declined, long, full, met}
 use Rattle.claim_promises.proofs.ByTable.{within, among-within, both-first, both-second, wider}
 use Rattle.claim_promises.proofs.DeclareModes.{LeafFirst, layout-first, five-modes}
 use Rattle.claim_promises.proofs.DeclarePaths.{printing, stopping, printed-has, stopped-meets}
@@ -560,8 +560,48 @@ is-24 s σ i room = record {
       let m : Meets s σ 32 i (x .1 .refusal) = stopped-meets s σ (x .1 .refusal) 32 i startOf (x .1 .stops) in
       ((x .0, x .1 .fits), met-24 s σ i (m .left) (m .at) (x .1 .refusal) (m .path) (m .fault) (x .1 .number))
 
+-- ---- each refusal
+
+declined : (s : List ℕ) (σ : State) (i room n : ℕ) (d : List ℕ) → Declined s σ i room n d → declareOf s σ i room ≡ refused n d
+declined s σ i room n d (long h) = long-is s σ i room h
+declined s σ i room n d (full h k) = short-is s σ i room h ∙ over-is room (declarationOf s σ i) k
+declined s σ i room n d (met {e = e} h m) = given-by s σ i room e h (stopping s σ e 32 i (m .left) (m .at) (m .path) (m .fault) startOf)
+
+declined-only : (s : List ℕ) (σ : State) (i room n : ℕ) (d : List ℕ) → declareOf s σ i room ≡ refused n d → Declined s σ i room n d
+unfolding declareOf textIn
+declined-only s σ i room n d h = first (ltb longest (length s)) refl h
+  where
+    over : length s ≤ longest → (w : Walked) → declarationOf s σ i ≡ w → room < fixedBy w → _≡_ {A = Answer (List ℕ)} (refused 19 []) (refused n d) → Declined s σ i room n d
+    over l w q k x =
+        let e : 19 ≡ n = cc in
+        let f : [] ≡ d = cc in
+        rw (sym e, sym f) (full l (rw q k))
+
+    walked : length s ≤ longest → (w : Walked) → declarationOf s σ i ≡ w → textIn room w ≡ refused n d → Declined s σ i room n d
+    walked l (printed a b) q x = go (ltb room (length (a ++ b))) refl x where
+      go : (c : Bool) → ltb room (length (a ++ b)) ≡ c → stop c 19 (answered (a ++ b)) ≡ refused n d → Declined s σ i room n d
+      go true t y = over l (printed a b) q (ltb-true _ _ t) y
+      go false t y = absurd (let z : _≡_ {A = ℕ} 0 1 = cc in omega arith)
+    walked l (stopped k r) q x = go (ltb room k) refl x where
+      go : (c : Bool) → ltb room k ≡ c → stop {A = List ℕ} c 19 (no r) ≡ refused n d → Declined s σ i room n d
+      go true t y = over l (stopped k r) q (ltb-true _ _ t) y
+      go false t y =
+          let e : numberOf r ≡ n = cc in
+          let f : detailsOf r ≡ d = cc in
+          let m : Meets s σ 32 i r = stopped-meets s σ r 32 i startOf (rw q refl) in
+          rw (sym e, sym f) (met (l, rw q (ltb-false _ _ t)) m)
+
+    first : (b : Bool) → ltb longest (length s) ≡ b → stop b 16 (textIn room (declarationOf s σ i)) ≡ refused n d → Declined s σ i room n d
+    first true t x =
+        let e : 16 ≡ n = cc in
+        let f : [] ≡ d = cc in
+        rw (sym e, sym f) (long (ltb-true _ _ t))
+    first false t x = walked (ltb-false _ _ t) (declarationOf s σ i) refl x
+
 pub declare-when : DeclareWhen
 declare-when = record {
+  declined = declined;
+  declined-only = declined-only;
   too-long = long-is;
   no-room = λ s σ i room h k. short-is s σ i room h ∙ over-is room (declarationOf s σ i) k;
   only-then = only-19-is;

@@ -29,8 +29,13 @@ pub mod PiecesWhen
 pub mod Written
 pub mod Idle
 pub mod IdleAnswers
+pub mod OneBuffer
+pub mod Widths
+pub mod Indexed
+pub mod Paged
 pub mod Examples
 pub mod DeclareExamples
+pub mod ClassKinds
 pub mod OneOutcome
 pub mod Answers
 pub mod RefusedBy

@@ -24,9 +24,9 @@ use Rattle.stream_places.proofs.BackLaws.{words-get}
 use Rattle.stream_places.proofs.PlacesLaws.{Ours, load-header, load-trailer, load-lacks, load-minimum, load-maximum, load-bytes, load-start, load-full, load-off, load-done, Bounds, save-header, save-minimum, save-maximum, save-shift, save-claims, save-many, save-room, save-done}
 use Rattle.stream_places.proofs.ChainLaws.{Chained, chained, unchained}
 use Rattle.claim_promises.specs.ByTable.{Refuses, By, gives, refuses, fits}
-use Rattle.claim_promises.specs.Given.{by, Given}
+use Rattle.claim_promises.specs.Given.{by, Given, RefusedAs}
 use Rattle.claim_promises.specs.PlacesWhen.{countIn, Right, RightFor, MadeFor, Onward, Bounded, PlacesWhen}
-use Rattle.claim_promises.proofs.Given.{off, at-stop, at-then, denied}
+use Rattle.claim_promises.proofs.Given.{off, at-stop, at-then, denied, apart, as-first}
 use Rattle.claim_promises.proofs.PlacesRefuse.{trailer-refuses, loading-refuses, save-for-refuses}
 
 -- ---- letters, one by one
@@ -366,10 +366,22 @@ module _ (F : Form) (s : List ℕ) (σ : State) (room : ℕ) where
         → saveBy F s σ room ≡ answered (fileOf F h (length s) σ)
     saves b l m n r = is-saved ∙ save-done F (length s) σ room h (bounds b) l m n r
 
+-- by the header's numbers as the header
+abbrev ofHeader : List ℕ
+ofHeader = 16 ∷ 1 ∷ 2 ∷ 3 ∷ 4 ∷ 5 ∷ []
+
+loads-as : (F : Form) (s f t : List ℕ) → RefusedAs ofHeader (loadBy F s f t) (headerOf s)
+unfolding apart among
+loads-as F s f t = as-first ofHeader (20 ∷ 21 ∷ 13 ∷ 22 ∷ []) (loadBy F s f t) (headerOf s) refl (loads-own F s f t) (loads-else F s f t)
+
+saves-as : (F : Form) (s : List ℕ) (σ : State) (room : ℕ) → RefusedAs ofHeader (saveBy F s σ room) (headerOf s)
+unfolding apart among
+saves-as F s σ room = as-first ofHeader (21 ∷ 26 ∷ 13 ∷ 19 ∷ []) (saveBy F s σ room) (headerOf s) refl (saves-own F s σ room) (saves-else F s σ room)
+
 pub places-when : (form : Form) → PlacesWhen form
 places-when F = record {
-  loads-own = loads-own F;
-  saves-own = saves-own F;
+  loads-own = loads-as F;
+  saves-own = saves-as F;
   trailers-20 = trailers-20 F;
   loads-20 = loads-20 F;
   loads-21 = loads-21 F;

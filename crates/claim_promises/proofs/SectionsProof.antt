@@ -28,10 +28,10 @@ use Rattle.write_layout.specs.Buffer.{Written, lay, bufferAfter, placeAfter, Wr
 use Rattle.write_pieces.specs.Pieces.{saidWrite}
 use Rattle.write_pieces.specs.declared.WriteAnswer.{WriteAnswer}
 use Rattle.claim_promises.specs.ByTable.{Refuses, fits, By, gives, refuses}
-use Rattle.claim_promises.specs.Given.{by, Given}
+use Rattle.claim_promises.specs.Given.{by, Given, RefusedAs}
 use Rattle.claim_promises.specs.Sections.{SectionsRefuse, SectionsWhen}
 use Rattle.claim_promises.proofs.ByTable.{by-pick, by-stop, by-then, within, wider}
-use Rattle.claim_promises.proofs.Given.{off, at-stop, at-pick, at-then}
+use Rattle.claim_promises.proofs.Given.{off, at-stop, at-pick, at-then, apart, as-first}
 use Rattle.claim_promises.proofs.CreatedWhen.{begins-26, begins-13}
 use Rattle.claim_promises.proofs.GivenStreams.{nexts-16}
 use Rattle.claim_promises.proofs.LeftAlone.{leaves-alone}
@@ -178,6 +178,18 @@ module _ (s o : List ℕ) (n : ℕ) (l : length s + 52 ≤ longest) (e : countOf
   unfolding fits among listed find inTable refusals
   streams-else = rw laid (by-stop (ltb (length o) (0 + length (streamBytes n s))) 19 refl gives)
 
+-- ---- as the count is
+
+creations-own : (shift : ℕ) (s t : List ℕ) → RefusedAs (16 ∷ 1 ∷ 25 ∷ 6 ∷ 7 ∷ []) (createBy shift s t) (countOf s)
+unfolding apart among
+creations-own shift s t =
+    as-first (16 ∷ 1 ∷ 25 ∷ 6 ∷ 7 ∷ []) (26 ∷ 13 ∷ []) (createBy shift s t) (countOf s) refl (λ n d e. create-is shift s t (refused n d) e) (creations-else shift s t)
+
+streams-own : (s o : List ℕ) → length s + 52 ≤ longest → RefusedAs (1 ∷ 25 ∷ 6 ∷ 7 ∷ []) (lay (streamOf s) o 0) (countOf s)
+unfolding apart among lay
+streams-own s o l =
+    as-first (1 ∷ 25 ∷ 6 ∷ 7 ∷ []) (19 ∷ []) (lay (streamOf s) o 0) (countOf s) refl (λ n d e. rw (stream-is s (refused n d) l e)) (λ n. streams-else s o n l)
+
 pub sections-when : SectionsWhen
 sections-when = record {
   starts-16 = starts-16;
@@ -185,13 +197,13 @@ sections-when = record {
   starts-25 = starts-25;
   starts-first = start-first;
   counts-start = count-refused;
-  creations-count = λ shift s t n d e. create-is shift s t (refused n d) e;
+  creations-own = creations-own;
   creations-26 = creations-26;
   creations-13 = creations-13;
   creations-else = creations-else;
   creations-begun = created;
   streams-16 = streams-16;
-  streams-count = λ s n d l e. stream-is s (refused n d) l e;
+  streams-own = streams-own;
   streams-19 = streams-19;
   streams-else = streams-else;
 }

@@ -3,34 +3,37 @@ use Prim.Native.Nat.{ℕ, zero, suc, _+_, _≤_, _<_}
 use native.Mathlib.Omega.{arith}
 use mathlib.Core.Bool.{Bool, true, false}
 use mathlib.Core.Path.{_≡_, refl, sym, ap, subst, _∙_}
-use mathlib.Core.List.{List, [], _∷_, _++_, append-nil}
-use lib.ListN.{length}
-use lib.Dec.{ltb, eqb}
+use mathlib.Core.List.{List, [], _∷_}
+use mathlib.Core.Option.{none, some}
+use lib.ListN.{length, take, drop}
+use lib.Seq.{getD-drop}
+use lib.Dec.{leb, ltb, eqb}
 use borrow.Author.Tests.{ltb-true, ltb-false, lt-ltb, le-ltb, eqb-true}
-use Rattle.answer.specs.Answer.{Answer, answered, refused, got, pick, stop, then, both}
-use Rattle.answer.specs.Tables.{Line, _is_, find, among}
+use Rattle.answer.specs.Answer.{Answer, answered, refused, pick, stop, then, both}
+use Rattle.answer.specs.Tables.{find, among}
 use Rattle.answer.specs.Refusals.{listed, inTable, refusals}
-use Rattle.field.specs.Bytes.{bytes}
-use Rattle.field.proofs.ByteLaws.{Stands, stands}
-use Rattle.field_number.specs.Forms.{formOf, AllBytes}
+use Rattle.field_text.specs.Texts.{Part}
+use Rattle.field_number.specs.Forms.{AllBytes}
 use Rattle.stream_header.specs.declared.Header.{Header}
-use Rattle.record_layout.specs.Fields.{number}
-use Rattle.record_layout.specs.Layouts.{Table, memberLeaves, method}
-use Rattle.write_layout.specs.Fields.{ToWrite, Encoded, bad, fixedBytes, and-also, writeFields}
+use Rattle.record_layout.specs.Fields.{Value, number, numeral, absent, many}
+use Rattle.record_layout.specs.Layouts.{Table}
+use Rattle.record_list.specs.Lists.{memberElement, methodElement}
+use Rattle.write_layout.specs.Runs.{partAt}
+use Rattle.write_layout.specs.Fields.{ToWrite, bytesIn, givenAll, Encoded, bad}
 use Rattle.write_layout.specs.Records.{writeLeaf, filled, recordBytes, writeRecord}
-use Rattle.write_layout.specs.Lists.{filledMember, filledEach, memberBytes, ends, membersBytes, fieldListBytes, methodsBytes, methodListBytes}
+use Rattle.write_layout.specs.Lists.{fieldListBytes, methodListBytes}
 use Rattle.write_layout.specs.Buffer.{lay}
-use Rattle.write_layout.specs.RoundTrip.{WouldRead, AllInBytes, Exactly17}
-use Rattle.write_layout.proofs.Back.{refusal, written-both, back}
-use Rattle.write_layout.proofs.Octets.{Sound, leaf-sound}
-use Rattle.write_layout.proofs.RoundTripProof.{leaf-back}
-use Rattle.write_layout.proofs.Rewrite.{Answers, re-fields, re-record, exactly-17}
+use Rattle.write_layout.specs.RoundTrip.{WouldRead, InBytes, AllInBytes, Exactly17}
+use Rattle.write_layout.proofs.Rewrite.{exactly-17}
+use Rattle.write_row.specs.Rows.{rowValues, listMethod, memberRows, methodRows}
+use Rattle.write_list.specs.ListsBack.{HasElements, EachInBytes}
+use Rattle.write_list.proofs.Lists17.{lists-exactly-17}
 use Rattle.write_header.specs.Headers.{headerFields, headerBytes}
 use Rattle.write_header.proofs.HeaderLaws.{header-length}
 use Rattle.write_header.proofs.HeaderBack.{checked}
 use Rattle.claim_promises.specs.ByTable.{elsewhere, fits, linksFit, gives, refuses, Refuses}
 use Rattle.claim_promises.specs.Given.{by, Given}
-use Rattle.claim_promises.specs.WritesWhen.{TooLong, NoRoom, MethodWouldRead, MembersWouldRead, MethodsWouldRead, EachInBytes, SizeRight, BoundsRight, WritesWhen}
+use Rattle.claim_promises.specs.WritesWhen.{TooLong, NoRoom, SizeRight, BoundsRight, WritesWhen}
 use Rattle.claim_promises.proofs.ByTable.{both-first}
 use Rattle.claim_promises.proofs.Given.{off, at-stop, at-then, denied}
 use Rattle.claim_promises.proofs.WritersRefuse.{of17, of18, fieldsIn, methodsIn, fields-refuse, leaf-refuses, fields-in-refuse, methods-in-refuse, record-refuses}
@@ -100,107 +103,30 @@ module _ (table : Table) (vs : List ToWrite) (o : List ℕ) (p : ℕ) where
   unfolding writeRecord
   records-19 = laid-19 (writeLeaf table vs) (leaf-refuses table vs) o p
 
--- ---- elements: written where they would read, and only there
-
-would-read : (table : Table) (vs : List ToWrite) (bs : List ℕ) → AllInBytes vs → writeLeaf table vs ≡ answered bs → WouldRead table vs
-would-read table vs bs i e =
-    let l = leaf-back table vs bs [] e in
-    let n : bs ++ [] ≡ bs = append-nil bs in
-    let s : Sound (answered bs) = subst Sound e (leaf-sound table vs i) in
-    record { payload = bs ++ []; small = rw n s; values = l .values; read = l .read; same = l .shows }
-
-both-answer : (a b : Encoded) → Answers a → Answers b → Answers (and-also a b)
-both-answer a b x y = record { out = x .out ++ y .out; answer = rw (x .answer, y .answer) }
-
--- a member's bytes before they were filled
-record Plain (vs : List ToWrite) : Type 0 where
-  plain : List ℕ
-  said : writeLeaf memberLeaves vs ≡ answered plain
-
-plain-of : (vs : List ToWrite) (bs : List ℕ) → memberBytes vs ≡ answered bs → Plain vs
-unfolding memberBytes filledEach
-plain-of vs bs w = go (writeLeaf memberLeaves vs) refl w
-  where
-    go : (b : Encoded) → writeLeaf memberLeaves vs ≡ b → then b (λ xs. answered (filledMember xs)) ≡ answered bs → Plain vs
-    go (answered xs) e f = record { plain = xs; said = e }
-    go (refused n d) e f = refusal f
-
-members-would : (ended : Bool) (vss : List (List ToWrite)) (bs : List ℕ) → EachInBytes vss → membersBytes ended vss ≡ answered bs → MembersWouldRead ended vss
-unfolding membersBytes MembersWouldRead EachInBytes
-members-would ended [] bs i w = tt
-members-would true (vs ∷ vss) bs i w = refusal w
-members-would false (vs ∷ vss) bs i w =
-    let b = written-both (memberBytes vs) (membersBytes (ends vs) vss) bs w in
-    let m = plain-of vs (b .first-bytes) (b .first-is) in
-    (would-read memberLeaves vs (m .plain) (i .0) (m .said), members-would (ends vs) vss (b .more-bytes) (i .1) (b .more-is))
-
-members-answer : (ended : Bool) (vss : List (List ToWrite)) → MembersWouldRead ended vss → Answers (membersBytes ended vss)
-unfolding membersBytes MembersWouldRead memberBytes filledEach
-members-answer ended [] w = record { out = []; answer = refl }
-members-answer true (vs ∷ vss) w = absurd w
-members-answer false (vs ∷ vss) w =
-    let r = w .0 in
-    let a = re-record memberLeaves (r .payload) (r .small) (r .values) (r .read) in
-    let e : writeLeaf memberLeaves vs ≡ answered (a .out) = rw (← r .same) (a .answer) in
-    both-answer (memberBytes vs) (membersBytes (ends vs) vss) (record { out = filledMember (a .out); answer = rw e }) (members-answer (ends vs) vss (w .1))
-
--- a method is the record of a table of one layout, but for its leaf
-abbrev alone : Table
-alone = (0 is method) ∷ []
-
-fields-small : (vs : List ToWrite) (bs : List ℕ) → AllInBytes vs → writeFields method 0 vs ≡ answered bs → AllBytes bs
-unfolding writeLeaf find fixedBytes bytes AllInBytes
-fields-small vs bs i e =
-    let s = leaf-sound alone (number 0 ∷ vs) (tt, i) in
-    let s′ : AllBytes (0 ∷ 0 ∷ bs) = rw e at s in
-    λ k. s′ (suc (suc k))
-
-method-would : (vs : List ToWrite) (bs : List ℕ) → AllInBytes vs → writeFields method 0 vs ≡ answered bs → MethodWouldRead vs
-method-would vs bs i e =
-    let l = back formOf method 0 vs (bs ++ []) 0 bs [] e (record { inside = omega arith; here = refl }) in
-    let n : bs ++ [] ≡ bs = append-nil bs in
-    record { payload = bs ++ []; small = rw n (fields-small vs bs i e); values = l .values; next = _; read = l .read; same = l .shows }
-
-methods-would : (vss : List (List ToWrite)) (bs : List ℕ) → EachInBytes vss → methodsBytes vss ≡ answered bs → MethodsWouldRead vss
-unfolding methodsBytes MethodsWouldRead EachInBytes
-methods-would [] bs i w = tt
-methods-would (vs ∷ vss) bs i w =
-    let b = written-both (writeFields method 0 vs) (methodsBytes vss) bs w in
-    (method-would vs (b .first-bytes) (i .0) (b .first-is), methods-would vss (b .more-bytes) (i .1) (b .more-is))
-
-methods-answer : (vss : List (List ToWrite)) → MethodsWouldRead vss → Answers (methodsBytes vss)
-unfolding methodsBytes MethodsWouldRead
-methods-answer [] w = record { out = []; answer = refl }
-methods-answer (vs ∷ vss) w =
-    let r = w .0 in
-    let a = re-fields formOf (r .payload) (r .small) method 0 0 (r .values) (r .next) (r .read) in
-    let e : writeFields method 0 vs ≡ answered (a .out) = rw (← r .same) (a .answer) in
-    both-answer (writeFields method 0 vs) (methodsBytes vss) (record { out = a .out; answer = e }) (methods-answer vss (w .1))
-
 -- ---- the two lists
-answered-not-bad : {bs : List ℕ} → _≡_ {A = Encoded} (answered bs) bad → ⊥
-answered-not-bad {bs} h = let z : _≡_ {A = ℕ} 0 1 = cc in absurd (omega arith)
 
-leaf-1203 : fixedBytes 2 0x1203 ≡ answered (bytes 2 0x1203)
-unfolding fixedBytes
-leaf-1203 = refl
+-- a record is 17 exactly if its leaf and fields are
+whole-bad : (b : Encoded) → recordBytes b ≡ bad → b ≡ bad
+unfolding recordBytes
+whole-bad (answered bs) e = go _ (ltb 65535 (length (filled bs))) e
+  where
+    go : (xs : List ℕ) (c : Bool) → _≡_ {A = Encoded} (stop c 18 (answered xs)) bad → answered bs ≡ bad
+    go xs true f = let z : _≡_ {A = ℕ} 18 17 = cc in absurd (omega arith)
+    go xs false f = let z : _≡_ {A = ℕ} 0 1 = cc in absurd (omega arith)
+whole-bad (refused n d) e = e
 
-leaf-1206 : fixedBytes 2 0x1206 ≡ answered (bytes 2 0x1206)
-unfolding fixedBytes
-leaf-1206 = refl
+bad-whole : (b : Encoded) → b ≡ bad → recordBytes b ≡ bad
+unfolding recordBytes
+bad-whole b e = rw e
 
 module _ (vss : List (List ToWrite)) (o : List ℕ) (p : ℕ) where
-  field-lists-17 : EachInBytes vss → Given 17 [] (lay (fieldListBytes vss) o p) (MembersWouldRead false vss → ⊥)
+  field-lists-17 : EachInBytes vss → Given 17 [] (lay (fieldListBytes vss) o p) (HasElements 0x1203 memberElement vss → ⊥)
   unfolding fieldListBytes
   field-lists-17 i =
       let g = laid-17 (fieldsIn vss) (fields-in-refuse vss) o p in
       record {
-        when = λ w. g .when (else-bad (fields-in-refuse vss) (λ bs e.
-            let b = written-both (fixedBytes 2 0x1203) (membersBytes false vss) bs e in
-            w (members-would false vss (b .more-bytes) i (b .more-is))));
-        only = λ y w.
-            let a = both-answer (fixedBytes 2 0x1203) (membersBytes false vss) (record { out = _; answer = leaf-1203 }) (members-answer false vss w) in
-            answered-not-bad (sym (a .answer) ∙ g .only y);
+        when = λ w. g .when (whole-bad (fieldsIn vss) (lists-exactly-17 .fields-only vss i w));
+        only = λ y. lists-exactly-17 .fields-refuse vss (bad-whole (fieldsIn vss) (g .only y));
       }
 
   field-lists-18 : Given 18 [] (lay (fieldListBytes vss) o p) (TooLong (fieldsIn vss))
@@ -211,17 +137,13 @@ module _ (vss : List (List ToWrite)) (o : List ℕ) (p : ℕ) where
   unfolding fieldListBytes
   field-lists-19 = laid-19 (fieldsIn vss) (fields-in-refuse vss) o p
 
-  method-lists-17 : EachInBytes vss → Given 17 [] (lay (methodListBytes vss) o p) (MethodsWouldRead vss → ⊥)
+  method-lists-17 : EachInBytes vss → Given 17 [] (lay (methodListBytes vss) o p) (HasElements 0x1206 methodElement vss → ⊥)
   unfolding methodListBytes
   method-lists-17 i =
       let g = laid-17 (methodsIn vss) (methods-in-refuse vss) o p in
       record {
-        when = λ w. g .when (else-bad (methods-in-refuse vss) (λ bs e.
-            let b = written-both (fixedBytes 2 0x1206) (methodsBytes vss) bs e in
-            w (methods-would vss (b .more-bytes) i (b .more-is))));
-        only = λ y w.
-            let a = both-answer (fixedBytes 2 0x1206) (methodsBytes vss) (record { out = _; answer = leaf-1206 }) (methods-answer vss w) in
-            answered-not-bad (sym (a .answer) ∙ g .only y);
+        when = λ w. g .when (whole-bad (methodsIn vss) (lists-exactly-17 .methods-only vss i w));
+        only = λ y. lists-exactly-17 .methods-refuse vss (bad-whole (methodsIn vss) (g .only y));
       }
 
   method-lists-18 : Given 18 [] (lay (methodListBytes vss) o p) (TooLong (methodsIn vss))
@@ -231,6 +153,39 @@ module _ (vss : List (List ToWrite)) (o : List ℕ) (p : ℕ) where
   method-lists-19 : Given 19 [] (lay (methodListBytes vss) o p) (NoRoom (methodListBytes vss) o p)
   unfolding methodListBytes
   method-lists-19 = laid-19 (methodsIn vss) (methods-in-refuse vss) o p
+
+-- ---- over a lent text: what is part of it is bytes
+take-small : (n : ℕ) (t : List ℕ) → AllBytes t → AllBytes (take n t)
+take-small zero t f i = omega arith
+take-small (suc n) [] f i = f i
+take-small (suc n) (x ∷ t) f zero = f 0
+take-small (suc n) (x ∷ t) f (suc i) = take-small n t (λ j. f (suc j)) i
+
+part-small : (t : List ℕ) (p n : ℕ) → AllBytes t → AllBytes (partAt t p n)
+unfolding partAt
+part-small t p n f = take-small n (drop p t) (λ i. subst (λ (x : ℕ). x < 256) (sym (getD-drop p t i 0)) (f (p + i)))
+
+given-small : {W : Type 0} (t : List ℕ) → AllBytes t → (vs : List (Value Part W)) → AllInBytes (givenAll t vs)
+unfolding AllInBytes bytesIn
+given-small t f [] = tt
+given-small t f (number n ∷ vs) = (tt, given-small t f vs)
+given-small t f (numeral z w ∷ vs) = (tt, given-small t f vs)
+given-small t f (absent ∷ vs) = (tt, given-small t f vs)
+given-small t f (many x ∷ vs) = (go (leb (x .place + x .length) (length t)), given-small t f vs)
+  where
+    go : (b : Bool) → InBytes (many (pick b (some (partAt t (x .place) (x .length))) none))
+    go true = part-small t (x .place) (x .length) f
+    go false = tt
+
+member-rows-small : (t : List ℕ) → AllBytes t → (rows : List (List ℕ)) → EachInBytes (memberRows t rows)
+unfolding EachInBytes memberRows
+member-rows-small t f [] = tt
+member-rows-small t f (row ∷ rows) = (given-small t f (rowValues row), member-rows-small t f rows)
+
+method-rows-small : (t : List ℕ) → AllBytes t → (rows : List (List ℕ)) → EachInBytes (methodRows t rows)
+unfolding EachInBytes methodRows
+method-rows-small t f [] = tt
+method-rows-small t f (row ∷ rows) = (given-small t f (listMethod row), method-rows-small t f rows)
 
 -- ---- the header
 module _ (h : Header) (o : List ℕ) (p : ℕ) where
@@ -290,6 +245,9 @@ writes-when = record {
   records-17 = records-17;
   field-lists-17 = field-lists-17;
   method-lists-17 = method-lists-17;
+  texts-17 = λ W table t vs o p f. records-17 table (givenAll t vs) o p (given-small t f vs);
+  member-rows-17 = λ t rows o p f. field-lists-17 (memberRows t rows) o p (member-rows-small t f rows);
+  method-rows-17 = λ t rows o p f. method-lists-17 (methodRows t rows) o p (method-rows-small t f rows);
   records-18 = records-18;
   field-lists-18 = field-lists-18;
   method-lists-18 = method-lists-18;

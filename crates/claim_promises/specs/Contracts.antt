@@ -3,13 +3,15 @@ use Prim.Native.Nat.{_*_, _+_, _-_, min, ℕ}
 use denote.Ref.{RefT, now}
 use lib.Dec.{eqb, leb}
 use lib.IntN.{pos}
-use lib.ListN.{length}
+use lib.ListN.{getD, length}
 use mathlib.Core.Bool.{Bool}
-use mathlib.Core.List.{List}
+use mathlib.Core.List.{List, [], _∷_}
+use mathlib.Core.Option.{some}
 use mathlib.Core.Path.{_≡_}
 use Rattle.answer.specs.Answer.{answered, then}
 use Rattle.answer.specs.Details.{detailsValue}
 use Rattle.answer.specs.Refusals.{detailsOf, numberOf}
+use Rattle.answer.specs.Tables.{find}
 use Rattle.answer.specs.declared.Details.{Details}
 use Rattle.answer.specs.declared.Refusal.{Refusal}
 use Rattle.answer_name.specs.Names.{Holds, nameText}
@@ -50,6 +52,7 @@ use Rattle.field.specs.declared.index.ReadOptId.{ReadOptId}
 use Rattle.field.specs.declared.index.ReadOptType.{ReadOptType}
 use Rattle.field.specs.declared.index.ReadStringRef.{ReadStringRef}
 use Rattle.field.specs.declared.index.ReadType.{ReadType}
+use Rattle.field.specs.declared.index.Stream.the-variants.{Types}
 use Rattle.field.specs.declared.index.Stream.{Stream}
 use Rattle.field.specs.declared.index.TypeIndex.{TypeIndex}
 use Rattle.field.specs.declared.run.After.{After}
@@ -61,14 +64,39 @@ use Rattle.field_text.specs.Texts.{paddingAfter, part, saidString, stringAt, st
 use Rattle.field_text.specs.declared.OptString.{OptString}
 use Rattle.field_text.specs.declared.RawString.{RawString}
 use Rattle.field_text.specs.declared.ReadString.{ReadString}
-use Rattle.pane.specs.Out.{cursorAt, finderAt, outDrop, outFind, outFit, outHeader, outLoad, outNext, outPrimitive, outReport, outSave, outUpdate, totalsAt, typeAt}
+use Rattle.pane.specs.Out.{outFind, outHeader, outNext, outPrimitive, outUpdate, typeAt}
+use Rattle.pane_declare.specs.Out.{outDeclare}
+use Rattle.pane_drop.specs.Out.{outDrop}
+use Rattle.pane_fit.specs.Out.{outFit}
+use Rattle.pane_index.specs.Out.{outKind, outSave, outView}
+use Rattle.pane_out.specs.Handed.{isSet, mark}
+use Rattle.pane_parse.specs.Out.{outRead, recordAt}
+use Rattle.pane_record.specs.Out.{cursorAt as cursorAt-of-pane-record, outId, outList as outList-of-pane-record, outStep, outType, streamAt}
+use Rattle.pane_report.specs.Out.{outReport, totalsAt}
+use Rattle.pane_row.specs.ElementPlaces.{indexRow, memberRow as memberRow-of-pane-row, methodRow as methodRow-of-pane-row}
+use Rattle.pane_row.specs.IdPlaces.{idRow}
+use Rattle.pane_row.specs.ListPlaces.{cursorRow}
+use Rattle.pane_row.specs.TypePlaces.{typeRow}
+use Rattle.pane_section.specs.Out.{indexOf as indexOf-of-pane-section, outCount, outList as outList-of-pane-section, outStart, outStream}
+use Rattle.pane_state.specs.Entries.{entryAt}
+use Rattle.pane_state.specs.Finders.{outFinder}
+use Rattle.pane_state.specs.Given.{cursorAt as cursorAt-of-pane-state, finderAt, finderWith}
+use Rattle.pane_state.specs.Walk.{indexAllBy, outWalk, tourOut}
+use Rattle.pane_word.specs.Fields.{outNumber, outPadding, outSize, outString, present}
+use Rattle.pane_word.specs.Words.{outField, outFunction, outPointer, outProperties}
+use Rattle.pane_write.specs.Read.{codesOf, leavesOf, outCells, tableOf}
+use Rattle.pane_write.specs.Written.{headerIn, outWrite}
+use Rattle.record_cells.specs.Cells.{cellsOf}
+use Rattle.record_cells.specs.Codes.{codeIn, fieldsOf, idCodes, layoutIn, memberCodes, methodCode, typeCodes}
+use Rattle.record_cells.specs.Filled.{FillsCells, fieldsBy}
+use Rattle.record_cells.specs.declared.CellsAnswer.{CellsAnswer}
 use Rattle.record_data.specs.Said.{saidTypeData, stringValue, typeName, typeValues}
 use Rattle.record_data.specs.declared.TypeAnswer.{TypeAnswer}
 use Rattle.record_data.specs.declared.TypeData.{TypeData}
 use Rattle.record_id.specs.Said.{idValues, saidIdData}
 use Rattle.record_id.specs.declared.IdAnswer.{IdAnswer}
 use Rattle.record_id.specs.declared.IdData.{IdData}
-use Rattle.record_layout.specs.Fields.{readFields, run, types}
+use Rattle.record_layout.specs.Fields.{number, readFields, run, types}
 use Rattle.record_layout.specs.Layouts.{S, idLeaves, memberLeaves, method, readRecord, recordOf, typeLeaves}
 use Rattle.record_list.specs.Lists.{elementBy, elementOf, startOf as startOf-of-record-list, stepOf as stepOf-of-record-list}
 use Rattle.record_list.specs.Said.{elementValues, saidElement, saidStart, saidStep}
@@ -77,7 +105,7 @@ use Rattle.record_list.specs.declared.ElementAnswer.{ElementAnswer}
 use Rattle.record_list.specs.declared.ListCursor.{ListCursor}
 use Rattle.record_list.specs.declared.StartAnswer.{StartAnswer}
 use Rattle.record_list.specs.declared.StepAnswer.{StepAnswer}
-use Rattle.record_member.specs.Said.{memberName, memberValues, saidEntry, saidMember}
+use Rattle.record_member.specs.Said.{entryValues, memberName, memberValues, saidEntry, saidMember}
 use Rattle.record_member.specs.declared.Member.{Member}
 use Rattle.record_member.specs.declared.MethodListEntry.{MethodListEntry}
 use Rattle.record_member.specs.declared.ReadMember.{ReadMember}
@@ -92,6 +120,7 @@ use Rattle.record_reference.specs.Values.{elementRefs, slots, slotsBy}
 use Rattle.record_reference.specs.declared.ElementReferences.{ElementReferences}
 use Rattle.record_reference.specs.declared.References.{References}
 use Rattle.section_finder.specs.Finders.{Indexes as Indexes-of-section-finder, IndexesBy as IndexesBy-of-section-finder, createBy as createBy-of-section-finder, createOf as createOf-of-section-finder}
+use Rattle.section_item.specs.Sections as specs
 use Rattle.section_item.specs.Sections.{countOf, startOf as startOf-of-section-item}
 use Rattle.section_read.specs.Readers.{readOf, readerAt}
 use Rattle.section_stream.specs.Streams.{streamOf}
@@ -115,7 +144,7 @@ use Rattle.stream_index.specs.declared.IndexAnswer.{IndexAnswer}
 use Rattle.stream_index.specs.declared.Tour.{Tour}
 use Rattle.stream_index.specs.declared.TurnAnswer.{TurnAnswer}
 use Rattle.stream_item.specs.Information.{isEmptyOf, lenOf, saidEmpty, saidLen}
-use Rattle.stream_item.specs.Items.{indexOf, lengthOf}
+use Rattle.stream_item.specs.Items.{indexOf as indexOf-of-stream-item, lengthOf}
 use Rattle.stream_item.specs.Iterator.{iterOf, nextOf, saidIter, saidNext}
 use Rattle.stream_item.specs.Links.{linkOf}
 use Rattle.stream_item.specs.declared.Entry.{Entry}
@@ -153,17 +182,18 @@ use Rattle.word_primitive.specs.Primitive.{primitiveOf, saidPrimitive}
 use Rattle.word_primitive.specs.declared.Indirection.{Indirection}
 use Rattle.word_primitive.specs.declared.PrimitiveAnswer.{PrimitiveAnswer}
 use Rattle.word_primitive.specs.declared.PrimitiveKind.{PrimitiveKind}
+use Rattle.write_cells.specs.Cells.{cellValues, leftBytes}
 use Rattle.write_fit.specs.Fit.{halfPiece, naturalPiece, ofPart, ofRun, runPiece, textPiece, wordPiece}
 use Rattle.write_header.specs.Headers.{headerBytes}
 use Rattle.write_layout.specs.Buffer.{Writes, lay}
-use Rattle.write_layout.specs.Fields.{fixedBytes, givenAll, numericBytes, writeField}
+use Rattle.write_layout.specs.Fields.{and-also, fixedBytes, givenAll, numericBytes, writeField}
 use Rattle.write_layout.specs.Lists.{fieldListBytes, filledEach, methodListBytes}
 use Rattle.write_layout.specs.Records.{limited, recordBytes, writeRecord}
 use Rattle.write_pieces.specs.Pieces.{pieceOf, piecesOf, saidMeasure, saidWrite}
 use Rattle.write_pieces.specs.declared.Measure.{Measure}
 use Rattle.write_pieces.specs.declared.Piece.{Piece as Piece-of-write-pieces}
 use Rattle.write_pieces.specs.declared.WriteAnswer.{WriteAnswer}
-use Rattle.write_row.specs.Rows.{memberRow, memberRows, methodRow, methodRows}
+use Rattle.write_row.specs.Rows.{memberRow as memberRow-of-write-row, memberRows, methodRow as methodRow-of-write-row, methodRows}
 
 -- answer::Refusal::number
 abbrev pub answer-refusal-number : (self : Refusal) → ℕ → Type 0
@@ -351,11 +381,11 @@ pane-pdb-header s r out′ = (r, out′) ≡ outHeader (headerOf s)
 
 -- pane::pdb_next
 abbrev pub pane-pdb-next : (s : List ℕ) (at : ℕ) (index : ℕ) → ℕ → List ℕ → Type 0
-pane-pdb-next s at index r out′ = (r, out′) ≡ outNext (nextOf s (cursorAt at index))
+pane-pdb-next s at index r out′ = (r, out′) ≡ outNext (nextOf s (cursorAt-of-pane-state at index))
 
 -- pane::pdb_update
 abbrev pub pane-pdb-update : (table : List ℕ) (minimum : ℕ) (maximum : ℕ) (held : ℕ) (shift : ℕ) (at : ℕ) (index : ℕ) → ℕ → List ℕ → List ℕ → Type 0
-pane-pdb-update table minimum maximum held shift at index r table′ out′ = (r, out′, table′) ≡ outUpdate table (updateOf (finderAt minimum maximum held shift table) (cursorAt at index))
+pane-pdb-update table minimum maximum held shift at index r table′ out′ = (r, out′, table′) ≡ outUpdate table (updateOf (finderAt minimum maximum held shift table) (cursorAt-of-pane-state at index))
 
 -- pane::pdb_find
 abbrev pub pane-pdb-find : (s : List ℕ) (table : List ℕ) (minimum : ℕ) (maximum : ℕ) (held : ℕ) (shift : ℕ) (index : ℕ) → ℕ → List ℕ → Type 0
@@ -365,25 +395,253 @@ pane-pdb-find s table minimum maximum held shift index r out′ = (r, out′) �
 abbrev pub pane-pdb-primitive : (index : ℕ) → ℕ → List ℕ → Type 0
 pane-pdb-primitive index r out′ = (r, out′) ≡ outPrimitive index (primitiveOf index)
 
--- pane::pdb_load
-abbrev pub pane-pdb-load : (s : List ℕ) (file : List ℕ) (table : List ℕ) → ℕ → List ℕ → List ℕ → Type 0
-pane-pdb-load s file table r table′ out′ = (r, out′, table′) ≡ outLoad table (loadWideOf s file table)
+-- pane_declare::pdb_declare
+abbrev pub pane-declare-pdb-declare : (s : List ℕ) (table : List ℕ) (minimum : ℕ) (maximum : ℕ) (held : ℕ) (shift : ℕ) (index : ℕ) (buffer : List ℕ) → ℕ → List ℕ → List ℕ → Type 0
+pane-declare-pdb-declare s table minimum maximum held shift index buffer r buffer′ out′ = (r, out′, buffer′) ≡ outDeclare buffer (declareOf s (finderAt minimum maximum held shift table) index (length buffer))
 
--- pane::pdb_save
-abbrev pub pane-pdb-save : (s : List ℕ) (table : List ℕ) (minimum : ℕ) (maximum : ℕ) (held : ℕ) (shift : ℕ) (buffer : List ℕ) → ℕ → List ℕ → List ℕ → Type 0
-pane-pdb-save s table minimum maximum held shift buffer r buffer′ out′ = (r, out′, buffer′) ≡ outSave buffer (saveWideOf s (finderAt minimum maximum held shift table) (length buffer))
+-- pane_drop::pdb_drop
+abbrev pub pane-drop-pdb-drop : (s : List ℕ) (roots : List ℕ) (table : List ℕ) (buffer : List ℕ) → ℕ → List ℕ → List ℕ → List ℕ → Type 0
+pane-drop-pdb-drop s roots table buffer r table′ buffer′ out′ = (r, out′, table′, buffer′) ≡ outDrop table buffer (dropOf s roots (length table) (length buffer))
 
--- pane::pdb_fit
-abbrev pub pane-pdb-fit : (s : List ℕ) → ℕ → List ℕ → Type 0
-pane-pdb-fit s r out′ = (r, out′) ≡ outFit (fitOf s)
+-- pane_fit::pdb_fit
+abbrev pub pane-fit-pdb-fit : (s : List ℕ) → ℕ → List ℕ → Type 0
+pane-fit-pdb-fit s r out′ = (r, out′) ≡ outFit (fitOf s)
 
--- pane::pdb_drop
-abbrev pub pane-pdb-drop : (s : List ℕ) (roots : List ℕ) (table : List ℕ) (buffer : List ℕ) → ℕ → List ℕ → List ℕ → List ℕ → Type 0
-pane-pdb-drop s roots table buffer r table′ buffer′ out′ = (r, out′, table′, buffer′) ≡ outDrop table buffer (dropOf s roots (length table) (length buffer))
+-- pane_index::pdb_create
+abbrev pub pane-index-pdb-create : (s : List ℕ) (table : List ℕ) (shift : ℕ) → ℕ → List ℕ → List ℕ → Type 0
+pane-index-pdb-create s table shift r table′ out′ = (r, out′, table′) ≡ outFinder table (createBy-of-stream-finder shift s table)
 
--- pane::pdb_report
-abbrev pub pane-pdb-report : (s : List ℕ) (taken : ℕ) (refused : ℕ) (headers : ℕ) (records : ℕ) (bytes : ℕ) (length : ℕ) (stream : ℕ) (index : ℕ) (rows : ℕ) (table : List ℕ) → ℕ → List ℕ → List ℕ → Type 0
-pane-pdb-report s taken refused headers records bytes length stream index rows table r table′ out′ = (r, out′, table′) ≡ outReport table (addOf (reportIn (totalsAt taken refused headers records bytes length stream index rows) table) s)
+-- pane_index::pdb_index
+abbrev pub pane-index-pdb-index : (s : List ℕ) (table : List ℕ) (shift : ℕ) → ℕ → List ℕ → List ℕ → Type 0
+pane-index-pdb-index s table shift r table′ out′ = (r, out′, table′) ≡ outWalk table (indexAllBy shift Types s table)
+
+-- pane_index::pdb_max_index
+abbrev pub pane-index-pdb-max-index : (minimum : ℕ) (maximum : ℕ) (held : ℕ) (shift : ℕ) → ℕ → Type 0
+pane-index-pdb-max-index minimum maximum held shift r = r ≡ maxIndexOf (finderWith minimum maximum held shift)
+
+-- pane_index::pdb_view
+abbrev pub pane-index-pdb-view : (tpi : List ℕ) (ipi : List ℕ) (ids : ℕ) (item : ℕ) (index : ℕ) (place : ℕ) (length : ℕ) → ℕ → List ℕ → Type 0
+pane-index-pdb-view tpi ipi ids item index place length r out′ = (r, out′) ≡ outView (viewOf tpi ipi (entryAt ids item index place length))
+
+-- pane_index::pdb_kind
+abbrev pub pane-index-pdb-kind : (tpi : List ℕ) (ipi : List ℕ) (ids : ℕ) (item : ℕ) (index : ℕ) (place : ℕ) (length : ℕ) → ℕ → List ℕ → Type 0
+pane-index-pdb-kind tpi ipi ids item index place length r out′ = (r, out′) ≡ outKind (rawKindOf tpi ipi (entryAt ids item index place length))
+
+-- pane_index::pdb_load
+abbrev pub pane-index-pdb-load : (s : List ℕ) (file : List ℕ) (table : List ℕ) → ℕ → List ℕ → List ℕ → Type 0
+pane-index-pdb-load s file table r table′ out′ = (r, out′, table′) ≡ outFinder table (loadWideOf s file table)
+
+-- pane_index::pdb_load_short
+abbrev pub pane-index-pdb-load-short : (s : List ℕ) (file : List ℕ) (table : List ℕ) → ℕ → List ℕ → List ℕ → Type 0
+pane-index-pdb-load-short s file table r table′ out′ = (r, out′, table′) ≡ outFinder table (loadOf s file table)
+
+-- pane_index::pdb_save
+abbrev pub pane-index-pdb-save : (s : List ℕ) (table : List ℕ) (minimum : ℕ) (maximum : ℕ) (held : ℕ) (shift : ℕ) (buffer : List ℕ) → ℕ → List ℕ → List ℕ → Type 0
+pane-index-pdb-save s table minimum maximum held shift buffer r buffer′ out′ = (r, out′, buffer′) ≡ outSave buffer (saveWideOf s (finderAt minimum maximum held shift table) (length buffer))
+
+-- pane_index::pdb_save_short
+abbrev pub pane-index-pdb-save-short : (s : List ℕ) (table : List ℕ) (minimum : ℕ) (maximum : ℕ) (held : ℕ) (shift : ℕ) (buffer : List ℕ) → ℕ → List ℕ → List ℕ → Type 0
+pane-index-pdb-save-short s table minimum maximum held shift buffer r buffer′ out′ = (r, out′, buffer′) ≡ outSave buffer (saveOf s (finderAt minimum maximum held shift table) (length buffer))
+
+-- pane_out::first
+abbrev pub pane-out-first : (e : Refusal) → ℕ → Type 0
+pane-out-first e r = r ≡ getD (detailsOf e) 0 0
+
+-- pane_out::second
+abbrev pub pane-out-second : (e : Refusal) → ℕ → Type 0
+pane-out-second e r = r ≡ getD (detailsOf e) 1 0
+
+-- pane_out::is_set
+abbrev pub pane-out-is-set : (n : ℕ) → Bool → Type 0
+pane-out-is-set n r = r ≡ isSet n
+
+-- pane_out::flag
+abbrev pub pane-out-flag : (b : Bool) → ℕ → Type 0
+pane-out-flag b r = r ≡ mark b
+
+-- pane_parse::pdb_parse
+abbrev pub pane-parse-pdb-parse : (tpi : List ℕ) (ipi : List ℕ) (ids : ℕ) (item : ℕ) (index : ℕ) (place : ℕ) (length : ℕ) → ℕ → List ℕ → Type 0
+pane-parse-pdb-parse tpi ipi ids item index place length r out′ = (r, out′) ≡ outRead index (parseOf tpi ipi (entryAt ids item index place length))
+
+-- pane_parse::pdb_section_read
+abbrev pub pane-parse-pdb-section-read : (s : List ℕ) (index : ℕ) (place : ℕ) (length : ℕ) → ℕ → List ℕ → Type 0
+pane-parse-pdb-section-read s index place length r out′ = (r, out′) ≡ outRead index (readOf s (recordAt index place length))
+
+-- pane_record::pdb_type
+abbrev pub pane-record-pdb-type : (s : List ℕ) → ℕ → List ℕ → Type 0
+pane-record-pdb-type s r out′ = (r, out′) ≡ outType (recordOf typeLeaves s)
+
+-- pane_record::pdb_id
+abbrev pub pane-record-pdb-id : (s : List ℕ) → ℕ → List ℕ → Type 0
+pane-record-pdb-id s r out′ = (r, out′) ≡ outId (recordOf idLeaves s)
+
+-- pane_record::pdb_list
+abbrev pub pane-record-pdb-list : (s : List ℕ) (ids : ℕ) → ℕ → List ℕ → Type 0
+pane-record-pdb-list s ids r out′ = (r, out′) ≡ outList-of-pane-record (startOf-of-record-list (streamAt ids) s)
+
+-- pane_record::pdb_step
+abbrev pub pane-record-pdb-step : (s : List ℕ) (leaf : ℕ) (at : ℕ) (left : ℕ) (padded : ℕ) → ℕ → List ℕ → Type 0
+pane-record-pdb-step s leaf at left padded r out′ = (r, out′) ≡ outStep (stepOf-of-record-list s (cursorAt-of-pane-record leaf at left padded))
+
+-- pane_report::pdb_report
+abbrev pub pane-report-pdb-report : (s : List ℕ) (taken : ℕ) (refused : ℕ) (headers : ℕ) (records : ℕ) (bytes : ℕ) (length : ℕ) (stream : ℕ) (index : ℕ) (rows : ℕ) (table : List ℕ) → ℕ → List ℕ → List ℕ → Type 0
+pane-report-pdb-report s taken refused headers records bytes length stream index rows table r table′ out′ = (r, out′, table′) ≡ outReport table (addOf (reportIn (totalsAt taken refused headers records bytes length stream index rows) table) s)
+
+-- pane_row::type_row
+abbrev pub pane-row-type-row : (d : TypeData) → List ℕ → Type 0
+pane-row-type-row d r = r ≡ 0 ∷ 0 ∷ typeRow (typeValues d)
+
+-- pane_row::id_row
+abbrev pub pane-row-id-row : (d : IdData) → List ℕ → Type 0
+pane-row-id-row d r = r ≡ 0 ∷ 0 ∷ idRow (idValues d)
+
+-- pane_row::cursor_row
+abbrev pub pane-row-cursor-row : (c : ListCursor) → List ℕ → Type 0
+pane-row-cursor-row c r = r ≡ 0 ∷ 0 ∷ cursorRow c
+
+-- pane_row::member_row
+abbrev pub pane-row-member-row : (at : ℕ) (left : ℕ) (padded : ℕ) (m : Member) → List ℕ → Type 0
+pane-row-member-row at left padded m r = r ≡ 0 ∷ 0 ∷ at ∷ left ∷ padded ∷ memberRow-of-pane-row (memberValues m)
+
+-- pane_row::entry_row
+abbrev pub pane-row-entry-row : (at : ℕ) (left : ℕ) (padded : ℕ) (m : MethodListEntry) → List ℕ → Type 0
+pane-row-entry-row at left padded m r = r ≡ 0 ∷ 0 ∷ at ∷ left ∷ padded ∷ methodRow-of-pane-row (entryValues m)
+
+-- pane_row::index_row
+abbrev pub pane-row-index-row : (at : ℕ) (left : ℕ) (padded : ℕ) (i : ℕ) → List ℕ → Type 0
+pane-row-index-row at left padded i r = r ≡ 0 ∷ 0 ∷ at ∷ left ∷ padded ∷ indexRow (number i ∷ [])
+
+-- pane_section::pdb_section_start
+abbrev pub pane-section-pdb-section-start : (s : List ℕ) → ℕ → List ℕ → Type 0
+pane-section-pdb-section-start s r out′ = (r, out′) ≡ outStart (specs.startOf s)
+
+-- pane_section::pdb_section_count
+abbrev pub pane-section-pdb-section-count : (s : List ℕ) → ℕ → List ℕ → Type 0
+pane-section-pdb-section-count s r out′ = (r, out′) ≡ outCount (specs.countOf s)
+
+-- pane_section::pdb_section_create
+abbrev pub pane-section-pdb-section-create : (s : List ℕ) (table : List ℕ) (shift : ℕ) → ℕ → List ℕ → List ℕ → Type 0
+pane-section-pdb-section-create s table shift r table′ out′ = (r, out′, table′) ≡ outFinder table (createBy-of-section-finder shift s table)
+
+-- pane_section::pdb_section_index
+abbrev pub pane-section-pdb-section-index : (s : List ℕ) (table : List ℕ) (shift : ℕ) → ℕ → List ℕ → List ℕ → Type 0
+pane-section-pdb-section-index s table shift r table′ out′ = (r, out′, table′) ≡ outWalk table (indexOf-of-pane-section shift s table)
+
+-- pane_section::pdb_section_stream
+abbrev pub pane-section-pdb-section-stream : (s : List ℕ) (buffer : List ℕ) → ℕ → List ℕ → List ℕ → Type 0
+pane-section-pdb-section-stream s buffer r buffer′ out′ = (r, out′, buffer′) ≡ outStream buffer (lay (streamOf s) buffer 0)
+
+-- pane_section::pdb_section_list
+abbrev pub pane-section-pdb-section-list : (s : List ℕ) → ℕ → List ℕ → Type 0
+pane-section-pdb-section-list s r out′ = (r, out′) ≡ outList-of-pane-section (startOf-of-record-list (readerAt s 0) s)
+
+-- pane_state::walk_out
+abbrev pub pane-state-walk-out : (t : Tour) → List ℕ → Type 0
+pane-state-walk-out t r = r ≡ tourOut t
+
+-- pane_state::entry_of
+abbrev pub pane-state-entry-of : (ids : ℕ) (item : ℕ) (index : ℕ) (place : ℕ) (length : ℕ) → Entry → Type 0
+pane-state-entry-of ids item index place length r = r ≡ entryAt ids item index place length
+
+-- pane_word::pdb_string
+abbrev pub pane-word-pdb-string : (s : List ℕ) (leaf : ℕ) (at : ℕ) → ℕ → List ℕ → Type 0
+pane-word-pdb-string s leaf at r out′ = (r, out′) ≡ outString (stringOf leaf s at)
+
+-- pane_word::pdb_padding
+abbrev pub pane-word-pdb-padding : (s : List ℕ) (at : ℕ) → ℕ → List ℕ → Type 0
+pane-word-pdb-padding s at r out′ = (r, out′) ≡ outPadding (paddingAfter s at)
+
+-- pane_word::pdb_size
+abbrev pub pane-word-pdb-size : (s : List ℕ) (at : ℕ) → ℕ → List ℕ → Type 0
+pane-word-pdb-size s at r out′ = (r, out′) ≡ outSize (sizedAt s at)
+
+-- pane_word::pdb_number
+abbrev pub pane-word-pdb-number : (s : List ℕ) (at : ℕ) → ℕ → List ℕ → Type 0
+pane-word-pdb-number s at r out′ = (r, out′) ≡ outNumber (numeralAt s at)
+
+-- pane_word::pdb_optional_type
+abbrev pub pane-word-pdb-optional-type : (index : ℕ) → ℕ → Type 0
+pane-word-pdb-optional-type index r = r ≡ present (optionalOf noType index)
+
+-- pane_word::pdb_optional_id
+abbrev pub pane-word-pdb-optional-id : (index : ℕ) → ℕ → Type 0
+pane-word-pdb-optional-id index r = r ≡ present (optionalOf noId index)
+
+-- pane_word::pdb_is_cross_module
+abbrev pub pane-word-pdb-is-cross-module : (index : ℕ) → ℕ → Type 0
+pane-word-pdb-is-cross-module index r = r ≡ mark (leb 0x80000000 index)
+
+-- pane_word::pdb_properties
+abbrev pub pane-word-pdb-properties : (word : ℕ) → ℕ → List ℕ → Type 0
+pane-word-pdb-properties word r out′ = (r, out′) ≡ outProperties word
+
+-- pane_word::pdb_field_attributes
+abbrev pub pane-word-pdb-field-attributes : (word : ℕ) → ℕ → List ℕ → Type 0
+pane-word-pdb-field-attributes word r out′ = (r, out′) ≡ outField word
+
+-- pane_word::pdb_function_attributes
+abbrev pub pane-word-pdb-function-attributes : (word : ℕ) → ℕ → List ℕ → Type 0
+pane-word-pdb-function-attributes word r out′ = (r, out′) ≡ outFunction word
+
+-- pane_word::pdb_pointer_attributes
+abbrev pub pane-word-pdb-pointer-attributes : (word : ℕ) → ℕ → List ℕ → Type 0
+pane-word-pdb-pointer-attributes word r out′ = (r, out′) ≡ outPointer word
+
+-- pane_write::pdb_write_type
+abbrev pub pane-write-pdb-write-type : (text : List ℕ) (leaf : ℕ) (cells : List ℕ) (buffer : List ℕ) (at : ℕ) → ℕ → List ℕ → List ℕ → Type 0
+pane-write-pdb-write-type text leaf cells buffer at r buffer′ out′ = (r, out′, buffer′) ≡ outWrite buffer (lay (writeRecord typeLeaves (givenAll text (cellValues leaf cells))) buffer at)
+
+-- pane_write::pdb_write_id
+abbrev pub pane-write-pdb-write-id : (text : List ℕ) (leaf : ℕ) (cells : List ℕ) (buffer : List ℕ) (at : ℕ) → ℕ → List ℕ → List ℕ → Type 0
+pane-write-pdb-write-id text leaf cells buffer at r buffer′ out′ = (r, out′, buffer′) ≡ outWrite buffer (lay (writeRecord idLeaves (givenAll text (cellValues leaf cells))) buffer at)
+
+-- pane_write::pdb_write_fields
+abbrev pub pane-write-pdb-write-fields : (text : List ℕ) (rows : List (List ℕ)) (buffer : List ℕ) (at : ℕ) → ℕ → List ℕ → List ℕ → Type 0
+pane-write-pdb-write-fields text rows buffer at r buffer′ out′ = (r, out′, buffer′) ≡ outWrite buffer (lay (fieldListBytes (memberRows text rows)) buffer at)
+
+-- pane_write::pdb_write_methods
+abbrev pub pane-write-pdb-write-methods : (text : List ℕ) (rows : List (List ℕ)) (buffer : List ℕ) (at : ℕ) → ℕ → List ℕ → List ℕ → Type 0
+pane-write-pdb-write-methods text rows buffer at r buffer′ out′ = (r, out′, buffer′) ≡ outWrite buffer (lay (methodListBytes (methodRows text rows)) buffer at)
+
+-- pane_write::pdb_write_header
+abbrev pub pane-write-pdb-write-header : (fields : List ℕ) (stream : ℕ) (pad : ℕ) (buffer : List ℕ) (at : ℕ) → ℕ → List ℕ → List ℕ → Type 0
+pane-write-pdb-write-header fields stream pad buffer at r buffer′ out′ = (r, out′, buffer′) ≡ outWrite buffer (lay (headerBytes (headerIn fields stream pad)) buffer at)
+
+-- pane_write::pdb_cells
+abbrev pub pane-write-pdb-cells : (s : List ℕ) (ids : ℕ) (cells : List ℕ) → ℕ → List ℕ → List ℕ → Type 0
+pane-write-pdb-cells s ids cells r cells′ out′ = (r, out′, cells′) ≡ outCells cells (recordOf (tableOf (isSet ids)) s)
+
+-- pane_write::pdb_layout
+abbrev pub pane-write-pdb-layout : (which : ℕ) (leaf : ℕ) → ℕ → Type 0
+pane-write-pdb-layout which leaf r = (layoutIn r ≡ leavesOf which leaf) × (r ≡ codesOf which leaf)
+
+-- record_cells::cells_at
+abbrev pub record-cells-cells-at : (s : List ℕ) (at : ℕ) (layout : ℕ) (out : List ℕ) → CellsAnswer → List ℕ → Type 0
+record-cells-cells-at s at layout out r out′ = FillsCells (cellsOf 9) (readFields (fieldsOf layout) 0 s at) r out out′
+
+-- record_cells::type_cells
+abbrev pub record-cells-type-cells : (s : List ℕ) (leaf : ℕ) (at : ℕ) (out : List ℕ) → CellsAnswer → List ℕ → Type 0
+record-cells-type-cells s leaf at out r out′ = FillsCells (cellsOf 9) (fieldsBy (find leaf typeLeaves) leaf s at) r out out′
+
+-- record_cells::id_cells
+abbrev pub record-cells-id-cells : (s : List ℕ) (leaf : ℕ) (at : ℕ) (out : List ℕ) → CellsAnswer → List ℕ → Type 0
+record-cells-id-cells s leaf at out r out′ = FillsCells (cellsOf 9) (fieldsBy (find leaf idLeaves) leaf s at) r out out′
+
+-- record_cells::layout::type_layout
+abbrev pub record-cells-layout-type-layout : (leaf : ℕ) → ℕ → Type 0
+record-cells-layout-type-layout leaf r = (layoutIn r ≡ find leaf typeLeaves) × (r ≡ codeIn typeCodes leaf)
+
+-- record_cells::layout::member_layout
+abbrev pub record-cells-layout-member-layout : (leaf : ℕ) → ℕ → Type 0
+record-cells-layout-member-layout leaf r = (layoutIn r ≡ find leaf memberLeaves) × (r ≡ codeIn memberCodes leaf)
+
+-- record_cells::layout::method_layout
+abbrev pub record-cells-layout-method-layout : ℕ → Type 0
+record-cells-layout-method-layout r = (layoutIn r ≡ some method) × (r ≡ methodCode)
+
+-- record_cells::layout::id_layout
+abbrev pub record-cells-layout-id-layout : (leaf : ℕ) → ℕ → Type 0
+record-cells-layout-id-layout leaf r = (layoutIn r ≡ find leaf idLeaves) × (r ≡ codeIn idCodes leaf)
 
 -- record_data::TypeData::name
 abbrev pub record-data-type-data-name : (self : TypeData) → OptString → Type 0
@@ -563,7 +821,7 @@ stream-index-index-all-by stream s t shift r t′ = IndexesBy-of-stream-index sh
 
 -- stream_item::Entry::index
 abbrev pub stream-item-entry-index : (self : Entry) → ItemIndex → Type 0
-stream-item-entry-index self r = r ≡ indexOf self
+stream-item-entry-index self r = r ≡ indexOf-of-stream-item self
 
 -- stream_item::Entry::len
 abbrev pub stream-item-entry-len : (self : Entry) → ℕ → Type 0
@@ -797,6 +1055,18 @@ word-attributes-pointer-attributes-is-mocom self r = r ≡ bit 19 (self .0)
 abbrev pub word-primitive-primitive : (index : TypeIndex) → PrimitiveAnswer → Type 0
 word-primitive-primitive index r = saidPrimitive r ≡ primitiveOf (index .0)
 
+-- write_cells::pieces
+abbrev pub write-cells-pieces : (leaf : ℕ) (layout : ℕ) (row : List ℕ) → List Piece-of-write-pieces → Type 0
+write-cells-pieces leaf layout row xs = ((t : List ℕ) → piecesOf t xs ≡ and-also (fixedBytes 2 leaf) (leftBytes 9 layout 0 t row))
+
+-- write_cells::write_type
+abbrev pub write-cells-write-type : (text : List ℕ) (leaf : ℕ) (row : List ℕ) (out : List ℕ) (at : ℕ) → WriteAnswer → List ℕ → Type 0
+write-cells-write-type text leaf row out at r out′ = Writes out (lay (writeRecord typeLeaves (givenAll text (cellValues leaf row))) out at) (saidWrite r) out′
+
+-- write_cells::write_id
+abbrev pub write-cells-write-id : (text : List ℕ) (leaf : ℕ) (row : List ℕ) (out : List ℕ) (at : ℕ) → WriteAnswer → List ℕ → Type 0
+write-cells-write-id text leaf row out at r out′ = Writes out (lay (writeRecord idLeaves (givenAll text (cellValues leaf row))) out at) (saidWrite r) out′
+
 -- write_fit::half
 abbrev pub write-fit-half : (x : ℕ) → Piece-of-write-pieces → Type 0
 write-fit-half x r = (r ≡ halfPiece x) × ((t : List ℕ) → pieceOf t r ≡ fixedBytes 2 x)
@@ -859,11 +1129,11 @@ write-pieces-write-record text xs out at r out′ = Writes out (lay (recordBytes
 
 -- write_row::of_member
 abbrev pub write-row-of-member : (m : Member) → List ℕ → Type 0
-write-row-of-member m r = r ≡ memberRow m
+write-row-of-member m r = r ≡ memberRow-of-write-row m
 
 -- write_row::of_method
 abbrev pub write-row-of-method : (m : MethodListEntry) → List ℕ → Type 0
-write-row-of-method m r = r ≡ methodRow m
+write-row-of-method m r = r ≡ methodRow-of-write-row m
 
 -- write_type::write_type
 abbrev pub write-type-write-type : (text : List ℕ) (d : TypeData) (out : List ℕ) (at : ℕ) → WriteAnswer → List ℕ → Type 0

@@ -1,5 +1,5 @@
 -- The creation of a finder, whole: when it is refused, and by no other number; and what it answers else. Of any run of records, which is `begin`, and of a
--- stream whose header is accepted; of a section it is Sections.antt. The header's own numbers, which come first, are ExactlyWhen.antt.
+-- stream whose header is accepted; of a section it is Sections.antt. The header's own numbers come first.
 use Prim.Native.Nat.{ℕ, _≤_, _<_}
 use mathlib.Core.Path.{_≡_}
 use mathlib.Core.List.{List, [], _∷_}
@@ -10,7 +10,7 @@ use Rattle.stream_header.specs.declared.Header.{Header}
 use Rattle.stream_finder.specs.Finder.{state, runOf, holdingIn, begunIn, createBy}
 use Rattle.stream_finder.specs.declared.Run.{Run}
 use Rattle.claim_promises.specs.ByTable.{Refuses}
-use Rattle.claim_promises.specs.Given.{Given}
+use Rattle.claim_promises.specs.Given.{Given, RefusedAs}
 
 pub record CreatedWhen : Type 0 where
   -- 26, "shift above 6, right before the first 13"; 13, "a place must be stored and the lent table has none"
@@ -21,6 +21,8 @@ pub record CreatedWhen : Type 0 where
   pub begins-some : (shift : ℕ) (t : List ℕ) (r : Run) → shift ≤ 6 → r .minimum < r .maximum → 0 < length t
       → begunIn shift t r ≡ answered (state (holdingIn r shift 1) (set t 0 (r .start)))
   pub begins-none : (shift : ℕ) (t : List ℕ) (r : Run) → shift ≤ 6 → r .maximum ≤ r .minimum → begunIn shift t r ≡ answered (state (holdingIn r shift 0) t)
+  -- "iterator and finder creation then the header's": by the header's numbers it is refused exactly as the header is
+  pub creations-own : (shift : ℕ) (s t : List ℕ) → RefusedAs (16 ∷ 1 ∷ 2 ∷ 3 ∷ 4 ∷ 5 ∷ []) (createBy shift s t) (headerOf s)
   -- a stream's is that of the header's run
   pub creations : (shift : ℕ) (s t : List ℕ) (h : Header) → headerOf s ≡ answered h → createBy shift s t ≡ begunIn shift t (runOf h)
   pub creations-else : (shift : ℕ) (s t : List ℕ) (h : Header) → headerOf s ≡ answered h → Refuses (26 ∷ 13 ∷ []) (createBy shift s t)

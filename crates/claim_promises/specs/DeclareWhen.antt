@@ -7,7 +7,7 @@ use mathlib.Core.List.{List, [], _++_}
 use lib.ListN.{length, take, drop}
 use Rattle.answer.specs.Answer.{Answer, answered, refused}
 use Rattle.answer.specs.Tables.{among}
-use Rattle.answer.specs.Refusals.{no}
+use Rattle.answer.specs.Refusals.{no, numberOf, detailsOf}
 use Rattle.answer.specs.declared.Refusal.{Refusal}
 use Rattle.answer.specs.declared.Refusal.the-variants as refusal
 use Rattle.field.specs.Fields.{littleAt}
@@ -137,7 +137,16 @@ pub record OtherMet (s : List ℕ) (σ : State) (i : ℕ) : Type 0 where
 abbrev pub HasRoom : List ℕ → State → ℕ → ℕ → Type 0
 HasRoom s σ i room = (length s ≤ longest) × (fixedBy (declarationOf s σ i) ≤ room)
 
+-- "The first met is given, and 19 exactly if the bytes that the walk has fixed pass the room before another is met": why a declaration is refused by n with d
+pub data Declined (s : List ℕ) (σ : State) (i room : ℕ) : ℕ → List ℕ → Type 0 where
+  long : longest < length s → Declined s σ i room 16 []
+  full : length s ≤ longest → room < fixedBy (declarationOf s σ i) → Declined s σ i room 19 []
+  met : {e : Refusal} → HasRoom s σ i room → Meets s σ 32 i e → Declined s σ i room (numberOf e) (detailsOf e)
+
 pub record DeclareWhen : Type 0 where
+  -- each refusal, whatever its number, exactly then
+  pub declined : (s : List ℕ) (σ : State) (i room n : ℕ) (d : List ℕ) → Declined s σ i room n d → declareOf s σ i room ≡ refused n d
+  pub declined-only : (s : List ℕ) (σ : State) (i room n : ℕ) (d : List ℕ) → declareOf s σ i room ≡ refused n d → Declined s σ i room n d
   -- 16 first of all
   pub too-long : (s : List ℕ) (σ : State) (i room : ℕ) → longest < length s → declareOf s σ i room ≡ refused 16 []
   -- "19 exactly if the bytes that the walk has fixed pass the room before another is met"

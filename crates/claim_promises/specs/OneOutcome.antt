@@ -3,6 +3,7 @@
 use Prim.Native.Nat.{ℕ}
 use denote.Ref.{RefT, now}
 use lib.ListN.{length}
+use mathlib.Core.Bool.{Bool}
 use mathlib.Core.List.{List}
 use mathlib.Core.Path.{_≡_}
 use Rattle.answer.specs.declared.Refusal.{Refusal}
@@ -24,6 +25,7 @@ use Rattle.record_reader.specs.declared.ListReader.{ListReader}
 use Rattle.stream_finder.specs.declared.ItemFinder.{ItemFinder}
 use Rattle.stream_finder.specs.declared.Run.{Run}
 use Rattle.stream_header.specs.declared.Header.{Header}
+use Rattle.stream_index.specs.declared.Tour.{Tour}
 use Rattle.stream_item.specs.declared.Entry.{Entry}
 use Rattle.stream_item.specs.declared.iter.ItemIter.{ItemIter}
 use Rattle.stream_report.specs.declared.Totals.{Totals}
@@ -118,11 +120,82 @@ pub record OneOutcome : Type 1 where
   pub pane-pdb-update : (table : List ℕ) (minimum : ℕ) (maximum : ℕ) (held : ℕ) (shift : ℕ) (at : ℕ) (index : ℕ) → OnceLentTwo (contract.pane-pdb-update table minimum maximum held shift at index)
   pub pane-pdb-find : (s : List ℕ) (table : List ℕ) (minimum : ℕ) (maximum : ℕ) (held : ℕ) (shift : ℕ) (index : ℕ) → OnceLent (contract.pane-pdb-find s table minimum maximum held shift index)
   pub pane-pdb-primitive : (index : ℕ) → OnceLent (contract.pane-pdb-primitive index)
-  pub pane-pdb-load : (s : List ℕ) (file : List ℕ) (table : List ℕ) → OnceLentTwo (contract.pane-pdb-load s file table)
-  pub pane-pdb-save : (s : List ℕ) (table : List ℕ) (minimum : ℕ) (maximum : ℕ) (held : ℕ) (shift : ℕ) (buffer : List ℕ) → OnceLentTwo (contract.pane-pdb-save s table minimum maximum held shift buffer)
-  pub pane-pdb-fit : (s : List ℕ) → OnceLent (contract.pane-pdb-fit s)
-  pub pane-pdb-drop : (s : List ℕ) (roots : List ℕ) (table : List ℕ) (buffer : List ℕ) → OnceLentThree (contract.pane-pdb-drop s roots table buffer)
-  pub pane-pdb-report : (s : List ℕ) (taken : ℕ) (refused : ℕ) (headers : ℕ) (records : ℕ) (bytes : ℕ) (length : ℕ) (stream : ℕ) (index : ℕ) (rows : ℕ) (table : List ℕ) → OnceLentTwo (contract.pane-pdb-report s taken refused headers records bytes length stream index rows table)
+  -- pane_declare
+  pub pane-declare-pdb-declare : (s : List ℕ) (table : List ℕ) (minimum : ℕ) (maximum : ℕ) (held : ℕ) (shift : ℕ) (index : ℕ) (buffer : List ℕ) → OnceLentTwo (contract.pane-declare-pdb-declare s table minimum maximum held shift index buffer)
+  -- pane_drop
+  pub pane-drop-pdb-drop : (s : List ℕ) (roots : List ℕ) (table : List ℕ) (buffer : List ℕ) → OnceLentThree (contract.pane-drop-pdb-drop s roots table buffer)
+  -- pane_fit
+  pub pane-fit-pdb-fit : (s : List ℕ) → OnceLent (contract.pane-fit-pdb-fit s)
+  -- pane_index
+  pub pane-index-pdb-create : (s : List ℕ) (table : List ℕ) (shift : ℕ) → OnceLentTwo (contract.pane-index-pdb-create s table shift)
+  pub pane-index-pdb-index : (s : List ℕ) (table : List ℕ) (shift : ℕ) → OnceLentTwo (contract.pane-index-pdb-index s table shift)
+  pub pane-index-pdb-max-index : (minimum : ℕ) (maximum : ℕ) (held : ℕ) (shift : ℕ) → Once (contract.pane-index-pdb-max-index minimum maximum held shift)
+  pub pane-index-pdb-view : (tpi : List ℕ) (ipi : List ℕ) (ids : ℕ) (item : ℕ) (index : ℕ) (place : ℕ) (length : ℕ) → OnceLent (contract.pane-index-pdb-view tpi ipi ids item index place length)
+  pub pane-index-pdb-kind : (tpi : List ℕ) (ipi : List ℕ) (ids : ℕ) (item : ℕ) (index : ℕ) (place : ℕ) (length : ℕ) → OnceLent (contract.pane-index-pdb-kind tpi ipi ids item index place length)
+  pub pane-index-pdb-load : (s : List ℕ) (file : List ℕ) (table : List ℕ) → OnceLentTwo (contract.pane-index-pdb-load s file table)
+  pub pane-index-pdb-load-short : (s : List ℕ) (file : List ℕ) (table : List ℕ) → OnceLentTwo (contract.pane-index-pdb-load-short s file table)
+  pub pane-index-pdb-save : (s : List ℕ) (table : List ℕ) (minimum : ℕ) (maximum : ℕ) (held : ℕ) (shift : ℕ) (buffer : List ℕ) → OnceLentTwo (contract.pane-index-pdb-save s table minimum maximum held shift buffer)
+  pub pane-index-pdb-save-short : (s : List ℕ) (table : List ℕ) (minimum : ℕ) (maximum : ℕ) (held : ℕ) (shift : ℕ) (buffer : List ℕ) → OnceLentTwo (contract.pane-index-pdb-save-short s table minimum maximum held shift buffer)
+  -- pane_out
+  pub pane-out-first : (e : Refusal) → Once (contract.pane-out-first e)
+  pub pane-out-second : (e : Refusal) → Once (contract.pane-out-second e)
+  pub pane-out-is-set : (n : ℕ) → Once (contract.pane-out-is-set n)
+  pub pane-out-flag : (b : Bool) → Once (contract.pane-out-flag b)
+  -- pane_parse
+  pub pane-parse-pdb-parse : (tpi : List ℕ) (ipi : List ℕ) (ids : ℕ) (item : ℕ) (index : ℕ) (place : ℕ) (length : ℕ) → OnceLent (contract.pane-parse-pdb-parse tpi ipi ids item index place length)
+  pub pane-parse-pdb-section-read : (s : List ℕ) (index : ℕ) (place : ℕ) (length : ℕ) → OnceLent (contract.pane-parse-pdb-section-read s index place length)
+  -- pane_record
+  pub pane-record-pdb-type : (s : List ℕ) → OnceLent (contract.pane-record-pdb-type s)
+  pub pane-record-pdb-id : (s : List ℕ) → OnceLent (contract.pane-record-pdb-id s)
+  pub pane-record-pdb-list : (s : List ℕ) (ids : ℕ) → OnceLent (contract.pane-record-pdb-list s ids)
+  pub pane-record-pdb-step : (s : List ℕ) (leaf : ℕ) (at : ℕ) (left : ℕ) (padded : ℕ) → OnceLent (contract.pane-record-pdb-step s leaf at left padded)
+  -- pane_report
+  pub pane-report-pdb-report : (s : List ℕ) (taken : ℕ) (refused : ℕ) (headers : ℕ) (records : ℕ) (bytes : ℕ) (length : ℕ) (stream : ℕ) (index : ℕ) (rows : ℕ) (table : List ℕ) → OnceLentTwo (contract.pane-report-pdb-report s taken refused headers records bytes length stream index rows table)
+  -- pane_row
+  pub pane-row-type-row : (d : TypeData) → Once (contract.pane-row-type-row d)
+  pub pane-row-id-row : (d : IdData) → Once (contract.pane-row-id-row d)
+  pub pane-row-cursor-row : (c : ListCursor) → Once (contract.pane-row-cursor-row c)
+  pub pane-row-member-row : (at : ℕ) (left : ℕ) (padded : ℕ) (m : Member) → Once (contract.pane-row-member-row at left padded m)
+  pub pane-row-entry-row : (at : ℕ) (left : ℕ) (padded : ℕ) (m : MethodListEntry) → Once (contract.pane-row-entry-row at left padded m)
+  pub pane-row-index-row : (at : ℕ) (left : ℕ) (padded : ℕ) (i : ℕ) → Once (contract.pane-row-index-row at left padded i)
+  -- pane_section
+  pub pane-section-pdb-section-start : (s : List ℕ) → OnceLent (contract.pane-section-pdb-section-start s)
+  pub pane-section-pdb-section-count : (s : List ℕ) → OnceLent (contract.pane-section-pdb-section-count s)
+  pub pane-section-pdb-section-create : (s : List ℕ) (table : List ℕ) (shift : ℕ) → OnceLentTwo (contract.pane-section-pdb-section-create s table shift)
+  pub pane-section-pdb-section-index : (s : List ℕ) (table : List ℕ) (shift : ℕ) → OnceLentTwo (contract.pane-section-pdb-section-index s table shift)
+  pub pane-section-pdb-section-stream : (s : List ℕ) (buffer : List ℕ) → OnceLentTwo (contract.pane-section-pdb-section-stream s buffer)
+  pub pane-section-pdb-section-list : (s : List ℕ) → OnceLent (contract.pane-section-pdb-section-list s)
+  -- pane_state
+  pub pane-state-walk-out : (t : Tour) → Once (contract.pane-state-walk-out t)
+  pub pane-state-entry-of : (ids : ℕ) (item : ℕ) (index : ℕ) (place : ℕ) (length : ℕ) → Once (contract.pane-state-entry-of ids item index place length)
+  -- pane_word
+  pub pane-word-pdb-string : (s : List ℕ) (leaf : ℕ) (at : ℕ) → OnceLent (contract.pane-word-pdb-string s leaf at)
+  pub pane-word-pdb-padding : (s : List ℕ) (at : ℕ) → OnceLent (contract.pane-word-pdb-padding s at)
+  pub pane-word-pdb-size : (s : List ℕ) (at : ℕ) → OnceLent (contract.pane-word-pdb-size s at)
+  pub pane-word-pdb-number : (s : List ℕ) (at : ℕ) → OnceLent (contract.pane-word-pdb-number s at)
+  pub pane-word-pdb-optional-type : (index : ℕ) → Once (contract.pane-word-pdb-optional-type index)
+  pub pane-word-pdb-optional-id : (index : ℕ) → Once (contract.pane-word-pdb-optional-id index)
+  pub pane-word-pdb-is-cross-module : (index : ℕ) → Once (contract.pane-word-pdb-is-cross-module index)
+  pub pane-word-pdb-properties : (word : ℕ) → OnceLent (contract.pane-word-pdb-properties word)
+  pub pane-word-pdb-field-attributes : (word : ℕ) → OnceLent (contract.pane-word-pdb-field-attributes word)
+  pub pane-word-pdb-function-attributes : (word : ℕ) → OnceLent (contract.pane-word-pdb-function-attributes word)
+  pub pane-word-pdb-pointer-attributes : (word : ℕ) → OnceLent (contract.pane-word-pdb-pointer-attributes word)
+  -- pane_write
+  pub pane-write-pdb-write-type : (text : List ℕ) (leaf : ℕ) (cells : List ℕ) (buffer : List ℕ) (at : ℕ) → OnceLentTwo (contract.pane-write-pdb-write-type text leaf cells buffer at)
+  pub pane-write-pdb-write-id : (text : List ℕ) (leaf : ℕ) (cells : List ℕ) (buffer : List ℕ) (at : ℕ) → OnceLentTwo (contract.pane-write-pdb-write-id text leaf cells buffer at)
+  pub pane-write-pdb-write-fields : (text : List ℕ) (rows : List (List ℕ)) (buffer : List ℕ) (at : ℕ) → OnceLentTwo (contract.pane-write-pdb-write-fields text rows buffer at)
+  pub pane-write-pdb-write-methods : (text : List ℕ) (rows : List (List ℕ)) (buffer : List ℕ) (at : ℕ) → OnceLentTwo (contract.pane-write-pdb-write-methods text rows buffer at)
+  pub pane-write-pdb-write-header : (fields : List ℕ) (stream : ℕ) (pad : ℕ) (buffer : List ℕ) (at : ℕ) → OnceLentTwo (contract.pane-write-pdb-write-header fields stream pad buffer at)
+  pub pane-write-pdb-cells : (s : List ℕ) (ids : ℕ) (cells : List ℕ) → OnceLentTwo (contract.pane-write-pdb-cells s ids cells)
+  pub pane-write-pdb-layout : (which : ℕ) (leaf : ℕ) → Once (contract.pane-write-pdb-layout which leaf)
+  -- record_cells
+  pub record-cells-cells-at : (s : List ℕ) (at : ℕ) (layout : ℕ) (out : List ℕ) → OnceLent (contract.record-cells-cells-at s at layout out)
+  pub record-cells-type-cells : (s : List ℕ) (leaf : ℕ) (at : ℕ) (out : List ℕ) → OnceLent (contract.record-cells-type-cells s leaf at out)
+  pub record-cells-id-cells : (s : List ℕ) (leaf : ℕ) (at : ℕ) (out : List ℕ) → OnceLent (contract.record-cells-id-cells s leaf at out)
+  pub record-cells-layout-type-layout : (leaf : ℕ) → Once (contract.record-cells-layout-type-layout leaf)
+  pub record-cells-layout-member-layout : (leaf : ℕ) → Once (contract.record-cells-layout-member-layout leaf)
+  pub record-cells-layout-method-layout : Once (contract.record-cells-layout-method-layout)
+  pub record-cells-layout-id-layout : (leaf : ℕ) → Once (contract.record-cells-layout-id-layout leaf)
   -- record_data
   pub record-data-type-data-name : (self : TypeData) → Once (contract.record-data-type-data-name self)
   pub record-data-type-data : (s : List ℕ) → Once (contract.record-data-type-data s)
@@ -248,6 +321,10 @@ pub record OneOutcome : Type 1 where
   pub word-attributes-pointer-attributes-is-mocom : (self : PointerAttributes) → Once (contract.word-attributes-pointer-attributes-is-mocom self)
   -- word_primitive
   pub word-primitive-primitive : (index : TypeIndex) → Once (contract.word-primitive-primitive index)
+  -- write_cells
+  pub write-cells-pieces : (leaf : ℕ) (layout : ℕ) (row : List ℕ) → Once (contract.write-cells-pieces leaf layout row)
+  pub write-cells-write-type : (text : List ℕ) (leaf : ℕ) (row : List ℕ) (out : List ℕ) (at : ℕ) → OnceLent (contract.write-cells-write-type text leaf row out at)
+  pub write-cells-write-id : (text : List ℕ) (leaf : ℕ) (row : List ℕ) (out : List ℕ) (at : ℕ) → OnceLent (contract.write-cells-write-id text leaf row out at)
   -- write_fit
   pub write-fit-half : (x : ℕ) → Once (contract.write-fit-half x)
   pub write-fit-word : (x : ℕ) → Once (contract.write-fit-word x)

@@ -17,7 +17,7 @@ use Rattle.stream_finder.specs.Finder.{State, state, holding}
 use Rattle.stream_places.specs.File.{Form, trailerSize, wordsAt, trailerBy}
 use Rattle.stream_places.specs.Places.{fileOf, loadBy, saveBy}
 use Rattle.claim_promises.specs.ByTable.{Refuses}
-use Rattle.claim_promises.specs.Given.{Given}
+use Rattle.claim_promises.specs.Given.{Given, RefusedAs}
 
 -- ---- words of the conditions
 
@@ -60,9 +60,9 @@ pub record Bounded (σ : State) (h : Header) : Type 0 where
 
 -- ---- when
 pub record PlacesWhen (form : Form) : Type 0 where
-  -- the stream's own come first
-  pub loads-own : (s f t : List ℕ) (n : ℕ) (d : List ℕ) → headerOf s ≡ refused n d → loadBy form s f t ≡ refused n d
-  pub saves-own : (s : List ℕ) (σ : State) (room n : ℕ) (d : List ℕ) → headerOf s ≡ refused n d → saveBy form s σ room ≡ refused n d
+  -- "the order is the stream's own, 20, 21, 13, 22": by the header's numbers both are refused exactly as the header is
+  pub loads-own : (s f t : List ℕ) → RefusedAs (16 ∷ 1 ∷ 2 ∷ 3 ∷ 4 ∷ 5 ∷ []) (loadBy form s f t) (headerOf s)
+  pub saves-own : (s : List ℕ) (σ : State) (room : ℕ) → RefusedAs (16 ∷ 1 ∷ 2 ∷ 3 ∷ 4 ∷ 5 ∷ []) (saveBy form s σ room) (headerOf s)
   -- 20, file wrong: "trailer or length wrong"; "no places is 20 unless the stream counts no records"; R-10: "PTIY with a count up to 65,535 is 20"
   pub trailers-20 : (f : List ℕ) → Given 20 [] (trailerBy form f) (Right form f → ⊥)
   pub loads-20 : (s f t : List ℕ) (h : Header) → headerOf s ≡ answered h → Given 20 [] (loadBy form s f t) (RightFor form f h → ⊥)

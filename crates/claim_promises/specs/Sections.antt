@@ -22,7 +22,7 @@ use Rattle.write_layout.specs.Buffer.{lay, Writes}
 use Rattle.write_pieces.specs.Pieces.{saidWrite}
 use Rattle.write_pieces.specs.declared.WriteAnswer.{WriteAnswer}
 use Rattle.claim_promises.specs.ByTable.{Refuses}
-use Rattle.claim_promises.specs.Given.{Given}
+use Rattle.claim_promises.specs.Given.{Given, RefusedAs}
 
 -- demand 1: answered, or refused by these numbers; and lent memory stays
 pub record SectionsRefuse : Type 0 where
@@ -45,9 +45,10 @@ pub record SectionsWhen : Type 0 where
   pub starts-25 : (s : List ℕ) → Given 25 [] (startOf s) ((length s ≤ longest) × (4 ≤ length s) × (littleAt 4 s 0 ≡ 4 → ⊥))
   -- else there is the cursor behind the signature
   pub starts-first : (s : List ℕ) → length s ≤ longest → 4 ≤ length s → littleAt 4 s 0 ≡ 4 → startOf s ≡ answered first
-  -- what refuses the start refuses the count, and what refuses the count refuses creation; 26 and 13 come after it
+  -- what refuses the start refuses the count; that else it is a step of the walk, and nothing else, is `Counts` (crates/section_item/specs/Sections.antt)
   pub counts-start : (s : List ℕ) (n : ℕ) (d : List ℕ) → startOf s ≡ refused n d → countOf s ≡ refused n d
-  pub creations-count : (shift : ℕ) (s t : List ℕ) (n : ℕ) (d : List ℕ) → countOf s ≡ refused n d → createBy shift s t ≡ refused n d
+  -- by the count's numbers creation is refused exactly as the count is; 26 and 13 come after it
+  pub creations-own : (shift : ℕ) (s t : List ℕ) → RefusedAs (16 ∷ 1 ∷ 25 ∷ 6 ∷ 7 ∷ []) (createBy shift s t) (countOf s)
   pub creations-26 : (shift : ℕ) (s t : List ℕ) (n : ℕ) → countOf s ≡ answered n → Given 26 [] (createBy shift s t) (6 < shift)
   pub creations-13 : (shift : ℕ) (s t : List ℕ) (n : ℕ) → countOf s ≡ answered n → Given 13 [] (createBy shift s t) ((shift ≤ 6) × (0 < n) × (length t ≡ 0))
   -- and nothing else where the records are counted: creation is then that of their run, which CreatedWhen.antt has whole
@@ -55,6 +56,6 @@ pub record SectionsWhen : Type 0 where
   pub creations-begun : (shift : ℕ) (s t : List ℕ) (n : ℕ) → countOf s ≡ answered n → createBy shift s t ≡ begunIn shift t (sectionRun n)
   -- of a stream: 16 where it would be too long, the count's own refusal, and 19 where the buffer is shorter than the section and 52
   pub streams-16 : (s : List ℕ) → Given 16 [] (streamOf s) (longest < length s + 52)
-  pub streams-count : (s : List ℕ) (n : ℕ) (d : List ℕ) → length s + 52 ≤ longest → countOf s ≡ refused n d → streamOf s ≡ refused n d
+  pub streams-own : (s o : List ℕ) → length s + 52 ≤ longest → RefusedAs (1 ∷ 25 ∷ 6 ∷ 7 ∷ []) (lay (streamOf s) o 0) (countOf s)
   pub streams-19 : (s o : List ℕ) (n : ℕ) → length s + 52 ≤ longest → countOf s ≡ answered n → Given 19 [] (lay (streamOf s) o 0) (length o < length s + 52)
   pub streams-else : (s o : List ℕ) (n : ℕ) → length s + 52 ≤ longest → countOf s ≡ answered n → Refuses (19 ∷ []) (lay (streamOf s) o 0)

@@ -2,20 +2,24 @@
 -- header; 17 fields that would not read back .., 18 over 65,535 payload bytes, pads counted, 19 buffer too small, in that order".
 -- `Given n d a P` (Given.antt): a is refused by n exactly when P, and then with the details d.
 use Prim.Native.Nat.{ℕ, _+_, _≤_, _<_}
-use mathlib.Core.Bool.{Bool, true, false}
+use mathlib.Core.Bool.{false}
 use mathlib.Core.Path.{_≡_}
-use mathlib.Core.List.{List, [], _∷_}
+use mathlib.Core.List.{List, []}
 use lib.ListN.{length}
-use Rattle.answer.specs.Answer.{answered, got}
+use Rattle.answer.specs.Answer.{answered}
+use Rattle.field_text.specs.Texts.{Part}
 use Rattle.field_number.specs.Forms.{AllBytes}
 use Rattle.stream_header.specs.declared.Header.{Header}
-use Rattle.record_layout.specs.Fields.{Shown, readFields}
-use Rattle.record_layout.specs.Layouts.{Table, memberLeaves, method}
+use Rattle.record_layout.specs.Fields.{Value}
+use Rattle.record_layout.specs.Layouts.{Table}
+use Rattle.record_list.specs.Lists.{memberElement, methodElement}
 use Rattle.write_layout.specs.Fields.{ToWrite, givenAll, Encoded, fixedBytes, and-also}
 use Rattle.write_layout.specs.Records.{writeLeaf, filled, writeRecord}
-use Rattle.write_layout.specs.Lists.{ends, membersBytes, fieldListBytes, methodsBytes, methodListBytes}
+use Rattle.write_layout.specs.Lists.{membersBytes, fieldListBytes, methodsBytes, methodListBytes}
 use Rattle.write_layout.specs.Buffer.{lay}
 use Rattle.write_layout.specs.RoundTrip.{WouldRead, AllInBytes}
+use Rattle.write_row.specs.Rows.{memberRows, methodRows}
+use Rattle.write_list.specs.ListsBack.{HasElements, EachInBytes}
 use Rattle.write_header.specs.Headers.{headerBytes}
 use Rattle.claim_promises.specs.Given.{Given}
 
@@ -33,30 +37,6 @@ pub record NoRoom (b : Encoded) (o : List ℕ) (p : ℕ) : Type 0 where
   pub made : b ≡ answered whole
   pub small : length o < p + length whole
 
--- some bytes read as this method of a method list
-pub record MethodWouldRead (vs : List ToWrite) : Type 0 where
-  pub payload : List ℕ
-  pub small : AllBytes payload
-  pub values : List Shown
-  pub next : ℕ
-  pub read : readFields method 0 payload 0 ≡ got values next
-  pub same : givenAll payload values ≡ vs
-
--- some bytes read as each of these members, and none stands after a continuation
-unfoldable pub MembersWouldRead : Bool → List (List ToWrite) → Type 0
-MembersWouldRead ended [] = Unit {0}
-MembersWouldRead true (vs ∷ vss) = ⊥
-MembersWouldRead false (vs ∷ vss) = WouldRead memberLeaves vs × MembersWouldRead (ends vs) vss
-
-unfoldable pub MethodsWouldRead : List (List ToWrite) → Type 0
-MethodsWouldRead [] = Unit {0}
-MethodsWouldRead (vs ∷ vss) = MethodWouldRead vs × MethodsWouldRead vss
-
--- the bytes of what is to be written are bytes, as those of every `&[u8]` are
-unfoldable pub EachInBytes : List (List ToWrite) → Type 0
-EachInBytes [] = Unit {0}
-EachInBytes (vs ∷ vss) = AllInBytes vs × EachInBytes vss
-
 -- a header's numbers, in the order in which they are looked at
 abbrev pub SizeRight : Header → Type 0
 SizeRight h = (56 ≤ h .«header_size») × (h .«header_size» ≤ 1024)
@@ -65,11 +45,18 @@ abbrev pub BoundsRight : Header → Type 0
 BoundsRight h = (4096 ≤ h .«minimum_index») × (h .«minimum_index» ≤ h .«maximum_index»)
 
 -- ---- when
-pub record WritesWhen : Type 0 where
-  -- 17, would not read back: no bytes read as these values. Of a list: as one of its elements, or it has an element after a continuation
+pub record WritesWhen : Type 1 where
+  -- 17, would not read back: no bytes read as these values. Of a list: no payload has these elements, so that none stands after a continuation
   pub records-17 : (table : Table) (vs : List ToWrite) (o : List ℕ) (p : ℕ) → AllInBytes vs → Given 17 [] (lay (writeRecord table vs) o p) (WouldRead table vs → ⊥)
-  pub field-lists-17 : (vss : List (List ToWrite)) (o : List ℕ) (p : ℕ) → EachInBytes vss → Given 17 [] (lay (fieldListBytes vss) o p) (MembersWouldRead false vss → ⊥)
-  pub method-lists-17 : (vss : List (List ToWrite)) (o : List ℕ) (p : ℕ) → EachInBytes vss → Given 17 [] (lay (methodListBytes vss) o p) (MethodsWouldRead vss → ⊥)
+  pub field-lists-17 : (vss : List (List ToWrite)) (o : List ℕ) (p : ℕ) → EachInBytes vss → Given 17 [] (lay (fieldListBytes vss) o p) (HasElements 0x1203 memberElement vss → ⊥)
+  pub method-lists-17 : (vss : List (List ToWrite)) (o : List ℕ) (p : ℕ) → EachInBytes vss → Given 17 [] (lay (methodListBytes vss) o p) (HasElements 0x1206 methodElement vss → ⊥)
+  -- the same of what the functions are given: values and rows whose strings are parts of a lent text, which is bytes
+  pub texts-17 : (W : Type 0) (table : Table) (t : List ℕ) (vs : List (Value Part W)) (o : List ℕ) (p : ℕ) → AllBytes t
+      → Given 17 [] (lay (writeRecord table (givenAll t vs)) o p) (WouldRead table (givenAll t vs) → ⊥)
+  pub member-rows-17 : (t : List ℕ) (rows : List (List ℕ)) (o : List ℕ) (p : ℕ) → AllBytes t
+      → Given 17 [] (lay (fieldListBytes (memberRows t rows)) o p) (HasElements 0x1203 memberElement (memberRows t rows) → ⊥)
+  pub method-rows-17 : (t : List ℕ) (rows : List (List ℕ)) (o : List ℕ) (p : ℕ) → AllBytes t
+      → Given 17 [] (lay (methodListBytes (methodRows t rows)) o p) (HasElements 0x1206 methodElement (methodRows t rows) → ⊥)
   -- 18, record too long: "over 65,535 payload bytes, pads counted"
   pub records-18 : (table : Table) (vs : List ToWrite) (o : List ℕ) (p : ℕ) → Given 18 [] (lay (writeRecord table vs) o p) (TooLong (writeLeaf table vs))
   pub field-lists-18 : (vss : List (List ToWrite)) (o : List ℕ) (p : ℕ)

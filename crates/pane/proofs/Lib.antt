@@ -4,3 +4,4 @@ pub mod RestLaws
 pub mod TallyProof
 pub mod SameProof
 pub mod TallyWitness
+pub mod Examples

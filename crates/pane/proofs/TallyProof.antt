@@ -1,15 +1,15 @@
 -- The tally. A lookup that finds index minimum + d has passed d mod b links, whatever else the finder holds; so the sum is one of remainders.
 -- Assumes nothing.
 use Prim.Native.Nat.{ℕ, zero, suc, _+_, _-_, _*_, _/_, _%_, _^_, _≤_, _<_}
-use mathlib.Core.Bool.{Bool, true, false}
+use mathlib.Core.Bool.{Bool, true, false, not}
 use mathlib.Core.List.{List, [], _∷_}
 use mathlib.Core.Path.{_≡_, refl, sym, ap, _∙_, subst}
 use native.Mathlib.Omega.{arith}
-use lib.Dec.{ltb, leb}
+use lib.Dec.{ltb, leb, eqb}
 use lib.ListN.{length, getD, set}
 use lib.Pow.{pow-pos}
 use borrow.Author.Tests.{le-ltb}
-use Rattle.answer.specs.Answer.{Answer, answered, refused, pick, stop}
+use Rattle.answer.specs.Answer.{Answer, answered, refused, pick, stop, both, then}
 use Rattle.stream_header.specs.Header.{headerOf, longest}
 use Rattle.stream_header.specs.declared.Header.{Header}
 use Rattle.field.specs.Indices.{indexIn, numberIn}
@@ -20,12 +20,17 @@ use Rattle.field.specs.declared.index.ItemIndex.{ItemIndex}
 use Rattle.stream_item.specs.declared.iter.ItemIter.{ItemIter}
 use Rattle.stream_item.specs.declared.link.Hit.{Hit}
 use Rattle.stream_item.specs.declared.link.Hit.the-variants.{Landed, Missed}
-use Rattle.stream_finder.specs.Finder.{State, state, blockOf, distance, holding, begunBy, createBy, updateOf, after, Found, landed, lookOf, findOf}
+use Rattle.stream_finder.specs.Finder.{State, state, blockOf, distance, runOf, holdingIn, begunIn, begunBy, createBy, updateOf, after, Found, landed, lookOf, findOf}
 use Rattle.stream_finder.specs.Demand.{Walked, none, more}
 use Rattle.stream_finder.specs.Shared.{Updated, untouched, by}
+use Rattle.stream_finder.specs.declared.Run.{Run}
 use Rattle.stream_finder.proofs.FinderLaws.{create-is}
 use Rattle.stream_finder.proofs.PlaceLaws.{update-ind}
-use Rattle.pane.specs.Tally.{isFound, passedBy, AllFound, passedUp, tally, Tally}
+use Rattle.stream_places.specs.File.{Form, narrow, wordsAt, trailerBy, formOf}
+use Rattle.stream_places.specs.Places.{onChain, loadFor, loadBy, loadOf, loadWideOf}
+use Rattle.stream_places.specs.declared.trailer.Trailer.{Trailer}
+use Rattle.stream_places.proofs.PlacesLaws.{load-header}
+use Rattle.pane.specs.Tally.{isFound, passedBy, AllFound, passedUp, tally, LoadedTally, Tally}
 use Rattle.pane.proofs.RestLaws.{sums, half, rests, rests-are}
 
 -- ---- an answer that is found has passed k links: through the definition's tests
@@ -87,33 +92,33 @@ tally-is b c z =
     rests-are b z c ∙ sym (ap (λ (x : ℕ). c / b * x + c % b * (c % b - 1) / 2) (half b) ∙ ap (λ (x : ℕ). c / b * sums b + x) (half (c % b)))
 
 -- the finder's minimum and shift are those that it was created with
-record Kept (m shift : ℕ) (τ : State) : Type 0 where
+pub record Kept (m shift : ℕ) (τ : State) : Type 0 where
   pub minimum : τ .finder .«minimum_index» ≡ m
   pub shift-is : τ .finder .shift ≡ shift
 
-tallied : (tag : Stream) (s : List ℕ) (τ : State) (m shift c : ℕ) → Kept m shift τ → AllFound tag s τ m c → passedUp tag s τ m c ≡ tally (2 ^ shift) c
+pub tallied : (tag : Stream) (s : List ℕ) (τ : State) (m shift c : ℕ) → Kept m shift τ → AllFound tag s τ m c → passedUp tag s τ m c ≡ tally (2 ^ shift) c
 tallied tag s τ m shift c k f =
     subst (λ (n : ℕ). passedUp tag s τ n c ≡ tally (2 ^ shift) c) (k .minimum)
     (passed-up tag s τ c (subst (λ (n : ℕ). AllFound tag s τ n c) (sym (k .minimum)) f)
     ∙ tally-is (blockOf (τ .finder)) c (pow-pos (τ .finder .shift))
     ∙ ap (λ (x : ℕ). tally (2 ^ x) c) (k .shift-is))
 
-update-kept : (m shift : ℕ) (τ : State) (c : ItemIter) → Kept m shift τ → Kept m shift (after τ (updateOf τ c))
+pub update-kept : (m shift : ℕ) (τ : State) (c : ItemIter) → Kept m shift τ → Kept m shift (after τ (updateOf τ c))
 update-kept m shift τ c k = update-ind τ c (Kept m shift) k (λ st. record { minimum = k .minimum; shift-is = k .shift-is })
 
-begun-kept : (shift : ℕ) (t : List ℕ) (h : Header) (σ : State) → begunBy shift t h ≡ answered σ → Kept (h .«minimum_index») shift σ
-unfolding begunBy
-begun-kept shift t h σ e = go (ltb 6 shift) (ltb (h .«minimum_index») (h .«maximum_index»)) (leb (length t) 0) e
+pub begun-kept : (shift : ℕ) (t : List ℕ) (r : Run) (σ : State) → begunIn shift t r ≡ answered σ → Kept (r .minimum) shift σ
+begun-kept shift t r σ e = go (ltb 6 shift) (ltb (r .minimum) (r .maximum)) (leb (length t) 0) e
   where
-    go : (x y z : Bool) → stop x 26 (pick y (stop z 13 (answered (state (holding h shift 1) (set t 0 (h .«header_size»))))) (answered (state (holding h shift 0) t))) ≡ answered σ
-        → Kept (h .«minimum_index») shift σ
+    go : (x y z : Bool) → stop x 26 (pick y (stop z 13 (answered (state (holdingIn r shift 1) (set t 0 (r .start))))) (answered (state (holdingIn r shift 0) t))) ≡ answered σ
+        → Kept (r .minimum) shift σ
     go true y z q = let w : _≡_ {A = ℕ} 0 1 = cc in absurd (omega arith)
     go false true true q = let w : _≡_ {A = ℕ} 0 1 = cc in absurd (omega arith)
-    go false true false q = let w : state (holding h shift 1) (set t 0 (h .«header_size»)) ≡ σ = cc in subst (Kept (h .«minimum_index») shift) w (record { minimum = refl; shift-is = refl })
-    go false false z q = let w : state (holding h shift 0) t ≡ σ = cc in subst (Kept (h .«minimum_index») shift) w (record { minimum = refl; shift-is = refl })
+    go false true false q = let w : state (holdingIn r shift 1) (set t 0 (r .start)) ≡ σ = cc in subst (Kept (r .minimum) shift) w (record { minimum = refl; shift-is = refl })
+    go false false z q = let w : state (holdingIn r shift 0) t ≡ σ = cc in subst (Kept (r .minimum) shift) w (record { minimum = refl; shift-is = refl })
 
 created-kept : (shift : ℕ) (s t : List ℕ) (h : Header) (σ : State) → headerOf s ≡ answered h → createBy shift s t ≡ answered σ → Kept (h .«minimum_index») shift σ
-created-kept shift s t h σ e c = begun-kept shift t h σ (sym (create-is shift s t (answered h) e) ∙ c)
+unfolding begunBy
+created-kept shift s t h σ e c = begun-kept shift t (runOf h) σ (sym (create-is shift s t (answered h) e) ∙ c)
 
 walked-kept : (m shift : ℕ) (s : List ℕ) (c : ItemIter) (σ : State) (n : ℕ) (d : ItemIter) (τ : State) → Kept m shift σ → Walked s c σ n d τ → Kept m shift τ
 walked-kept m shift s c σ zero d τ k none = k
@@ -123,11 +128,51 @@ updated-kept : (m shift : ℕ) (s : List ℕ) (σ τ : State) → Kept m shift �
 updated-kept m shift s σ τ k untouched = k
 updated-kept m shift s σ τ k (by {τ = ρ} {c = c} w r) = update-kept m shift ρ c (updated-kept m shift s σ ρ k w)
 
+-- ---- a finder that was loaded has the stream's minimum
+abbrev Least : ℕ → Answer State → Type 0
+Least m (answered τ) = τ .finder .«minimum_index» ≡ m
+Least m (refused n d) = Unit {0}
+
+stop-least : (m : ℕ) (x : Bool) (n : ℕ) (a : Answer State) → Least m a → Least m (stop x n a)
+stop-least m true n a p = tt
+stop-least m false n a p = p
+
+load-least : (s f t : List ℕ) (h : Header) (k : Trailer) → Least (h .«minimum_index») (loadFor s f t h k)
+unfolding loadFor
+load-least s f t h k =
+    stop-least _ (both (eqb (k .count) 0) (ltb (h .«minimum_index») (h .«maximum_index»))) 20 _
+    (stop-least _ (not (eqb (k .«minimum_index») (h .«minimum_index»))) 21 _
+    (stop-least _ (not (eqb (k .«maximum_index») (h .«maximum_index»))) 21 _
+    (stop-least _ (not (eqb (k .«stream_length») (length s))) 21 _
+    (stop-least _ (not (eqb (k .«header_size») (h .«header_size»))) 21 _
+    (stop-least _ (ltb (length t) (k .count)) 13 _
+    (stop-least _ (not (onChain s (2 ^ k .shift) (h .«header_size») (wordsAt (k .count) f 0))) 22 _ refl))))))
+
+loaded-least : (F : Form) (s f t : List ℕ) (h : Header) (τ : State) → headerOf s ≡ answered h → loadBy F s f t ≡ answered τ → τ .finder .«minimum_index» ≡ h .«minimum_index»
+loaded-least F s f t h τ e l = subst (Least (h .«minimum_index»)) (sym (load-header F s f t (answered h) e) ∙ l) (go (trailerBy F f))
+  where
+    go : (a : Answer Trailer) → Least (h .«minimum_index») (then a (loadFor s f t h))
+    go (answered k) = load-least s f t h k
+    go (refused n d) = tt
+
+-- of any finder
+any-tally : (tag : Stream) (s : List ℕ) (τ : State) (c : ℕ) → AllFound tag s τ (τ .finder .«minimum_index») c → passedUp tag s τ (τ .finder .«minimum_index») c ≡ tally (blockOf (τ .finder)) c
+any-tally tag s τ c f = tallied tag s τ (τ .finder .«minimum_index») (τ .finder .shift) c (record { minimum = refl; shift-is = refl }) f
+
+loaded-tally : (F : Form) (tag : Stream) (s f t : List ℕ) (h : Header) (τ : State) (c : ℕ) → headerOf s ≡ answered h → loadBy F s f t ≡ answered τ
+    → AllFound tag s τ (h .«minimum_index») c → passedUp tag s τ (h .«minimum_index») c ≡ tally (blockOf (τ .finder)) c
+loaded-tally F tag s f t h τ c e l g =
+    tallied tag s τ (h .«minimum_index») (τ .finder .shift) c (record { minimum = loaded-least F s f t h τ e l; shift-is = refl }) g
+
 pub tally-holds : Tally
+unfolding LoadedTally
 tally-holds = record {
+  any = any-tally;
   walked = λ shift tag s h t N τ c p f.
       tallied tag s τ (h .«minimum_index») shift c
       (walked-kept (h .«minimum_index») shift s (p .first) (p .fresh) N (p .cursor) τ (created-kept shift s t h (p .fresh) (p .accepted) (p .created)) (p .walked)) f;
   shared = λ shift tag s h t σ τ c e new u f.
       tallied tag s τ (h .«minimum_index») shift c (updated-kept (h .«minimum_index») shift s σ τ (created-kept shift s t h σ e new) u) f;
+  loaded = loaded-tally narrow;
+  loaded-wide = λ tag s f. loaded-tally (formOf f) tag s f;
 }

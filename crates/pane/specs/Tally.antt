@@ -9,9 +9,10 @@ use Rattle.stream_header.specs.Header.{headerOf}
 use Rattle.stream_header.specs.declared.Header.{Header}
 use Rattle.field.specs.Indices.{indexIn}
 use Rattle.field.specs.declared.index.Stream.{Stream}
-use Rattle.stream_finder.specs.Finder.{State, createBy, Found, findOf}
+use Rattle.stream_finder.specs.Finder.{State, blockOf, createBy, Found, findOf}
 use Rattle.stream_finder.specs.Demand.{Premises}
 use Rattle.stream_finder.specs.Shared.{Updated}
+use Rattle.stream_places.specs.Places.{loadOf, loadWideOf}
 
 -- is a lookup answered, and how many links has it passed?
 abbrev pub isFound : Answer Found → Bool
@@ -35,7 +36,21 @@ passedUp tag s τ m (suc c) = passedUp tag s τ m c + passedBy (findOf s τ (ind
 abbrev pub tally : ℕ → ℕ → ℕ
 tally b c = c / b * (b * (b - 1) / 2) + c % b * (c % b - 1) / 2
 
+-- of a loader
+unfoldable pub LoadedTally : (List ℕ → List ℕ → List ℕ → Answer State) → Type 0
+LoadedTally load =
+    (tag : Stream) (s f t : List ℕ) (h : Header) (τ : State) (c : ℕ)
+    → headerOf s ≡ answered h
+    → load s f t ≡ answered τ
+    → AllFound tag s τ (h .«minimum_index») c
+    → passedUp tag s τ (h .«minimum_index») c ≡ tally (blockOf (τ .finder)) c
+
 pub record Tally : Type 0 where
+  -- of any finder and any table, however they came about, from the finder's own minimum and by its own shift: "when all are found" is enough. Those below
+  -- are cases of it, and so is a section's (crates/claim_promises/specs/Paged.antt)
+  pub any : (tag : Stream) (s : List ℕ) (τ : State) (c : ℕ)
+      → AllFound tag s τ (τ .finder .«minimum_index») c
+      → passedUp tag s τ (τ .finder .«minimum_index») c ≡ tally (blockOf (τ .finder)) c
   -- of demand 3's finder, whatever its shift
   pub walked : (shift : ℕ) (tag : Stream) (s : List ℕ) (h : Header) (t : List ℕ) (N : ℕ) (τ : State) (c : ℕ)
       → Premises shift tag s h t N τ 0
@@ -48,3 +63,6 @@ pub record Tally : Type 0 where
       → Updated s σ τ
       → AllFound tag s τ (h .«minimum_index») c
       → passedUp tag s τ (h .«minimum_index») c ≡ tally (2 ^ shift) c
+  -- of R-3's, whose places were loaded from a file, and of R-10's
+  pub loaded : LoadedTally loadOf
+  pub loaded-wide : LoadedTally loadWideOf

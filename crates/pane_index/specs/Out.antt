@@ -1,27 +1,10 @@
--- What C gives and gets of a finder's stream: an entry, its bytes and its leaf, and the places of a finder in a file.
+-- What C gets of a finder's stream: an entry's bytes and its leaf, and the places of a finder in a file.
 use Prim.Native.Nat.{ℕ}
 use mathlib.Core.List.{List, [], _∷_}
-use Rattle.answer.specs.Answer.{Answer, pick}
-use Rattle.field.specs.Indices.{indexIn}
-use Rattle.field.specs.declared.index.Stream.the-variants.{Types, Ids}
-use Rattle.field.specs.declared.index.ItemIndex.{ItemIndex}
+use Rattle.answer.specs.Answer.{Answer}
 use Rattle.field_text.specs.Texts.{Part}
-use Rattle.stream_item.specs.declared.Entry.{Entry}
-use Rattle.stream_item.specs.declared.Entry.the-variants as entry
 use Rattle.stream_places.specs.Places.{sizeIn, bufferAfter}
-use Rattle.pane_out.specs.Handed.{handed, sizeField, isSet}
-
--- ---- what C gives
-
--- index i of the id stream where `ids` is set, else of the type stream
-abbrev pub indexAt : ℕ → ℕ → ItemIndex
-indexAt ids i = indexIn (pick (isSet ids) Ids Types) i
-
--- a record's entry, with its place and length, where the second number is set, else the marker, which has neither
-abbrev pub entryAt : ℕ → ℕ → ℕ → ℕ → ℕ → Entry
-entryAt ids isRecord i p n = pick (isSet isRecord) (entry.Record (record { index = indexAt ids i; place = p; length = n })) (entry.Marker (indexAt ids i))
-
--- ---- what C gets
+use Rattle.pane_out.specs.Handed.{handed, sizeField}
 
 -- where an entry's bytes lie
 abbrev pub partFields : Part → List ℕ

@@ -7,18 +7,15 @@ ghost use Rattle.stream_finder.specs.Finder.{createBy, maxIndexOf};
 ghost use Rattle.stream_view.specs.Views.{viewOf, rawKindOf};
 ghost use Rattle.stream_places.specs.Places.{loadOf, loadWideOf, saveOf, saveWideOf};
 ghost use Rattle.pane_state.specs.Given.{finderWith, finderAt};
+ghost use Rattle.pane_state.specs.Entries.{entryAt};
 ghost use Rattle.pane_state.specs.Finders.{outFinder};
-ghost use Rattle.pane_state.specs.Walk.{indexOf, outWalk};
-ghost use Rattle.pane_index.specs.Out.{indexAt, entryAt, outView, outKind, outSave};
-use field::index::IdIndex;
-use field::index::ItemIndex;
+ghost use Rattle.pane_state.specs.Walk.{indexAllBy, outWalk};
+ghost use Rattle.pane_index.specs.Out.{outView, outKind, outSave};
 use field::index::Stream;
-use field::index::TypeIndex;
+use pane_state::entry_of;
 use stream_finder::FinderAnswer;
 use stream_finder::ItemFinder;
 use stream_index::IndexAnswer;
-use stream_item::Entry;
-use stream_item::Item;
 use stream_places::SaveAnswer;
 use stream_view::RawKindAnswer;
 use stream_view::ViewAnswer;
@@ -53,7 +50,7 @@ pub extern "C" fn pdb_create(s: &[u8], table: &mut [u32], shift: u32, out: &mut 
 // and its two details. The table has the places of the finder. Where the creation is refused, so is the call, and the table is as it was.
 #[no_mangle]
 pub extern "C" fn pdb_index(s: &[u8], table: &mut [u32], shift: u32, out: &mut [u64; 11]) -> u32
-    ensures { λ r. ⌜ (r, now (out .exit), now (table .exit)) ≡ outWalk (now (table .entry)) (indexOf shift Types (now (s .entry)) (now (table .entry))) ⌝ }
+    ensures { λ r. ⌜ (r, now (out .exit), now (table .exit)) ≡ outWalk (now (table .entry)) (indexAllBy shift Types (now (s .entry)) (now (table .entry))) ⌝ }
 {
     match stream_index::index_all_by(Stream::Types, s, table, shift) {
         IndexAnswer::Answered(t) => {
@@ -94,46 +91,21 @@ pub extern "C" fn pdb_max_index(minimum: u32, maximum: u32, held: usize, shift: 
     highest.0
 }
 
-// The index that C names: of the id stream where `ids` is set, else of the type stream.
-fn index_of(ids: u32, index: u32) -> ItemIndex
-    ensures { λ r. ⌜ r ≡ indexAt ids index ⌝ }
-{
-    if pane_out::is_set(ids) {
-        return ItemIndex::Ids(IdIndex(index));
-    }
-    ItemIndex::Types(TypeIndex(index))
-}
-
-// The entry that C names.
-fn entry_of(ids: u32, is_record: u32, index: u32, place: usize, length: usize) -> Entry
-    ensures { λ r. ⌜ r ≡ entryAt ids «is_record» index place length ⌝ }
-{
-    let named = index_of(ids, index);
-    if pane_out::is_set(is_record) {
-        return Entry::Record(Item {
-            index: named,
-            place: place,
-            length: length,
-        });
-    }
-    Entry::Marker(named)
-}
-
 // Where an entry's bytes lie, of the two streams in the one that its index names. Behind `out`: the details, their place and their length.
 #[no_mangle]
 pub extern "C" fn pdb_view<'a>(
     tpi: &'a [u8],
     ipi: &'a [u8],
     ids: u32,
-    is_record: u32,
+    item: u32,
     index: u32,
     place: usize,
     length: usize,
     out: &mut [u64; 4],
 ) -> u32
-    ensures { λ r. ⌜ (r, now (out .exit)) ≡ outView (viewOf (now (tpi .entry)) (now (ipi .entry)) (entryAt ids «is_record» index place length)) ⌝ }
+    ensures { λ r. ⌜ (r, now (out .exit)) ≡ outView (viewOf (now (tpi .entry)) (now (ipi .entry)) (entryAt ids item index place length)) ⌝ }
 {
-    let entry = entry_of(ids, is_record, index, place, length);
+    let entry = entry_of(ids, item, index, place, length);
     match stream_view::why(tpi, ipi, entry) {
         ViewAnswer::Answered(p, n) => {
             *out = [0, 0, p as u64, n as u64];
@@ -152,15 +124,15 @@ pub extern "C" fn pdb_kind(
     tpi: &[u8],
     ipi: &[u8],
     ids: u32,
-    is_record: u32,
+    item: u32,
     index: u32,
     place: usize,
     length: usize,
     out: &mut [u64; 3],
 ) -> u32
-    ensures { λ r. ⌜ (r, now (out .exit)) ≡ outKind (rawKindOf (now (tpi .entry)) (now (ipi .entry)) (entryAt ids «is_record» index place length)) ⌝ }
+    ensures { λ r. ⌜ (r, now (out .exit)) ≡ outKind (rawKindOf (now (tpi .entry)) (now (ipi .entry)) (entryAt ids item index place length)) ⌝ }
 {
-    let entry = entry_of(ids, is_record, index, place, length);
+    let entry = entry_of(ids, item, index, place, length);
     match stream_view::raw_kind(tpi, ipi, entry) {
         RawKindAnswer::Answered(k) => {
             *out = [0, 0, k as u64];

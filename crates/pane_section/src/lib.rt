@@ -1,41 +1,26 @@
 // Sections of object files, R-6 of document 02, for a caller that is written in C, through plain numbers and byte slices: where a walk of a section starts,
-// how many records it has, a finder over it, a whole section indexed, the type stream made of it, and its records and lists, each by the reader that takes
-// its leaf. A record of the walk is pdb_next, a lookup pdb_find, and an element pdb_step, on the section's bytes as they are.
+// how many records it has, a finder over it, a whole section indexed, the type stream made of it, and its records' lists. A record of the walk
+// is pdb_next, a lookup pdb_find, a record's data pdb_section_read of crates/pane_parse, and an element pdb_step, on the section's bytes as they are.
 //
 // The result is a refusal's number, 0 for an answer. Behind `out`, which is written whole by every call: the two detail values, then the answer's fields, 0
 // where there is none. Each contract is one equation with the definition that the plain function's contract cites (specs/Out.antt).
 ghost use mathlib.Core.Path.{_≡_};
-ghost use mathlib.Core.List.{_∷_, _++_};
-ghost use lib.ListN.{replicate};
-ghost use Rattle.record_data.specs.Said.{typeValues};
-ghost use Rattle.record_id.specs.Said.{idValues};
 ghost use Rattle.record_list.specs.Lists.{startOf};
 ghost use Rattle.section_item.specs.Sections as section;
 ghost use Rattle.section_finder.specs.Finders.{createBy};
 ghost use Rattle.section_stream.specs.Streams.{streamOf};
-ghost use Rattle.section_read.specs.Readers.{readerAt, readOf};
+ghost use Rattle.section_read.specs.Readers.{readerAt};
 ghost use Rattle.write_layout.specs.Buffer.{lay};
 ghost use Rattle.pane_state.specs.Finders.{outFinder};
 ghost use Rattle.pane_state.specs.Walk.{outWalk};
-ghost use Rattle.pane_row.specs.TypePlaces.{typeRow};
-ghost use Rattle.pane_row.specs.IdPlaces.{idRow};
-ghost use Rattle.pane_section.specs.Out.{entryAt, outStart, outCount, indexOf, outStream, outRead, outList};
-use field::index::ItemIndex;
-use field::index::TypeIndex;
+ghost use Rattle.pane_section.specs.Out.{outStart, outCount, indexOf, outStream, outList};
 use pane_out::first;
 use pane_out::second;
 use pane_row::cursor_row;
-use pane_row::id_row;
-use pane_row::type_row;
 use pane_state::walk_out;
-use record_data::TypeData;
-use record_id::IdData;
 use record_list::StartAnswer;
-use record_parse::ParseAnswer;
 use stream_finder::FinderAnswer;
 use stream_index::IndexAnswer;
-use stream_item::Entry;
-use stream_item::Item;
 use stream_item::information::LenAnswer;
 use stream_item::iter::IterAnswer;
 use write_pieces::WriteAnswer;
@@ -140,127 +125,6 @@ pub extern "C" fn pdb_section_stream(s: &[u8], buffer: &mut [u8], out: &mut [u64
         }
         WriteAnswer::Refused(e) => {
             *out = [first(e), second(e), 0];
-            e.number()
-        }
-    }
-}
-
-// What goes behind `out` for a type record, and for an id record.
-
-fn type_out(d: TypeData) -> [u64; 16]
-    ensures { λ r. ⌜ r ≡ 0 ∷ 0 ∷ 0 ∷ typeRow (typeValues d) ⌝ }
-{
-    let r = type_row(d);
-    [
-        0,
-        0,
-        0,
-        r[2],
-        r[3],
-        r[4],
-        r[5],
-        r[6],
-        r[7],
-        r[8],
-        r[9],
-        r[10],
-        r[11],
-        r[12],
-        r[13],
-        r[14],
-    ]
-}
-
-fn id_out(d: IdData) -> [u64; 16]
-    ensures { λ r. ⌜ r ≡ 0 ∷ 0 ∷ 1 ∷ (idRow (idValues d) ++ replicate 3 0) ⌝ }
-{
-    let r = id_row(d);
-    [
-        0,
-        0,
-        1,
-        r[2],
-        r[3],
-        r[4],
-        r[5],
-        r[6],
-        r[7],
-        r[8],
-        r[9],
-        r[10],
-        r[11],
-        0,
-        0,
-        0,
-    ]
-}
-
-// A record of a section by its index, place and length, as pdb_next and pdb_find give them. Behind `out`: the details; 0 for a type, 1 for an id and 2 for a
-// primitive, which any index below 0x1000 is; then what pdb_type, pdb_id or pdb_primitive has behind the details.
-#[no_mangle]
-pub extern "C" fn pdb_section_read(
-    s: &[u8],
-    index: u32,
-    place: usize,
-    length: usize,
-    out: &mut [u64; 16],
-) -> u32
-    ensures { λ r. ⌜ (r, now (out .exit)) ≡ outRead index (readOf (now (s .entry)) (entryAt index place length)) ⌝ }
-{
-    let item = Item {
-        index: ItemIndex::Types(TypeIndex(index)),
-        place: place,
-        length: length,
-    };
-    match section_read::parse(s, Entry::Record(item)) {
-        ParseAnswer::Type(d) => {
-            *out = type_out(d);
-            0
-        }
-        ParseAnswer::Id(d) => {
-            *out = id_out(d);
-            0
-        }
-        ParseAnswer::Primitive(_) => {
-            *out = [
-                0,
-                0,
-                2,
-                (index % 256) as u64,
-                (index / 256 % 16) as u64,
-                0,
-                0,
-                0,
-                0,
-                0,
-                0,
-                0,
-                0,
-                0,
-                0,
-                0,
-            ];
-            0
-        }
-        ParseAnswer::Refused(e) => {
-            *out = [
-                first(e),
-                second(e),
-                0,
-                0,
-                0,
-                0,
-                0,
-                0,
-                0,
-                0,
-                0,
-                0,
-                0,
-                0,
-                0,
-                0,
-            ];
             e.number()
         }
     }

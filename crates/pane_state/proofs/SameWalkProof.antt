@@ -1,4 +1,4 @@
--- A walk does not depend on which of the two streams it counts in, but for the cursor's tag, which C does not get. Assumes nothing.
+-- A walk as a function says what the contract says, without a bound on its turns, and of both streams the same but for the cursor's tag, which C does not get. Assumes nothing.
 use Prim.Native.Nat.{ℕ, zero, suc, _+_}
 use mathlib.Core.Bool.{Bool, true, false}
 use mathlib.Core.Path.{_≡_, refl, sym, ap, _∙_}
@@ -16,7 +16,8 @@ use Rattle.stream_item.specs.declared.iter.ItemIter.{ItemIter}
 use Rattle.stream_finder.specs.Finder.{State, createBy, updateOf}
 use Rattle.stream_index.specs.Walk.{Turn, over, moved, updating, turnOf}
 use Rattle.pane_state.specs.Given.{cursorAt}
-use Rattle.pane_state.specs.Walk.{Arrived, arrived, onward, walkUpTo, walkOf, indexOf, outWalk, SameWalk}
+use Rattle.pane_state.specs.Walk.{Arrived, arrived, onward, walkUpTo, walkOf, indexAllBy, outWalk, SameWalk}
+use Rattle.pane_state.proofs.WalkLaws.{walk-is, walk-back, walk-enough}
 
 abbrev tagged : Stream → ItemIter → ItemIter
 tagged tag c = record { stream = tag; at = c .at; index = c .index }
@@ -92,8 +93,8 @@ begun : (s t : List ℕ) (σ : State) (a : Answer Header)
 begun s t σ (answered h) = walk-as t s Ids (length s) (cursorAt (h .«header_size») (h .«minimum_index»)) σ
 begun s t σ (refused n x) = refl
 
-index-ids : (shift : ℕ) (s t : List ℕ) → outWalk t (indexOf shift Ids s t) ≡ outWalk t (indexOf shift Types s t)
-unfolding indexOf iterOf
+index-ids : (shift : ℕ) (s t : List ℕ) → outWalk t (indexAllBy shift Ids s t) ≡ outWalk t (indexAllBy shift Types s t)
+unfolding indexAllBy iterOf
 index-ids shift s t = go (createBy shift s t)
   where
     go : (a : Answer State) → outWalk t (then a (λ σ. then (iterOf Ids s) (λ c. answered (walkOf s c σ)))) ≡ outWalk t (then a (λ σ. then (iterOf Types s) (λ c. answered (walkOf s c σ))))
@@ -101,4 +102,4 @@ index-ids shift s t = go (createBy shift s t)
     go (refused n x) = refl
 
 pub same-walk : SameWalk
-same-walk = record { of-ids = index-ids }
+same-walk = record { contract = walk-is; back = walk-back; enough = walk-enough; of-ids = index-ids }

@@ -1,23 +1,24 @@
--- A walk by its contract in stream_index, so many turns and then none, ends where `walkOf` says. Assumes nothing.
+-- A walk by its contract in stream_index, so many turns and then none, ends where `walkOf` says; and where `walkOf` ends, so many turns have led. Assumes nothing.
 use Prim.Native.Nat.{ℕ, zero, suc, _+_, _-_, _≤_}
-use mathlib.Core.Path.{_≡_, sym, ap, _∙_, subst}
+use mathlib.Core.Bool.{false}
+use mathlib.Core.Path.{_≡_, refl, sym, ap, _∙_, subst}
 use mathlib.Core.List.{List}
 use native.Mathlib.Omega.{arith}
 use lib.ListN.{length}
-use Rattle.answer.specs.Answer.{Answer, answered, then}
+use Rattle.answer.specs.Answer.{Answer, answered, refused, then}
 use Rattle.answer.specs.declared.Refusal.{Refusal}
 use Rattle.field.specs.declared.index.Stream.{Stream}
 use Rattle.stream_item.specs.Iterator.{iterOf}
 use Rattle.stream_item.specs.declared.iter.ItemIter.{ItemIter}
 use Rattle.stream_finder.specs.Finder.{State, state}
-use Rattle.stream_index.specs.Walk.{moved, turnOf, Turns, none, more, saidEnd, Walks, IndexesBy}
+use Rattle.stream_index.specs.Walk.{Turn, over, moved, turnOf, Turns, none, more, saidEnd, Walks, IndexesBy}
 use Rattle.stream_index.specs.declared.End.{End}
 use Rattle.stream_index.specs.declared.End.the-variants as end
 use Rattle.stream_index.specs.declared.Tour.{Tour}
 use Rattle.stream_index.specs.declared.IndexAnswer.{IndexAnswer}
 use Rattle.stream_index.specs.declared.IndexAnswer.the-variants as walk
 use Rattle.stream_index.proofs.WalkLaws.{Further, turn-further}
-use Rattle.pane_state.specs.Walk.{Arrived, arrived, onward, walkUpTo, walkOf, indexOf, saidIndex}
+use Rattle.pane_state.specs.Walk.{Arrived, arrived, onward, walkUpTo, walkOf, indexAllBy, saidIndex, moves, Led}
 
 -- ---- there are no more turns than bytes
 turns-on : (s : List ℕ) (c : ItemIter) (σ : State) (n : ℕ) (d : ItemIter) (τ : State) → Turns s c σ n d τ → c .at + n ≤ d .at
@@ -58,9 +59,71 @@ walk-is s c σ r t′ w =
     ∙ walk-turns (length s - w .turns) s c σ (w .turns) (r .cursor) (state (r .finder) t′) (w .led)
     ∙ walk-ends (length s - w .turns) s (r .cursor) (state (r .finder) t′) (r .end) (sym (w .ended))
 
+-- ---- m turns are enough where so many bytes or fewer are left, since a turn goes over some
+module _ (s : List ℕ) where
+  no-turn : (c : ItemIter) (σ τ : State) (d : ItemIter) → length s ≤ c .at → turnOf s σ c ≡ answered (moved τ d) → ⊥
+  no-turn c σ τ d l e =
+      let m : Further s c d = turn-further s σ c τ d e in
+      omega (arith, m .on, m .inside)
+
+  at-end : (k : ℕ) (c : ItemIter) (σ : State) → length s ≤ c .at → walkUpTo k s c σ ≡ walkUpTo 0 s c σ
+  unfolding walkUpTo
+  at-end zero c σ l = refl
+  at-end (suc k) c σ l = go (turnOf s σ c) refl
+    where
+      go : (a : Answer Turn) → turnOf s σ c ≡ a → onward (walkUpTo k s) c σ a ≡ arrived c σ a
+      go (answered over) e = refl
+      go (answered (moved τ d)) e = absurd (no-turn c σ τ d l e)
+      go (refused n x) e = refl
+
+  with-more : (m k : ℕ) (c : ItemIter) (σ : State) → length s ≤ c .at + m → walkUpTo (m + k) s c σ ≡ walkUpTo m s c σ
+  unfolding walkUpTo
+  with-more zero k c σ l =
+      let e : 0 + k ≡ k = omega arith in
+      ap (λ (n : ℕ). walkUpTo n s c σ) e ∙ at-end k c σ (omega arith)
+  with-more (suc m) k c σ l =
+      let e : suc m + k ≡ suc (m + k) = omega arith in
+      ap (λ (n : ℕ). walkUpTo n s c σ) e ∙ go (λ d τ h. with-more m k d τ h) (turnOf s σ c) refl
+    where
+      go : ((d : ItemIter) (τ : State) → length s ≤ d .at + m → walkUpTo (m + k) s d τ ≡ walkUpTo m s d τ)
+          → (a : Answer Turn) → turnOf s σ c ≡ a → onward (walkUpTo (m + k) s) c σ a ≡ onward (walkUpTo m s) c σ a
+      go h (answered over) e = refl
+      go h (answered (moved τ d)) e =
+          let f : Further s c d = turn-further s σ c τ d e in
+          h d τ (omega (arith, f .on))
+      go h (refused n x) e = refl
+
+  pub walk-enough : (c : ItemIter) (σ : State) (n : ℕ) → length s ≤ n → walkUpTo n s c σ ≡ walkOf s c σ
+  walk-enough c σ n l =
+      let k : n ≡ length s + (n - length s) = omega arith in
+      ap (λ (m : ℕ). walkUpTo m s c σ) k ∙ with-more (length s) (n - length s) c σ (omega arith)
+
+-- ---- and back: where it ends so many turns have led
+module _ (s : List ℕ) (c : ItemIter) (σ : State) where
+  walk-led : (m n : ℕ) (d : ItemIter) (τ : State) → Turns s c σ n d τ → length s ≤ d .at + m → Led s c σ (walkUpTo m s d τ)
+  unfolding walkUpTo
+  walk-led zero n d τ w l = record { turns = n; led = w; ended = refl; still = go (turnOf s τ d) refl }
+    where
+      go : (a : Answer Turn) → turnOf s τ d ≡ a → moves a ≡ false
+      go (answered over) e = refl
+      go (answered (moved ρ x)) e = absurd (no-turn s d τ ρ x (omega arith) e)
+      go (refused k x) e = refl
+  walk-led (suc m) n d τ w l = go (λ k x ρ v h. walk-led m k x ρ v h) (turnOf s τ d) refl
+    where
+      go : ((k : ℕ) (x : ItemIter) (ρ : State) → Turns s c σ k x ρ → length s ≤ x .at + m → Led s c σ (walkUpTo m s x ρ))
+          → (a : Answer Turn) → turnOf s τ d ≡ a → Led s c σ (onward (walkUpTo m s) d τ a)
+      go h (answered over) e = record { turns = n; led = w; ended = e; still = refl }
+      go h (answered (moved ρ x)) e =
+          let f : Further s d x = turn-further s τ d ρ x e in
+          h (suc n) x ρ (more w e) (omega (arith, f .on))
+      go h (refused k x) e = record { turns = n; led = w; ended = e; still = refl }
+
+  pub walk-back : Led s c σ (walkOf s c σ)
+  walk-back = walk-led (length s) 0 c σ none (omega arith)
+
 -- ---- a whole stream's
-index-is : (shift : ℕ) (tag : Stream) (s t : List ℕ) (r : IndexAnswer) (t′ : List ℕ) → IndexesBy shift tag s t r t′ → indexOf shift tag s t ≡ saidIndex r t′
-unfolding indexOf
+index-is : (shift : ℕ) (tag : Stream) (s t : List ℕ) (r : IndexAnswer) (t′ : List ℕ) → IndexesBy shift tag s t r t′ → indexAllBy shift tag s t ≡ saidIndex r t′
+unfolding indexAllBy
 index-is shift tag s t (walk.Answered r) t′ w =
     ap (λ (a : Answer State). then a (λ σ. then (iterOf tag s) (λ c. answered (walkOf s c σ)))) (w .created)
     ∙ ap (λ (a : Answer ItemIter). then a (λ c. answered (walkOf s c (w .fresh)))) (w .begun)
@@ -68,7 +131,7 @@ index-is shift tag s t (walk.Answered r) t′ w =
 index-is shift tag s t (walk.Refused e) t′ w = ap (λ (a : Answer State). then a (λ σ. then (iterOf tag s) (λ c. answered (walkOf s c σ)))) (w .0)
 
 -- at the case x that the answer is known to be
-pub index-told : (shift : ℕ) (tag : Stream) (s t : List ℕ) (r : IndexAnswer) (t′ : List ℕ) (x : IndexAnswer) → IndexesBy shift tag s t r t′ → r ≡ x → indexOf shift tag s t ≡ saidIndex x t′
+pub index-told : (shift : ℕ) (tag : Stream) (s t : List ℕ) (r : IndexAnswer) (t′ : List ℕ) (x : IndexAnswer) → IndexesBy shift tag s t r t′ → r ≡ x → indexAllBy shift tag s t ≡ saidIndex x t′
 index-told shift tag s t r t′ x w e = index-is shift tag s t r t′ w ∙ ap (λ (y : IndexAnswer). saidIndex y t′) e
 
 -- a refused one leaves the table

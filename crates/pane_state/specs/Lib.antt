@@ -1,3 +1,4 @@
 pub mod Given
 pub mod Finders
 pub mod Walk
+pub mod Entries

@@ -4,6 +4,7 @@ use mathlib.Core.Path.{_≡_, refl}
 use mathlib.Core.List.{[], _∷_}
 use native.Mathlib.Omega.{arith}
 use Rattle.answer.specs.Answer.{answered, refused}
+use Rattle.answer.specs.declared.Refusal.the-variants as refusal
 use Rattle.field.specs.Fields.{littleAt}
 use Rattle.field.specs.Indices.{indexIn}
 use Rattle.stream_item.specs.Links.{linkOf, chain, linkAt}
@@ -15,7 +16,11 @@ use Rattle.stream_finder.specs.Finder.{holdingIn}
 use Rattle.stream_item.specs.declared.Entry.the-variants as entry
 use Rattle.section_item.specs.Sections.{first, startOf, walkBy, lastOf, countOf}
 use Rattle.section_item.proofs.Examples.{sectionE}
-use Rattle.section_finder.specs.Finders.{sectionRun, createBy}
+use Rattle.stream_index.specs.Walk as index
+use Rattle.stream_index.specs.Walk.{turnOf}
+use Rattle.stream_index.specs.declared.End.the-variants as end
+use Rattle.stream_index.specs.declared.IndexAnswer.the-variants as walk
+use Rattle.section_finder.specs.Finders.{sectionRun, createBy, Indexes}
 use Rattle.section_finder.specs.Demand.{Premises}
 
 -- a fresh finder of it stores 4 in place 0
@@ -56,3 +61,16 @@ premisesE d l = record {
   walked = more (more none refl) refl;
   upto = l;
 }
+
+-- indexed whole: two turns, then the end; one place is stored. Without its signature it is refused, and the table stays
+pub indexE : Indexes sectionE (0 ∷ []) (walk.Answered (record { finder = holdingIn (sectionRun 2) 3 1; cursor = record { stream = Types; at = 26; index = 4098 }; end = end.Done })) (4 ∷ [])
+unfolding createBy countOf startOf lastOf walkBy turnOf nextOf updateOf littleAt
+indexE = record {
+  fresh = state (holdingIn (sectionRun 2) 3 1) (4 ∷ []);
+  created = refl;
+  walks = record { turns = 2; led = index.more (index.more index.none refl) refl; ended = refl };
+}
+
+pub index2 : Indexes (2 ∷ 0 ∷ 0 ∷ 0 ∷ []) (7 ∷ []) (walk.Refused refusal.Signature) (7 ∷ [])
+unfolding createBy countOf startOf littleAt
+index2 = (refl, refl)

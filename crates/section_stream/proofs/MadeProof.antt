@@ -4,8 +4,8 @@ use mathlib.Core.Path.{_≡_, refl, sym, ap, _∙_, subst}
 use mathlib.Core.List.{List, [], _∷_, _++_}
 use mathlib.Core.Bool.{Bool, true, false}
 use native.Mathlib.Omega.{arith}
-use lib.ListN.{length, getD, drop}
-use lib.Seq.{getD-append-add, getD-drop}
+use lib.ListN.{length, getD, take, drop}
+use lib.Seq.{getD-append-add, getD-drop, drop-drop, drop-append-seam}
 use lib.Dec.{leb, ltb}
 use borrow.Author.Tests.{le-leb, lt-leb, le-ltb, lt-ltb, leb-true, leb-false, ltb-true, ltb-false}
 use Rattle.answer.specs.Answer.{Answer, answered, refused, pick, stop, then}
@@ -203,7 +203,28 @@ narrow n size a b = record {
   adj-size = omega arith;
 }
 
-module _ (s : List ℕ) (n : ℕ) (k : Counted s n) (short : length s + 52 ≤ longest) where
+-- ---- the records, byte for byte
+records-same : (n : ℕ) (s : List ℕ) → drop 56 (streamBytes n s) ≡ drop 4 s
+unfolding streamBytes
+records-same n s =
+    ap (λ (k : ℕ). drop k (headerFields (headerFor n (length s - 4)) ++ drop 4 s)) (sym (head-length n (length s - 4)))
+    ∙ drop-append-seam (headerFields (headerFor n (length s - 4))) (drop 4 s)
+
+bytes-kept : (n : ℕ) (s : List ℕ) (p k : ℕ) → 4 ≤ p → take k (drop (p + 52) (streamBytes n s)) ≡ take k (drop p s)
+bytes-kept n s p k l =
+    let e : 56 + (p - 4) ≡ p + 52 = omega arith in
+    let f : 4 + (p - 4) ≡ p = omega arith in
+    ap (take k)
+    (ap (λ (q : ℕ). drop q (streamBytes n s)) (sym e)
+    ∙ sym (drop-drop (p - 4) 56 (streamBytes n s))
+    ∙ ap (drop (p - 4)) (records-same n s)
+    ∙ drop-drop (p - 4) 4 s
+    ∙ ap (λ (q : ℕ). drop q s) f)
+
+module _ (s : List ℕ) (n : ℕ) (e : countOf s ≡ answered n) (short : length s + 52 ≤ longest) where
+  k : Counted s n
+  k = counted s n e
+
   four : 4 ≤ length s
   four = k .begun .four
 
@@ -229,7 +250,10 @@ module _ (s : List ℕ) (n : ℕ) (k : Counted s n) (short : length s + 52 ≤ l
 
   made : Made s (streamBytes n s) n
   made = record {
+    counted = e;
     long = h .long;
+    records = records-same n s;
+    kept = bytes-kept n s;
     accepted = head-accepted;
     begun = iter-is Types (streamBytes n s) (headerFor n (length s - 4)) head-accepted;
     walk = step-up s (streamBytes n s) h short;
@@ -248,5 +272,5 @@ stream-made s m e =
     go : length s + 52 ≤ longest → (a : Answer ℕ) → countOf s ≡ a → then a (λ n. answered (streamBytes n s)) ≡ answered m → (n : ℕ) × Made s m n
     go short (answered n) p q =
         let w : streamBytes n s ≡ m = cc in
-        (n, subst (λ (x : List ℕ). Made s x n) w (made s n (counted s n p) short))
+        (n, subst (λ (x : List ℕ). Made s x n) w (made s n p short))
     go short (refused k d) p q = let z : _≡_ {A = ℕ} 0 1 = cc in absurd (omega arith)

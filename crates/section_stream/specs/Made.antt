@@ -1,9 +1,9 @@
--- R-6 of document 02: what is true of the stream that is made of a section: its header is accepted, its walk is the section's with places 52
--- higher, and its lookups agree.
+-- R-6 of document 02: what is true of the stream that is made of a section: its header is accepted, and counts as many records as the section has; its
+-- records are the section's, byte for byte; its walk is the section's with places 52 higher, and its lookups agree.
 use Prim.Native.Nat.{ℕ, _+_, _-_, _≤_}
 use mathlib.Core.Path.{_≡_}
 use mathlib.Core.List.{List}
-use lib.ListN.{length}
+use lib.ListN.{length, take, drop}
 use Rattle.answer.specs.Answer.{Answer, answered, refused}
 use Rattle.stream_header.specs.Header.{headerOf}
 use Rattle.field.specs.Indices.{indexIn}
@@ -18,7 +18,7 @@ use Rattle.stream_item.specs.declared.link.Hit.{Hit}
 use Rattle.stream_item.specs.declared.link.Hit.the-variants.{Landed, Missed}
 use Rattle.stream_finder.specs.Finder.{State, Found, findOf}
 use Rattle.stream_finder.specs.Demand as stream
-use Rattle.section_item.specs.Sections.{first}
+use Rattle.section_item.specs.Sections.{first, countOf}
 use Rattle.section_finder.specs.Demand as section
 use Rattle.section_stream.specs.Streams.{headerFor, streamOf}
 
@@ -48,7 +48,11 @@ upFound (refused n x) = refused n x
 
 -- of the stream m that was made of the section s, n being its records
 pub record Made (s m : List ℕ) (n : ℕ) : Type 0 where
+  pub counted : countOf s ≡ answered n
   pub long : length m ≡ length s + 52
+  -- behind the header stands what stood behind the signature; so the bytes at a place of the section are those 52 higher, and a payload's are kept
+  pub records : drop 56 m ≡ drop 4 s
+  pub kept : (p k : ℕ) → 4 ≤ p → take k (drop (p + 52) m) ≡ take k (drop p s)
   -- the header is accepted, field by field what it was written as, and a fresh iterator stands where the section's does
   pub accepted : headerOf m ≡ answered (headerFor n (length s - 4))
   pub begun : iterOf Types m ≡ answered (upCursor first)

@@ -1,3 +1,4 @@
 pub mod ElementLaws
 pub mod ListLaws
 pub mod ListBack
+pub mod Lists17

@@ -2,10 +2,11 @@
 use Prim.Native.Nat.{ℕ, zero, suc, _+_, _-_, _*_, _%_, _^_, _≤_, _<_}
 use native.Mathlib.Omega.{arith}
 use mathlib.Core.Bool.{Bool, true, false}
-use mathlib.Core.Path.{_≡_, refl, ap, sym, _∙_}
-use mathlib.Core.List.{List, [], _∷_, _++_, append-assoc, append-nil}
+use mathlib.Core.Path.{_≡_, refl, ap, sym, subst, _∙_}
+use mathlib.Core.List.{List, [], _∷_, _++_, map, append-assoc, append-nil}
 use mathlib.Core.Option.{Option, none, some}
-use lib.ListN.{length, drop, length-append, length-drop}
+use lib.ListN.{length, take, drop, length-append, length-drop}
+use lib.Seq.{take-at, drop-at}
 use lib.Dec.{leb, ltb, eqb, lit<}
 use borrow.Author.Tests.{le-leb, lt-leb, lt-ltb, ltb-true, ltb-false, eqb-true}
 use Rattle.answer.specs.Answer.{Answer, answered, refused, got, pick, stop, then, and-then}
@@ -14,15 +15,17 @@ use Rattle.field.specs.Fields.{fixedAt}
 use Rattle.field.specs.Bytes.{bytes}
 use Rattle.field.proofs.ByteLaws.{Stands, first, next, fixed-back, length-bytes}
 use Rattle.field_number.specs.Forms.{formOf}
-use Rattle.record_layout.specs.Fields.{Shown, number, numeral, absent, many, Field, gap, wordAfter}
+use Rattle.record_layout.specs.Fields.{Shown, number, numeral, absent, many, plain, Field, gap, wordAfter}
 use Rattle.word_attributes.specs.Words.{introducing}
 use Rattle.record_layout.specs.Layouts.{A, T, offset, Layout, Table, memberLeaves, method, readLeaf, readRecord}
-use Rattle.record_member.specs.Said.{leafIn}
-use Rattle.record_list.specs.Lists.{ElementValues, memberElement, methodElement, Step, stepTo, toTheEnd, afterMember, startTypes, startOf, leftAfter, memberStep, methodStep, nextMember, stepOf, elementBy, elementOf}
+use Rattle.record_member.specs.Said.{leafIn, memberValues, entryValues}
+use Rattle.record_member.specs.declared.Member.{Member}
+use Rattle.record_member.specs.declared.MethodListEntry.{MethodListEntry}
+use Rattle.record_list.specs.Lists.{ElementValues, typeElement, idElement, memberElement, methodElement, Step, stepTo, toTheEnd, afterMember, startTypes, startOf, leftAfter, memberStep, methodStep, nextMember, stepOf, elementBy, elementOf}
 use Rattle.record_list.specs.declared.ListCursor.{ListCursor}
 use Rattle.field.specs.declared.index.Stream.the-variants as stream
-use Rattle.write_layout.specs.Runs.{pads}
-use Rattle.write_layout.specs.Fields.{ToWrite, givenAll, Encoded, bad, fixedBytes, ofNumber, ofAbsent, and-also, writeField, writeFields}
+use Rattle.write_layout.specs.Runs.{partAt, pads}
+use Rattle.write_layout.specs.Fields.{ToWrite, bytesIn, givenAll, Encoded, bad, fixedBytes, ofNumber, ofAbsent, and-also, writeField, writeFields}
 use Rattle.write_layout.specs.Records.{byLayout, writeLeaf, missing, filled, whole, recordBytes}
 use Rattle.write_layout.specs.Lists.{filledMember, filledEach, memberBytes, ends, membersBytes, methodsBytes, fieldListBytes, methodListBytes}
 use Rattle.write_layout.specs.RoundTrip.{NoShorter}
@@ -31,7 +34,9 @@ use Rattle.write_layout.proofs.Back.{refusal, passed, Both, written-both, BackA
 use Rattle.write_layout.proofs.Padding.{missing-few, missing-fills, quiet, padding-back}
 use Rattle.write_layout.proofs.RoundTripProof.{no-shorter}
 use Rattle.write_pieces.proofs.RecordLaws.{member-length}
-use Rattle.write_list.specs.ListsBack.{Shows, ElementIs, ListBack, ListsReadBack}
+use Rattle.write_row.specs.Rows.{rowValues, listMethod, memberRows, methodRows, memberRow, methodRow, RowsShow}
+use Rattle.write_row.proofs.RowLaws.{rows-show}
+use Rattle.write_list.specs.ListsBack.{Shows, ElementIs, ListBack, MemberAt, InFours, ElementsAre, payloadIn, ListsReadBack}
 use Rattle.write_list.proofs.ListLaws.{fixed-long, gap-long, nothing-long, offset-long}
 
 -- A record anywhere ---------------------------------------------------------------------------------------------------------------
@@ -73,7 +78,7 @@ by-layout table (some fs) leaf vs s p bs zs ys f w r st e =
       found = f;
     }
 
-record-back : (table : Table) (vs : List ToWrite) (s : List ℕ) (p : ℕ) (bs ys : List ℕ) → writeLeaf table vs ≡ answered bs → Stands s p bs ys → RecordBack table s p bs vs
+pub record-back : (table : Table) (vs : List ToWrite) (s : List ℕ) (p : ℕ) (bs ys : List ℕ) → writeLeaf table vs ≡ answered bs → Stands s p bs ys → RecordBack table s p bs vs
 unfolding writeLeaf fixedBytes
 record-back table [] s p bs ys w st = refusal w
 record-back table (numeral z u ∷ vs) s p bs ys w st = refusal w
@@ -120,12 +125,12 @@ leaf-quiet leaf fs =
 -- Members -------------------------------------------------------------------------------------------------------------------------
 
 -- a member that was written: its bytes before they were filled
-record Plain (vs : List ToWrite) (fb : List ℕ) : Type 0 where
-  plain : List ℕ
-  said : writeLeaf memberLeaves vs ≡ answered plain
-  filling : filledMember plain ≡ fb
+pub record Plain (vs : List ToWrite) (fb : List ℕ) : Type 0 where
+  pub plain : List ℕ
+  pub said : writeLeaf memberLeaves vs ≡ answered plain
+  pub filling : filledMember plain ≡ fb
 
-plain-of : (vs : List ToWrite) (fb : List ℕ) → memberBytes vs ≡ answered fb → Plain vs fb
+pub plain-of : (vs : List ToWrite) (fb : List ℕ) → memberBytes vs ≡ answered fb → Plain vs fb
 unfolding memberBytes filledEach
 plain-of vs fb w = go (writeLeaf memberLeaves vs) refl w
   where
@@ -427,7 +432,7 @@ module _ (leaf : ℕ) (l : leaf < 65536) (kind : List Shown → ElementValues) (
 started : (leaf : ℕ) (bs : List ℕ) → leaf < 65536 → Stands (bytes 2 leaf ++ bs) 0 (bytes 2 leaf ++ bs) []
 started leaf bs h = record { inside = omega arith; here = sym (append-nil (bytes 2 leaf ++ bs)) }
 
-fields-element : (vss : List (List ToWrite)) (bs : List ℕ) → membersBytes false vss ≡ answered bs → (k : ℕ)
+pub fields-element : (vss : List (List ToWrite)) (bs : List ℕ) → membersBytes false vss ≡ answered bs → (k : ℕ)
     → ElementIs memberElement (bytes 2 0x1203 ++ bs) vss k (elementOf stream.Types (bytes 2 0x1203 ++ bs) k)
 unfolding elementOf startOf startTypes
 fields-element vss bs w k =
@@ -437,7 +442,7 @@ fields-element vss bs w k =
     let n = next s 0 (bytes 2 0x1203) bs [] st in
     rw f (members-back false vss bs s (0 + length (bytes 2 0x1203)) w n k _ (leads-first s (0 + length (bytes 2 0x1203))))
 
-methods-element : (vss : List (List ToWrite)) (bs : List ℕ) → methodsBytes vss ≡ answered bs → (k : ℕ)
+pub methods-element : (vss : List (List ToWrite)) (bs : List ℕ) → methodsBytes vss ≡ answered bs → (k : ℕ)
     → ElementIs methodElement (bytes 2 0x1206 ++ bs) vss k (elementOf stream.Types (bytes 2 0x1206 ++ bs) k)
 unfolding elementOf startOf startTypes
 methods-element vss bs w k =
@@ -447,9 +452,172 @@ methods-element vss bs w k =
     let n = next s 0 (bytes 2 0x1206) bs [] st in
     rw f (methods-back vss bs s (0 + length (bytes 2 0x1206)) w n k)
 
+-- what a list was made of: its elements' bytes, behind length and leaf
+pub record Made (leaf : ℕ) (b : Encoded) (rs : List ℕ) : Type 0 where
+  pub elements : List ℕ
+  pub are : b ≡ answered elements
+  pub link : rs ≡ bytes 2 (length (bytes 2 leaf ++ elements)) ++ (bytes 2 leaf ++ elements)
+
+pub list-made : (leaf : ℕ) → leaf < 65536 → (b : Encoded) → ((bs : List ℕ) → b ≡ answered bs → length bs % 4 ≡ 0) → (rs : List ℕ)
+    → recordBytes (and-also (fixedBytes 2 leaf) b) ≡ answered rs → Made leaf b rs
+unfolding recordBytes fixedBytes
+list-made leaf l b four rs w = go b refl (rw (lt-ltb leaf 65536 l) at w)
+  where
+    test : (bs : List ℕ) → b ≡ answered bs → (c : Bool)
+        → stop c 18 (answered (bytes 2 (length (filled (bytes 2 leaf ++ bs))) ++ filled (bytes 2 leaf ++ bs))) ≡ answered rs → Made leaf b rs
+    test bs e true k = refusal k
+    test bs e false k =
+        let u = unpadded leaf l memberElement [] b bs (four bs e) in
+        let i : rs ≡ bytes 2 (length (filled (bytes 2 leaf ++ bs))) ++ filled (bytes 2 leaf ++ bs) = cc in
+        record { elements = bs; are = e; link = i ∙ rw u }
+
+    go : (a : Encoded) → b ≡ a → then (and-also (answered (bytes 2 leaf)) a) (λ bs. whole (filled bs)) ≡ answered rs → Made leaf b rs
+    go (refused n d) e h = refusal h
+    go (answered bs) e h = test bs e (ltb 65535 (length (filled (bytes 2 leaf ++ bs)))) h
+
+-- Where the members stand ---------------------------------------------------------------------------------------------------------------
+
+members-fours : (ended : Bool) (vss : List (List ToWrite)) (bs s : List ℕ) (q : ℕ) → membersBytes ended vss ≡ answered bs → Stands s q bs [] → q % 4 ≡ 0 → InFours s q vss
+unfolding membersBytes InFours filledMember partAt
+members-fours true [] bs s q w st f =
+    let e : [] ≡ bs = cc in
+    let n : length (drop q s) ≡ 0 = ap length (st .here) ∙ rw (← e) in
+    omega (arith, length-drop q s, st .inside)
+members-fours false [] bs s q w st f =
+    let e : [] ≡ bs = cc in
+    let n : length (drop q s) ≡ 0 = ap length (st .here) ∙ rw (← e) in
+    omega (arith, length-drop q s, st .inside)
+members-fours true (vs ∷ vss) bs s q w st f = refusal w
+members-fours false (vs ∷ vss) bs s q w st f =
+    let b = written-both (memberBytes vs) (membersBytes (ends vs) vss) bs w in
+    let r = plain-of vs (b .first-bytes) (b .first-is) in
+    let xs = r .plain in
+    let zs = b .more-bytes in
+    let m = missing (length xs) in
+    let e : xs ++ (pads m ++ zs) ≡ bs = sym (append-assoc xs (pads m) zs) ∙ ap (λ (l : List ℕ). l ++ zs) (r .filling) ∙ b .all-are in
+    let st1 : Stands s q (xs ++ (pads m ++ zs)) [] = rw e st in
+    let stp = next s q xs (pads m ++ zs) [] st1 in
+    let stz : Stands s (q + length xs + m) zs [] = rw (length-pads m) at (next s (q + length xs) (pads m) zs [] stp) in
+    let k = record-back memberLeaves vs s q xs _ (r .said) (first s q xs (pads m ++ zs) [] st1) in
+    let z : (q + length xs + m) % 4 ≡ 0 = omega (arith, missing-fills (length xs)) in (
+      q + length xs + m,
+      record {
+        four = f;
+        values = k .values;
+        behind = q + length xs;
+        read = k .read;
+        same = k .shows;
+        pad = m;
+        few = missing-few (length xs);
+        padded = ap (λ (l : List ℕ). take m l) (first s (q + length xs) (pads m) zs [] stp .here) ∙ take-at (pads m) (zs ++ []) m (length-pads m);
+        next = refl;
+      },
+      members-fours (ends vs) vss zs s (q + length xs + m) (b .more-is) stz z,
+    )
+
+starts : (vss : List (List ToWrite)) (rs : List ℕ) → fieldListBytes vss ≡ answered rs → InFours rs 4 vss
+unfolding fieldListBytes
+starts vss rs w =
+    let m = list-made 0x1203 (lit< tt) (membersBytes false vss) (members-aligned false vss) rs w in
+    let A = bytes 2 (length (bytes 2 0x1203 ++ m .elements)) in
+    let B = bytes 2 0x1203 in
+    let st0 : Stands rs 0 (A ++ (B ++ m .elements)) [] = record { inside = omega arith; here = m .link ∙ sym (append-nil (A ++ (B ++ m .elements))) } in
+    let st1 = next rs 0 A (B ++ m .elements) [] st0 in
+    let st2 = next rs (0 + length A) B (m .elements) [] st1 in
+    let four : 0 + length A + length B ≡ 4 = omega (arith, length-bytes 2 (length (bytes 2 0x1203 ++ m .elements)), length-bytes 2 0x1203) in
+    let fours : (0 + length A + length B) % 4 ≡ 0 = omega arith in
+    subst (λ (q : ℕ). InFours rs q vss) four (members-fours false vss (m .elements) rs (0 + length A + length B) (m .are) st2 fours)
+
+-- Read, made rows, written again ------------------------------------------------------------------------------------------------------
+
+-- a form is not written
+given-plain : (t : List ℕ) (vs : List Shown) → givenAll t (map plain vs) ≡ givenAll t vs
+given-plain t [] = refl
+given-plain t (number n ∷ vs) = ap (λ (l : List ToWrite). number n ∷ l) (given-plain t vs)
+given-plain t (numeral z f ∷ vs) = ap (λ (l : List ToWrite). numeral z tt ∷ l) (given-plain t vs)
+given-plain t (absent ∷ vs) = ap (λ (l : List ToWrite). absent ∷ l) (given-plain t vs)
+given-plain t (many x ∷ vs) = ap (λ (l : List ToWrite). many (bytesIn t x) ∷ l) (given-plain t vs)
+
+values-in : ElementValues → List Shown
+values-in (typeElement vs) = vs
+values-in (idElement vs) = vs
+values-in (methodElement vs) = vs
+values-in (memberElement vs) = vs
+
+elements-same : {A : Type 0} (kind : List Shown → ElementValues) → ((x y : List Shown) → kind x ≡ kind y → x ≡ y) → (shown : A → List Shown) (row : A → List ToWrite) (s : List ℕ)
+    → ((m : A) → row m ≡ givenAll s (shown m)) → (vss : List (List ToWrite)) (element : ℕ → Answer ElementValues) (ms : List A)
+    → ((k : ℕ) → ElementIs kind s vss k (element k)) → ElementsAre (λ m. kind (shown m)) element ms → map row ms ≡ vss
+unfolding ElementIs ElementsAre
+elements-same kind one shown row s is [] element [] f h = refl
+elements-same kind one shown row s is [] element (m ∷ ms) f h =
+    let e : element 0 ≡ refused 15 [] = f 0 in
+    let z : _≡_ {A = ℕ} 0 1 = let g : element 0 ≡ answered (kind (shown m)) = h .0 in cc in
+    absurd (omega arith)
+elements-same kind one shown row s is (vs ∷ vss) element [] f h =
+    let e : Shows kind s vs (element 0) = f 0 in
+    let g : element 0 ≡ answered (kind (e .values)) = e .element in
+    let i : element 0 ≡ refused 15 [] = h in
+    let z : _≡_ {A = ℕ} 0 1 = cc in
+    absurd (omega arith)
+elements-same kind one shown row s is (vs ∷ vss) element (m ∷ ms) f h =
+    let e : Shows kind s vs (element 0) = f 0 in
+    let g : element 0 ≡ answered (kind (e .values)) = e .element in
+    let i : element 0 ≡ answered (kind (shown m)) = h .0 in
+    let j : kind (shown m) ≡ kind (e .values) = cc in
+    let k : row m ≡ vs = is m ∙ ap (givenAll s) (one (shown m) (e .values) j) ∙ e .same in
+    let r : map row ms ≡ vss = elements-same kind one shown row s is vss (λ n. element (suc n)) ms (λ n. f (suc n)) (h .1) in
+    cc
+
+member-one : (x y : List Shown) → memberElement x ≡ memberElement y → x ≡ y
+unfolding values-in
+member-one x y e = ap values-in e
+
+method-one : (x y : List Shown) → methodElement x ≡ methodElement y → x ≡ y
+unfolding values-in
+method-one x y e = ap values-in e
+
+member-rows : (t : List ℕ) (ms : List Member) → memberRows t (map memberRow ms) ≡ map (λ (m : Member). givenAll t (rowValues (memberRow m))) ms
+unfolding memberRows
+member-rows t [] = refl
+member-rows t (m ∷ ms) = ap (λ (l : List (List ToWrite)). givenAll t (rowValues (memberRow m)) ∷ l) (member-rows t ms)
+
+method-rows : (t : List ℕ) (ms : List MethodListEntry) → methodRows t (map methodRow ms) ≡ map (λ (m : MethodListEntry). givenAll t (listMethod (methodRow m))) ms
+unfolding methodRows
+method-rows t [] = refl
+method-rows t (m ∷ ms) = ap (λ (l : List (List ToWrite)). givenAll t (listMethod (methodRow m)) ∷ l) (method-rows t ms)
+
+payload-is : (rs x : List ℕ) → rs ≡ bytes 2 (length x) ++ x → x ≡ payloadIn rs
+payload-is rs x e = sym (ap (drop 2) e ∙ drop-at (bytes 2 (length x)) x 2 (length-bytes 2 (length x)))
+
+fields-again : (vss : List (List ToWrite)) (rs : List ℕ) (ms : List Member) → ListBack memberElement vss rs → fieldListBytes vss ≡ answered rs
+    → ElementsAre (λ m. memberElement (memberValues m)) (elementOf stream.Types (payloadIn rs)) ms → fieldListBytes (memberRows (payloadIn rs) (map memberRow ms)) ≡ answered rs
+fields-again vss rs ms b w h =
+    let t = payloadIn rs in
+    let f = subst (λ (x : List ℕ). (k : ℕ) → ElementIs memberElement x vss k (elementOf stream.Types x k)) (payload-is rs (b .payload) (b .is-link)) (b .element) in
+    let e = elements-same memberElement member-one memberValues (λ m. givenAll t (rowValues (memberRow m))) t (λ m. ap (givenAll t) (rows-show .of-member m) ∙ given-plain t (memberValues m)) vss (elementOf stream.Types t) ms f h in
+    ap fieldListBytes (member-rows t ms ∙ e) ∙ w
+
+methods-again : (vss : List (List ToWrite)) (rs : List ℕ) (ms : List MethodListEntry) → ListBack methodElement vss rs → methodListBytes vss ≡ answered rs
+    → ElementsAre (λ m. methodElement (entryValues m)) (elementOf stream.Types (payloadIn rs)) ms → methodListBytes (methodRows (payloadIn rs) (map methodRow ms)) ≡ answered rs
+methods-again vss rs ms b w h =
+    let t = payloadIn rs in
+    let f = subst (λ (x : List ℕ). (k : ℕ) → ElementIs methodElement x vss k (elementOf stream.Types x k)) (payload-is rs (b .payload) (b .is-link)) (b .element) in
+    let e = elements-same methodElement method-one entryValues (λ m. givenAll t (listMethod (methodRow m))) t (λ m. ap (givenAll t) (rows-show .of-method m) ∙ given-plain t (entryValues m)) vss (elementOf stream.Types t) ms f h in
+    ap methodListBytes (method-rows t ms ∙ e) ∙ w
+
+fields-back : (vss : List (List ToWrite)) (rs : List ℕ) → fieldListBytes vss ≡ answered rs → ListBack memberElement vss rs
+unfolding fieldListBytes
+fields-back vss rs w = list-back 0x1203 (lit< tt) memberElement vss (membersBytes false vss) (members-aligned false vss) (fields-element vss) rs w
+
+methods-back-list : (vss : List (List ToWrite)) (rs : List ℕ) → methodListBytes vss ≡ answered rs → ListBack methodElement vss rs
+unfolding methodListBytes
+methods-back-list vss rs w = list-back 0x1206 (lit< tt) methodElement vss (methodsBytes vss) (methods-aligned vss) (methods-element vss) rs w
+
 pub lists-read-back : ListsReadBack
-unfolding fieldListBytes methodListBytes
 lists-read-back = record {
-  fields = λ vss rs w. list-back 0x1203 (lit< tt) memberElement vss (membersBytes false vss) (members-aligned false vss) (fields-element vss) rs w;
-  methods = λ vss rs w. list-back 0x1206 (lit< tt) methodElement vss (methodsBytes vss) (methods-aligned vss) (methods-element vss) rs w;
+  fields = fields-back;
+  methods = methods-back-list;
+  starts = starts;
+  fields-again = λ vss rs ms w. fields-again vss rs ms (fields-back vss rs w) w;
+  methods-again = λ vss rs ms w. methods-again vss rs ms (methods-back-list vss rs w) w;
 }

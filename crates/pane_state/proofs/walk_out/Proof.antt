@@ -1,4 +1,4 @@
--- `pane_state::walk_out` meets its contract: what stands behind `out` is what `tourFields` says of the walk. Assumes nothing.
+-- `pane_state::walk_out` meets its contract: what stands behind `out` is what `tourOut` says of the walk. Assumes nothing.
 use borrow.Author.Needs.{needs}
 use Rattle.pane_state.proofs.walk_out.Statement.{statement}
 use Rattle.pane_state.proofs.walk_out.Tie as tie

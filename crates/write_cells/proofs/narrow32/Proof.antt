@@ -1,0 +1,15 @@
+-- `write_cells::narrow32` meets its contract. Assumes nothing.
+use native.Mathlib.Omega.{arith}
+use borrow.Author.Needs.{needs}
+use Rattle.write_fit.proofs.FitLaws.{word-piece, too-large}
+use Rattle.write_cells.proofs.narrow32.Statement.{statement}
+use Rattle.write_cells.proofs.narrow32.Tie as tie
+
+returns : tie.Need-returns
+returns c = λ t. word-piece t _ (omega arith)
+
+returns-2 : tie.Need-returns-2
+returns-2 c = λ t. too-large t 4 _ (omega arith)
+
+pub narrow32-spec : {M : Type 1} → statement M
+narrow32-spec = tie.close (tie.spec (λ c. search needs) returns returns-2)
