@@ -5,7 +5,7 @@ use lib.Dec.{eqb, leb}
 use lib.IntN.{pos}
 use lib.ListN.{getD, length}
 use mathlib.Core.Bool.{Bool}
-use mathlib.Core.List.{List, _∷_}
+use mathlib.Core.List.{List, [], _∷_}
 use mathlib.Core.Option.{some}
 use mathlib.Core.Path.{_≡_}
 use Rattle.answer.specs.Answer.{answered, then}
@@ -73,7 +73,7 @@ use Rattle.pane_out.specs.Handed.{isSet, mark}
 use Rattle.pane_parse.specs.Out.{outRead, recordAt}
 use Rattle.pane_record.specs.Out.{cursorAt as cursorAt-of-pane-record, outId, outList as outList-of-pane-record, outStep, outType, streamAt}
 use Rattle.pane_report.specs.Out.{outReport, totalsAt}
-use Rattle.pane_row.specs.ElementPlaces.{elementRow}
+use Rattle.pane_row.specs.ElementPlaces.{indexRow, memberRow as memberRow-of-pane-row, methodRow as methodRow-of-pane-row}
 use Rattle.pane_row.specs.IdPlaces.{idRow}
 use Rattle.pane_row.specs.ListPlaces.{cursorRow}
 use Rattle.pane_row.specs.TypePlaces.{typeRow}
@@ -96,7 +96,7 @@ use Rattle.record_data.specs.declared.TypeData.{TypeData}
 use Rattle.record_id.specs.Said.{idValues, saidIdData}
 use Rattle.record_id.specs.declared.IdAnswer.{IdAnswer}
 use Rattle.record_id.specs.declared.IdData.{IdData}
-use Rattle.record_layout.specs.Fields.{readFields, run, types}
+use Rattle.record_layout.specs.Fields.{number, readFields, run, types}
 use Rattle.record_layout.specs.Layouts.{S, idLeaves, memberLeaves, method, readRecord, recordOf, typeLeaves}
 use Rattle.record_list.specs.Lists.{elementBy, elementOf, startOf as startOf-of-record-list, stepOf as stepOf-of-record-list}
 use Rattle.record_list.specs.Said.{elementValues, saidElement, saidStart, saidStep}
@@ -105,7 +105,7 @@ use Rattle.record_list.specs.declared.ElementAnswer.{ElementAnswer}
 use Rattle.record_list.specs.declared.ListCursor.{ListCursor}
 use Rattle.record_list.specs.declared.StartAnswer.{StartAnswer}
 use Rattle.record_list.specs.declared.StepAnswer.{StepAnswer}
-use Rattle.record_member.specs.Said.{memberName, memberValues, saidEntry, saidMember}
+use Rattle.record_member.specs.Said.{entryValues, memberName, memberValues, saidEntry, saidMember}
 use Rattle.record_member.specs.declared.Member.{Member}
 use Rattle.record_member.specs.declared.MethodListEntry.{MethodListEntry}
 use Rattle.record_member.specs.declared.ReadMember.{ReadMember}
@@ -193,7 +193,7 @@ use Rattle.write_pieces.specs.Pieces.{pieceOf, piecesOf, saidMeasure, saidWrite
 use Rattle.write_pieces.specs.declared.Measure.{Measure}
 use Rattle.write_pieces.specs.declared.Piece.{Piece as Piece-of-write-pieces}
 use Rattle.write_pieces.specs.declared.WriteAnswer.{WriteAnswer}
-use Rattle.write_row.specs.Rows.{memberRow, memberRows, methodRow, methodRows}
+use Rattle.write_row.specs.Rows.{memberRow as memberRow-of-write-row, memberRows, methodRow as methodRow-of-write-row, methodRows}
 
 -- answer::Refusal::number
 abbrev pub answer-refusal-number : (self : Refusal) → ℕ → Type 0
@@ -499,9 +499,17 @@ pane-row-id-row d r = r ≡ 0 ∷ 0 ∷ idRow (idValues d)
 abbrev pub pane-row-cursor-row : (c : ListCursor) → List ℕ → Type 0
 pane-row-cursor-row c r = r ≡ 0 ∷ 0 ∷ cursorRow c
 
--- pane_row::element_row
-abbrev pub pane-row-element-row : (at : ℕ) (left : ℕ) (padded : ℕ) (x : Element) → List ℕ → Type 0
-pane-row-element-row at left padded x r = r ≡ 0 ∷ 0 ∷ at ∷ left ∷ padded ∷ elementRow (elementValues x)
+-- pane_row::member_row
+abbrev pub pane-row-member-row : (at : ℕ) (left : ℕ) (padded : ℕ) (m : Member) → List ℕ → Type 0
+pane-row-member-row at left padded m r = r ≡ 0 ∷ 0 ∷ at ∷ left ∷ padded ∷ memberRow-of-pane-row (memberValues m)
+
+-- pane_row::entry_row
+abbrev pub pane-row-entry-row : (at : ℕ) (left : ℕ) (padded : ℕ) (m : MethodListEntry) → List ℕ → Type 0
+pane-row-entry-row at left padded m r = r ≡ 0 ∷ 0 ∷ at ∷ left ∷ padded ∷ methodRow-of-pane-row (entryValues m)
+
+-- pane_row::index_row
+abbrev pub pane-row-index-row : (at : ℕ) (left : ℕ) (padded : ℕ) (i : ℕ) → List ℕ → Type 0
+pane-row-index-row at left padded i r = r ≡ 0 ∷ 0 ∷ at ∷ left ∷ padded ∷ indexRow (number i ∷ [])
 
 -- pane_section::pdb_section_start
 abbrev pub pane-section-pdb-section-start : (s : List ℕ) → ℕ → List ℕ → Type 0
@@ -1113,11 +1121,11 @@ write-pieces-write-record text xs out at r out′ = Writes out (lay (recordBytes
 
 -- write_row::of_member
 abbrev pub write-row-of-member : (m : Member) → List ℕ → Type 0
-write-row-of-member m r = r ≡ memberRow m
+write-row-of-member m r = r ≡ memberRow-of-write-row m
 
 -- write_row::of_method
 abbrev pub write-row-of-method : (m : MethodListEntry) → List ℕ → Type 0
-write-row-of-method m r = r ≡ methodRow m
+write-row-of-method m r = r ≡ methodRow-of-write-row m
 
 -- write_type::write_type
 abbrev pub write-type-write-type : (text : List ℕ) (d : TypeData) (out : List ℕ) (at : ℕ) → WriteAnswer → List ℕ → Type 0

@@ -155,7 +155,9 @@ pub record OneOutcome : Type 1 where
   pub pane-row-type-row : (d : TypeData) → Once (contract.pane-row-type-row d)
   pub pane-row-id-row : (d : IdData) → Once (contract.pane-row-id-row d)
   pub pane-row-cursor-row : (c : ListCursor) → Once (contract.pane-row-cursor-row c)
-  pub pane-row-element-row : (at : ℕ) (left : ℕ) (padded : ℕ) (x : Element) → Once (contract.pane-row-element-row at left padded x)
+  pub pane-row-member-row : (at : ℕ) (left : ℕ) (padded : ℕ) (m : Member) → Once (contract.pane-row-member-row at left padded m)
+  pub pane-row-entry-row : (at : ℕ) (left : ℕ) (padded : ℕ) (m : MethodListEntry) → Once (contract.pane-row-entry-row at left padded m)
+  pub pane-row-index-row : (at : ℕ) (left : ℕ) (padded : ℕ) (i : ℕ) → Once (contract.pane-row-index-row at left padded i)
   -- pane_section
   pub pane-section-pdb-section-start : (s : List ℕ) → OnceLent (contract.pane-section-pdb-section-start s)
   pub pane-section-pdb-section-count : (s : List ℕ) → OnceLent (contract.pane-section-pdb-section-count s)

@@ -13,11 +13,14 @@ use pane_out::flag;
 use pane_out::is_set;
 use pane_out::second;
 use pane_row::cursor_row;
-use pane_row::element_row;
+use pane_row::entry_row;
 use pane_row::id_row;
+use pane_row::index_row;
+use pane_row::member_row;
 use pane_row::type_row;
 use record_data::TypeAnswer;
 use record_id::IdAnswer;
+use record_list::Element;
 use record_list::ListCursor;
 use record_list::StartAnswer;
 use record_list::StepAnswer;
@@ -106,8 +109,24 @@ pub extern "C" fn pdb_step(
     match record_list::step(s, c) {
         StepAnswer::Answered(x, n) => {
             let after = n.padded;
-            *out = element_row(n.at as u64, n.left as u64, flag(after), x);
-            0
+            match x {
+                Element::Type(i) => {
+                    *out = index_row(n.at as u64, n.left as u64, flag(after), i.0);
+                    0
+                }
+                Element::Id(i) => {
+                    *out = index_row(n.at as u64, n.left as u64, flag(after), i.0);
+                    0
+                }
+                Element::Method(m) => {
+                    *out = entry_row(n.at as u64, n.left as u64, flag(after), m);
+                    0
+                }
+                Element::Member(m) => {
+                    *out = member_row(n.at as u64, n.left as u64, flag(after), m);
+                    0
+                }
+            }
         }
         StepAnswer::Refused(e) => {
             *out = [first(e), second(e), 0, 0, 0, 0, 0, 0, 0, 0, 0, 0, 0, 0, 0];

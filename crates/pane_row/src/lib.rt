@@ -2,20 +2,19 @@
 // is none. The places are specs/TypePlaces.antt, IdPlaces.antt and ElementPlaces.antt, tables beside 01's table of layouts. Each row begins with two zeros,
 // for the details of a refusal, so that what goes behind `out` is written by one store.
 ghost use mathlib.Core.Path.{_≡_};
-ghost use mathlib.Core.List.{_∷_};
+ghost use mathlib.Core.List.{[], _∷_};
 ghost use Rattle.field.specs.Indices.{typeOption, idOption};
 ghost use Rattle.field_number.specs.Numbers.{numberValue};
 ghost use Rattle.field_number.specs.Forms.{sizeForm, variantForm};
-ghost use Rattle.record_layout.specs.Fields.{orAbsent, Shown};
+ghost use Rattle.record_layout.specs.Fields.{number, orAbsent, Shown};
 ghost use Rattle.record_data.specs.Said.{stringValue, kindLeaf, typeValues};
 ghost use Rattle.record_id.specs.Said.{idValues};
 ghost use Rattle.record_member.specs.Said.{offsetOption, virtualLeaf, memberValues, entryValues};
-ghost use Rattle.record_list.specs.Said.{elementValues};
 ghost use Rattle.pane_row.specs.Slots.{bitsOf, negative, formIn, firstOf, secondOf};
 ghost use Rattle.pane_row.specs.TypePlaces.{typeRow};
 ghost use Rattle.pane_row.specs.IdPlaces.{idRow};
 ghost use Rattle.pane_row.specs.ListPlaces.{cursorRow};
-ghost use Rattle.pane_row.specs.ElementPlaces.{methodRow, memberRow, elementRow};
+ghost use Rattle.pane_row.specs.ElementPlaces.{indexRow, methodRow, memberRow};
 use field::index::OptIdIndex;
 use field::index::OptTypeIndex;
 use field::index::TypeIndex;
@@ -45,7 +44,6 @@ use record_id::StringId;
 use record_id::StringListId;
 use record_id::UserDefinedTypeSourceFileRef;
 use record_id::UserDefinedTypeSourceId;
-use record_list::Element;
 use record_list::ListCursor;
 use record_member::BaseClassType;
 use record_member::EnumerateType;
@@ -620,7 +618,8 @@ pub fn cursor_row(c: ListCursor) -> [u64; 6]
     ]
 }
 
-// The row of each element, behind the cursor after it: place, elements left, padded.
+// The row of each member: two zeros, the cursor behind it, its place, elements left and padded, then leaf, word, type, other, value, more, form, more_form,
+// name and its length.
 
 fn base_class_row(at: u64, left: u64, padded: u64, m: BaseClassType) -> [u64; 15]
     ensures { λ r. ⌜ r ≡ 0 ∷ 0 ∷ at ∷ left ∷ padded ∷ memberRow (memberValues (Member.BaseClass m)) ⌝ }
@@ -855,7 +854,8 @@ fn method_row(at: u64, left: u64, padded: u64, m: MethodType) -> [u64; 15]
     ]
 }
 
-fn member_row(at: u64, left: u64, padded: u64, m: Member) -> [u64; 15]
+// The row of a member of 0x1203.
+pub fn member_row(at: u64, left: u64, padded: u64, m: Member) -> [u64; 15]
     ensures { λ r. ⌜ r ≡ 0 ∷ 0 ∷ at ∷ left ∷ padded ∷ memberRow (memberValues m) ⌝ }
 {
     match m {
@@ -872,7 +872,8 @@ fn member_row(at: u64, left: u64, padded: u64, m: Member) -> [u64; 15]
     }
 }
 
-fn entry_row(at: u64, left: u64, padded: u64, m: MethodListEntry) -> [u64; 15]
+// The row of a method of 0x1206.
+pub fn entry_row(at: u64, left: u64, padded: u64, m: MethodListEntry) -> [u64; 15]
     ensures { λ r. ⌜ r ≡ 0 ∷ 0 ∷ at ∷ left ∷ padded ∷ methodRow (entryValues m) ⌝ }
 {
     let o = m.vtable_offset;
@@ -895,46 +896,9 @@ fn entry_row(at: u64, left: u64, padded: u64, m: MethodListEntry) -> [u64; 15]
     ]
 }
 
-// The row of an element: two zeros, the cursor behind it, then leaf, word, type, other, value, more, form, more_form, name and its length.
-pub fn element_row(at: u64, left: u64, padded: u64, x: Element) -> [u64; 15]
-    ensures { λ r. ⌜ r ≡ 0 ∷ 0 ∷ at ∷ left ∷ padded ∷ elementRow (elementValues x) ⌝ }
+// The row of an index of a counted list.
+pub fn index_row(at: u64, left: u64, padded: u64, i: u32) -> [u64; 15]
+    ensures { λ r. ⌜ r ≡ 0 ∷ 0 ∷ at ∷ left ∷ padded ∷ indexRow (number i ∷ []) ⌝ }
 {
-    match x {
-        Element::Type(i) => [
-            0,
-            0,
-            at,
-            left,
-            padded,
-            0,
-            0,
-            i.0 as u64,
-            0,
-            0,
-            0,
-            0,
-            0,
-            0,
-            0,
-        ],
-        Element::Id(i) => [
-            0,
-            0,
-            at,
-            left,
-            padded,
-            0,
-            0,
-            i.0 as u64,
-            0,
-            0,
-            0,
-            0,
-            0,
-            0,
-            0,
-        ],
-        Element::Method(m) => entry_row(at, left, padded, m),
-        Element::Member(m) => member_row(at, left, padded, m),
-    }
+    [0, 0, at, left, padded, 0, 0, i as u64, 0, 0, 0, 0, 0, 0, 0]
 }
