@@ -164,6 +164,7 @@ use Rattle.write_pieces.specs.declared.Measure.{Measure}
 use Rattle.write_pieces.specs.declared.Piece.{Piece as Piece-of-write-pieces}
 use Rattle.write_pieces.specs.declared.WriteAnswer.{WriteAnswer}
 use Rattle.write_row.specs.Rows.{memberRow, memberRows, methodRow, methodRows}
+use Rattle.write_type.specs.Types.{writtenLeaves}
 
 -- answer::Refusal::number
 abbrev pub answer-refusal-number : (self : Refusal) → ℕ → Type 0
@@ -867,4 +868,4 @@ write-row-of-method m r = r ≡ methodRow m
 
 -- write_type::write_type
 abbrev pub write-type-write-type : (text : List ℕ) (d : TypeData) (out : List ℕ) (at : ℕ) → WriteAnswer → List ℕ → Type 0
-write-type-write-type text d out at r out′ = Writes out (lay (writeRecord typeLeaves (givenAll text (typeValues d))) out at) (saidWrite r) out′
+write-type-write-type text d out at r out′ = Writes out (lay (writeRecord writtenLeaves (givenAll text (typeValues d))) out at) (saidWrite r) out′
