@@ -14,7 +14,7 @@ use Rattle.record_layout.specs.Fields.{number, numeral, absent, many}
 use Rattle.record_layout.specs.Layouts.{Layout, Table, typeLeaves}
 use Rattle.write_layout.specs.Fields.{ToWrite, Encoded, bad, fixedBytes, and-also}
 use Rattle.write_layout.specs.Records.{byLayout, writeLeaf, recordBytes, writeRecord}
-use Rattle.write_type.specs.Types.{without, listLeaves, writtenLeaves, TypesWritten}
+use Rattle.write_type.specs.Types.{without, elementLeaves, writtenLeaves, TypesWritten}
 
 -- what is found without some leaves
 find-without : (leaf : ℕ) (leaves : List ℕ) (table : Table) → find leaf (without leaves table) ≡ pick (among leaf leaves) none (find leaf table)
@@ -37,9 +37,9 @@ find-without leaf leaves ((m is fs) ∷ table) = go (among m leaves) refl (eqb l
         rw (f, a)
     go false e false f later = rw f later
 
-pub leaf-other : (leaf : ℕ) (vs : List ToWrite) → among leaf listLeaves ≡ false → writeLeaf writtenLeaves (number leaf ∷ vs) ≡ writeLeaf typeLeaves (number leaf ∷ vs)
+pub leaf-other : (leaf : ℕ) (vs : List ToWrite) → among leaf elementLeaves ≡ false → writeLeaf writtenLeaves (number leaf ∷ vs) ≡ writeLeaf typeLeaves (number leaf ∷ vs)
 unfolding writeLeaf writtenLeaves
-leaf-other leaf vs e = rw (find-without leaf listLeaves typeLeaves, e)
+leaf-other leaf vs e = rw (find-without leaf elementLeaves typeLeaves, e)
 
 -- a leaf has its two bytes, or is 17
 abbrev Fixed : Encoded → Type 0
@@ -61,15 +61,15 @@ also-bad leaf = go (fixedBytes 2 leaf) (fixed-answered leaf)
     go (answered bs) f = refl
     go (refused n d) f = f
 
-pub leaf-list : (leaf : ℕ) (vs : List ToWrite) → among leaf listLeaves ≡ true → writeLeaf writtenLeaves (number leaf ∷ vs) ≡ bad
+pub leaf-list : (leaf : ℕ) (vs : List ToWrite) → among leaf elementLeaves ≡ true → writeLeaf writtenLeaves (number leaf ∷ vs) ≡ bad
 unfolding writeLeaf writtenLeaves
-leaf-list leaf vs e = rw (find-without leaf listLeaves typeLeaves, e) (also-bad leaf)
+leaf-list leaf vs e = rw (find-without leaf elementLeaves typeLeaves, e) (also-bad leaf)
 
-record-list : (leaf : ℕ) (vs : List ToWrite) → among leaf listLeaves ≡ true → writeRecord writtenLeaves (number leaf ∷ vs) ≡ bad
+record-list : (leaf : ℕ) (vs : List ToWrite) → among leaf elementLeaves ≡ true → writeRecord writtenLeaves (number leaf ∷ vs) ≡ bad
 unfolding writeRecord recordBytes
 record-list leaf vs e = rw (leaf-list leaf vs e)
 
-record-other : (leaf : ℕ) (vs : List ToWrite) → among leaf listLeaves ≡ false → writeRecord writtenLeaves (number leaf ∷ vs) ≡ writeRecord typeLeaves (number leaf ∷ vs)
+record-other : (leaf : ℕ) (vs : List ToWrite) → among leaf elementLeaves ≡ false → writeRecord writtenLeaves (number leaf ∷ vs) ≡ writeRecord typeLeaves (number leaf ∷ vs)
 unfolding writeRecord
 record-other leaf vs e = rw (leaf-other leaf vs e)
 
@@ -82,9 +82,9 @@ record-same [] rs h = no-answer h
 record-same (numeral z u ∷ vs) rs h = no-answer h
 record-same (absent ∷ vs) rs h = no-answer h
 record-same (many x ∷ vs) rs h = no-answer h
-record-same (number leaf ∷ vs) rs h = go (among leaf listLeaves) refl
+record-same (number leaf ∷ vs) rs h = go (among leaf elementLeaves) refl
   where
-    go : (b : Bool) → among leaf listLeaves ≡ b → writeRecord typeLeaves (number leaf ∷ vs) ≡ answered rs
+    go : (b : Bool) → among leaf elementLeaves ≡ b → writeRecord typeLeaves (number leaf ∷ vs) ≡ answered rs
     go true e = no-answer (sym (record-list leaf vs e) ∙ h)
     go false e = sym (record-other leaf vs e) ∙ h
 

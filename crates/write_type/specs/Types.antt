@@ -16,15 +16,15 @@ unfoldable pub without : List ℕ → Table → Table
 without leaves [] = []
 without leaves ((leaf is fs) ∷ lines) = pick (among leaf leaves) (without leaves lines) ((leaf is fs) ∷ without leaves lines)
 
--- a method list and a field list
-abbrev pub listLeaves : List ℕ
-listLeaves = 0x1206 ∷ 0x1203 ∷ []
+-- a method list and a field list: what these records have is elements
+abbrev pub elementLeaves : List ℕ
+elementLeaves = 0x1206 ∷ 0x1203 ∷ []
 
 unfoldable pub writtenLeaves : Table
-writtenLeaves = without listLeaves typeLeaves
+writtenLeaves = without elementLeaves typeLeaves
 
 -- so of a list 17, and of any other leaf what the whole table gives: reading back and all else that is said of every table is said of it
 pub record TypesWritten : Type 0 where
-  pub lists : (leaf : ℕ) (vs : List ToWrite) → among leaf listLeaves ≡ true → writeRecord writtenLeaves (number leaf ∷ vs) ≡ bad
-  pub others : (leaf : ℕ) (vs : List ToWrite) → among leaf listLeaves ≡ false → writeRecord writtenLeaves (number leaf ∷ vs) ≡ writeRecord typeLeaves (number leaf ∷ vs)
+  pub lists : (leaf : ℕ) (vs : List ToWrite) → among leaf elementLeaves ≡ true → writeRecord writtenLeaves (number leaf ∷ vs) ≡ bad
+  pub others : (leaf : ℕ) (vs : List ToWrite) → among leaf elementLeaves ≡ false → writeRecord writtenLeaves (number leaf ∷ vs) ≡ writeRecord typeLeaves (number leaf ∷ vs)
   pub same : (vs : List ToWrite) (rs : List ℕ) → writeRecord writtenLeaves vs ≡ answered rs → writeRecord typeLeaves vs ≡ answered rs
