@@ -15,6 +15,7 @@ use Rattle.stream_report.proofs.SumLaws.{adds-up, exactly}
 use Rattle.stream_report.proofs.MadeSums.{made-sums}
 use Rattle.write_layout.proofs.RoundTripProof.{fields-read-back, record-reads-back}
 use Rattle.write_layout.proofs.Rewrite.{exactly-17}
+use Rattle.write_layout.proofs.TypeLaws.{types-written}
 use Rattle.write_row.proofs.RowLaws.{rows-show}
 use Rattle.write_list.proofs.ListBack.{lists-read-back}
 use Rattle.write_list.proofs.Lists17.{lists-exactly-17}
@@ -91,6 +92,7 @@ demands = record {
   fields-read-back = fields-read-back;
   records-read-back = record-reads-back;
   exactly-17 = exactly-17;
+  types-written = types-written;
   lists-read-back = lists-read-back;
   lists-exactly-17 = lists-exactly-17;
   rows-show = rows-show;

@@ -18,6 +18,7 @@ use Rattle.stream_places.specs.File.{Form}
 use Rattle.stream_places.specs.Kept.{LoadServes, WideServes, RoundTrip, WideTrip, OneEncoding, OneEncodingWide, LoadersAgree}
 use Rattle.stream_report.specs.Sums.{AddsUp, Exactly, MadeSums}
 use Rattle.write_layout.specs.RoundTrip.{FieldsReadBack, RecordReadsBack, Exactly17}
+use Rattle.write_layout.specs.Types.{TypesWritten}
 use Rattle.write_row.specs.Rows.{RowsShow}
 use Rattle.write_list.specs.ListsBack.{ListsReadBack, ListsExactly17}
 use Rattle.write_header.specs.Headers.{HeaderReadsBack}
@@ -131,6 +132,8 @@ pub record Demands : Type 2 where
   pub fields-read-back : FieldsReadBack
   pub records-read-back : RecordReadsBack
   pub exactly-17 : Exactly17
+  -- by a table without the two lists, which are 17 where no elements are given: crates/write_layout/specs/Types.antt
+  pub types-written : TypesWritten
   pub lists-read-back : ListsReadBack
   pub lists-exactly-17 : ListsExactly17
   pub rows-show : RowsShow

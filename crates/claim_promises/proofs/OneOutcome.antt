@@ -49,7 +49,7 @@ use Rattle.stream_index.specs.Walk.{turnOf}
 use Rattle.record_list.specs.Lists.{stepOf}
 use Rattle.record_list.specs.declared.ListCursor.{ListCursor}
 use Rattle.record_reader.specs.declared.ListReader.{ListReader}
-use Rattle.record_layout.specs.Layouts.{typeLeaves, idLeaves}
+use Rattle.record_layout.specs.Layouts.{idLeaves}
 use Rattle.record_data.specs.Said.{typeValues}
 use Rattle.record_id.specs.Said.{idValues}
 use Rattle.write_layout.specs.Fields.{givenAll}
@@ -69,6 +69,7 @@ use Rattle.answer_name.specs.Names.{nameText}
 use Rattle.answer_name.proofs.OneOutcome.{one-holds}
 use Rattle.declare_type.specs.Declares.{declareOf}
 use Rattle.declare_type.proofs.OneOutcome.{one-declares}
+use Rattle.write_layout.specs.Types.{writtenLeaves}
 use Rattle.claim_promises.specs.Contracts as contract
 use Rattle.claim_promises.specs.OneOutcome.{Once, OnceLent, OnceLentTwo, OneOutcome}
 use Rattle.record_reference.proofs.OneOutcome.{one-references, one-element-references}
@@ -155,7 +156,7 @@ one-outcome = record {
   record-cells-layout-member-layout = λ leaf r q a b. a .1 ∙ sym (b .1);
   record-cells-layout-method-layout = λ r q a b. a .1 ∙ sym (b .1);
   record-cells-layout-id-layout = λ leaf r q a b. a .1 ∙ sym (b .1);
-  write-cells-write-type = λ text leaf row out at. one-writes out (lay (writeRecord typeLeaves (givenAll text (cellValues leaf row))) out at);
+  write-cells-write-type = λ text leaf row out at. one-writes out (lay (writeRecord writtenLeaves (givenAll text (cellValues leaf row))) out at);
   write-cells-write-id = λ text leaf row out at. one-writes out (lay (writeRecord idLeaves (givenAll text (cellValues leaf row))) out at);
   declare-kind-kind = λ k. one-spells (kindText k);
   declare-kind-size = λ k by r q a b. a ∙ sym b;
@@ -327,5 +328,5 @@ one-outcome = record {
   write-pieces-write-record = λ text xs out at. one-writes out (lay (recordBytes (piecesOf text xs)) out at);
   write-row-of-member = λ m r q a b. a ∙ sym b;
   write-row-of-method = λ m r q a b. a ∙ sym b;
-  write-type-write-type = λ text d out at. one-writes out (lay (writeRecord typeLeaves (givenAll text (typeValues d))) out at);
+  write-type-write-type = λ text d out at. one-writes out (lay (writeRecord writtenLeaves (givenAll text (typeValues d))) out at);
 }

@@ -13,13 +13,14 @@ use Rattle.write_layout.specs.Buffer.{Written, placeAfter}
 use Rattle.field.specs.Indices.{noId, noType}
 use Rattle.record_data.specs.Said.{typeValues}
 use Rattle.record_id.specs.Said.{idValues}
-use Rattle.record_layout.specs.Layouts.{idLeaves, typeLeaves}
+use Rattle.record_layout.specs.Layouts.{idLeaves}
 use Rattle.stream_finder.specs.Finder.{state}
 use Rattle.write_layout.specs.Fields.{givenAll}
 use Rattle.write_row.specs.Rows.{memberRows, methodRows}
 use denote.Ref.{now}
 use lib.ListN.{length}
 use Rattle.field.specs.declared.index.ItemIndex.the-variants as item-index
+use Rattle.write_layout.specs.Types.{writtenLeaves}
 use Rattle.claim_promises.specs.ByTable.{Refuses, FindRefuses, gives, refuses}
 use Rattle.claim_promises.specs.RefusedBy.{EachRefusedBy}
 use Rattle.claim_promises.proofs.Demand1.{demand1}
@@ -119,7 +120,7 @@ each-refused-by = record {
   section-finder-create-by = λ s t shift r t′ it. along (Refuses (16 ∷ 1 ∷ 25 ∷ 6 ∷ 7 ∷ 26 ∷ 13 ∷ [])) (it .answer) (of-finder (sections-refuse .creations shift s t));
   section-stream-to-stream = λ s out r out′ it. along (Refuses (16 ∷ 1 ∷ 25 ∷ 6 ∷ 7 ∷ 19 ∷ [])) (it .answer) (of-place (sections-refuse .streams s out));
   write-header-write-header = λ h out at r out′ it. along (Refuses (2 ∷ 3 ∷ 4 ∷ 5 ∷ 19 ∷ [])) (it .answer) (of-place (demand1 .headers-written h out at));
-  write-type-write-type = λ text d out at r out′ it. along (Refuses (17 ∷ 18 ∷ 19 ∷ [])) (it .answer) (of-place (demand1 .records-written typeLeaves (givenAll text (typeValues d)) out at));
+  write-type-write-type = λ text d out at r out′ it. along (Refuses (17 ∷ 18 ∷ 19 ∷ [])) (it .answer) (of-place (demand1 .records-written writtenLeaves (givenAll text (typeValues d)) out at));
   write-id-write-id = λ text d out at r out′ it. along (Refuses (17 ∷ 18 ∷ 19 ∷ [])) (it .answer) (of-place (demand1 .records-written idLeaves (givenAll text (idValues d)) out at));
   write-list-write-field-list = λ text rows out at r out′ it. along (Refuses (17 ∷ 18 ∷ 19 ∷ [])) (it .answer) (of-place (demand1 .field-lists-written (memberRows text rows) out at));
   write-list-write-method-list = λ text rows out at r out′ it. along (Refuses (17 ∷ 18 ∷ 19 ∷ [])) (it .answer) (of-place (demand1 .method-lists-written (methodRows text rows) out at));

@@ -72,6 +72,7 @@ use Rattle.word_attributes.specs.declared.FunctionAttributes.{FunctionAttribute
 use Rattle.word_attributes.specs.declared.PointerAttributes.{PointerAttributes}
 use Rattle.word_attributes.specs.declared.TypeProperties.{TypeProperties}
 use Rattle.word_primitive.specs.Primitive.{primitiveOf, saidPrimitive}
+use Rattle.write_layout.specs.Types.{writtenLeaves}
 use Rattle.write_header.specs.Headers.{headerBytes}
 use Rattle.write_layout.specs.Buffer.{Writes, lay}
 use Rattle.write_layout.specs.Fields.{givenAll}
@@ -184,7 +185,7 @@ pub record Answers : Type 1 where
   pub write-pieces-write-plain : (text : List ℕ) (xs : List Piece-of-write-pieces) (out : List ℕ) (at : ℕ) (r : WriteAnswer) (out′ : List ℕ) → contract.write-pieces-write-plain text xs out at r out′ → Writes out (lay (limited (piecesOf text xs)) out at) (saidWrite r) out′
   pub write-pieces-write-filled : (text : List ℕ) (xs : List Piece-of-write-pieces) (out : List ℕ) (at : ℕ) (r : WriteAnswer) (out′ : List ℕ) → contract.write-pieces-write-filled text xs out at r out′ → Writes out (lay (limited (filledEach (piecesOf text xs))) out at) (saidWrite r) out′
   pub write-pieces-write-record : (text : List ℕ) (xs : List Piece-of-write-pieces) (out : List ℕ) (at : ℕ) (r : WriteAnswer) (out′ : List ℕ) → contract.write-pieces-write-record text xs out at r out′ → Writes out (lay (recordBytes (piecesOf text xs)) out at) (saidWrite r) out′
-  pub write-type-write-type : (text : List ℕ) (d : TypeData) (out : List ℕ) (at : ℕ) (r : WriteAnswer) (out′ : List ℕ) → contract.write-type-write-type text d out at r out′ → Writes out (lay (writeRecord typeLeaves (givenAll text (typeValues d))) out at) (saidWrite r) out′
+  pub write-type-write-type : (text : List ℕ) (d : TypeData) (out : List ℕ) (at : ℕ) (r : WriteAnswer) (out′ : List ℕ) → contract.write-type-write-type text d out at r out′ → Writes out (lay (writeRecord writtenLeaves (givenAll text (typeValues d))) out at) (saidWrite r) out′
   -- attribute words: the crate's own methods
   pub word-attributes-type-properties-packed : (self : TypeProperties) → Says (contract.word-attributes-type-properties-packed self) (λ r. r) (crate.packed (self .0))
   pub word-attributes-type-properties-constructors : (self : TypeProperties) → Says (contract.word-attributes-type-properties-constructors self) (λ r. r) (crate.constructors (self .0))

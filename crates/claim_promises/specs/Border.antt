@@ -52,6 +52,7 @@ use Rattle.write_layout.specs.Buffer.{lay}
 use Rattle.write_layout.specs.Fields.{givenAll}
 use Rattle.write_layout.specs.Lists.{fieldListBytes, methodListBytes}
 use Rattle.write_layout.specs.Records.{writeRecord}
+use Rattle.write_layout.specs.Types.{writtenLeaves}
 use Rattle.write_row.specs.Rows.{memberRows, methodRows}
 use Rattle.claim_promises.specs.Contracts as contract
 
@@ -108,7 +109,7 @@ pub record Border : Type 0 where
   pub pane-word-pdb-function-attributes : (word : ℕ) (r : ℕ) (out′ : List ℕ) → contract.pane-word-pdb-function-attributes word r out′ → (r, out′) ≡ outFunction word
   pub pane-word-pdb-pointer-attributes : (word : ℕ) (r : ℕ) (out′ : List ℕ) → contract.pane-word-pdb-pointer-attributes word r out′ → (r, out′) ≡ outPointer word
   -- writing, and what is written from
-  pub pane-write-pdb-write-type : (text : List ℕ) (leaf : ℕ) (cells : List ℕ) (buffer : List ℕ) (at : ℕ) (r : ℕ) (buffer′ : List ℕ) (out′ : List ℕ) → contract.pane-write-pdb-write-type text leaf cells buffer at r buffer′ out′ → (r, out′, buffer′) ≡ outWrite buffer (lay (writeRecord typeLeaves (givenAll text (cellValues leaf cells))) buffer at)
+  pub pane-write-pdb-write-type : (text : List ℕ) (leaf : ℕ) (cells : List ℕ) (buffer : List ℕ) (at : ℕ) (r : ℕ) (buffer′ : List ℕ) (out′ : List ℕ) → contract.pane-write-pdb-write-type text leaf cells buffer at r buffer′ out′ → (r, out′, buffer′) ≡ outWrite buffer (lay (writeRecord writtenLeaves (givenAll text (cellValues leaf cells))) buffer at)
   pub pane-write-pdb-write-id : (text : List ℕ) (leaf : ℕ) (cells : List ℕ) (buffer : List ℕ) (at : ℕ) (r : ℕ) (buffer′ : List ℕ) (out′ : List ℕ) → contract.pane-write-pdb-write-id text leaf cells buffer at r buffer′ out′ → (r, out′, buffer′) ≡ outWrite buffer (lay (writeRecord idLeaves (givenAll text (cellValues leaf cells))) buffer at)
   pub pane-write-pdb-write-fields : (text : List ℕ) (rows : List (List ℕ)) (buffer : List ℕ) (at : ℕ) (r : ℕ) (buffer′ : List ℕ) (out′ : List ℕ) → contract.pane-write-pdb-write-fields text rows buffer at r buffer′ out′ → (r, out′, buffer′) ≡ outWrite buffer (lay (fieldListBytes (memberRows text rows)) buffer at)
   pub pane-write-pdb-write-methods : (text : List ℕ) (rows : List (List ℕ)) (buffer : List ℕ) (at : ℕ) (r : ℕ) (buffer′ : List ℕ) (out′ : List ℕ) → contract.pane-write-pdb-write-methods text rows buffer at r buffer′ out′ → (r, out′, buffer′) ≡ outWrite buffer (lay (methodListBytes (methodRows text rows)) buffer at)

@@ -189,6 +189,7 @@ use Rattle.write_layout.specs.Buffer.{Writes, lay}
 use Rattle.write_layout.specs.Fields.{fixedBytes, givenAll, numericBytes, writeField}
 use Rattle.write_layout.specs.Lists.{fieldListBytes, filledEach, methodListBytes}
 use Rattle.write_layout.specs.Records.{limited, recordBytes, writeRecord}
+use Rattle.write_layout.specs.Types.{writtenLeaves}
 use Rattle.write_pieces.specs.Pieces.{pieceOf, piecesOf, saidMeasure, saidWrite}
 use Rattle.write_pieces.specs.declared.Measure.{Measure}
 use Rattle.write_pieces.specs.declared.Piece.{Piece as Piece-of-write-pieces}
@@ -589,7 +590,7 @@ pane-word-pdb-pointer-attributes word r out′ = (r, out′) ≡ outPointer word
 
 -- pane_write::pdb_write_type
 abbrev pub pane-write-pdb-write-type : (text : List ℕ) (leaf : ℕ) (cells : List ℕ) (buffer : List ℕ) (at : ℕ) → ℕ → List ℕ → List ℕ → Type 0
-pane-write-pdb-write-type text leaf cells buffer at r buffer′ out′ = (r, out′, buffer′) ≡ outWrite buffer (lay (writeRecord typeLeaves (givenAll text (cellValues leaf cells))) buffer at)
+pane-write-pdb-write-type text leaf cells buffer at r buffer′ out′ = (r, out′, buffer′) ≡ outWrite buffer (lay (writeRecord writtenLeaves (givenAll text (cellValues leaf cells))) buffer at)
 
 -- pane_write::pdb_write_id
 abbrev pub pane-write-pdb-write-id : (text : List ℕ) (leaf : ℕ) (cells : List ℕ) (buffer : List ℕ) (at : ℕ) → ℕ → List ℕ → List ℕ → Type 0
@@ -1053,7 +1054,7 @@ word-primitive-primitive index r = saidPrimitive r ≡ primitiveOf (index .0)
 
 -- write_cells::write_type
 abbrev pub write-cells-write-type : (text : List ℕ) (leaf : ℕ) (row : List ℕ) (out : List ℕ) (at : ℕ) → WriteAnswer → List ℕ → Type 0
-write-cells-write-type text leaf row out at r out′ = Writes out (lay (writeRecord typeLeaves (givenAll text (cellValues leaf row))) out at) (saidWrite r) out′
+write-cells-write-type text leaf row out at r out′ = Writes out (lay (writeRecord writtenLeaves (givenAll text (cellValues leaf row))) out at) (saidWrite r) out′
 
 -- write_cells::write_id
 abbrev pub write-cells-write-id : (text : List ℕ) (leaf : ℕ) (row : List ℕ) (out : List ℕ) (at : ℕ) → WriteAnswer → List ℕ → Type 0
@@ -1129,4 +1130,4 @@ write-row-of-method m r = r ≡ methodRow-of-write-row m
 
 -- write_type::write_type
 abbrev pub write-type-write-type : (text : List ℕ) (d : TypeData) (out : List ℕ) (at : ℕ) → WriteAnswer → List ℕ → Type 0
-write-type-write-type text d out at r out′ = Writes out (lay (writeRecord typeLeaves (givenAll text (typeValues d))) out at) (saidWrite r) out′
+write-type-write-type text d out at r out′ = Writes out (lay (writeRecord writtenLeaves (givenAll text (typeValues d))) out at) (saidWrite r) out′

@@ -6,13 +6,14 @@
 // plain function's contract cites (specs/Written.antt).
 ghost use mathlib.Core.Path.{_≡_};
 ghost use Rattle.answer.specs.Tables.{find};
-ghost use Rattle.record_layout.specs.Layouts.{recordOf, typeLeaves, idLeaves};
+ghost use Rattle.record_layout.specs.Layouts.{recordOf, idLeaves};
 ghost use Rattle.record_cells.specs.Codes.{layoutIn};
 ghost use Rattle.record_cells.specs.Cells.{cellsOf};
 ghost use Rattle.record_cells.specs.Filled.{FillsCells, fieldsBy};
 ghost use Rattle.pane_out.specs.Handed.{isSet};
 ghost use Rattle.write_layout.specs.Fields.{givenAll};
 ghost use Rattle.write_layout.specs.Records.{writeRecord};
+ghost use Rattle.write_layout.specs.Types.{writtenLeaves};
 ghost use Rattle.write_layout.specs.Lists.{fieldListBytes, methodListBytes};
 ghost use Rattle.write_layout.specs.Buffer.{lay};
 ghost use Rattle.write_cells.specs.Cells.{cellValues};
@@ -39,7 +40,7 @@ pub extern "C" fn pdb_write_type(
     at: usize,
     out: &mut [u64; 3],
 ) -> u32
-    ensures { λ r. ⌜ (r, now (out .exit), now (buffer .exit)) ≡ outWrite (now (buffer .entry)) (lay (writeRecord typeLeaves (givenAll (now (text .entry)) (cellValues leaf (now (cells .entry))))) (now (buffer .entry)) at) ⌝ }
+    ensures { λ r. ⌜ (r, now (out .exit), now (buffer .exit)) ≡ outWrite (now (buffer .entry)) (lay (writeRecord writtenLeaves (givenAll (now (text .entry)) (cellValues leaf (now (cells .entry))))) (now (buffer .entry)) at) ⌝ }
 {
     match write_cells::write_type(text, leaf, *cells, buffer, at) {
         WriteAnswer::Written(p) => {

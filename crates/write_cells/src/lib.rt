@@ -6,13 +6,15 @@ ghost use lib.IntN.{negsuc};
 ghost use Rattle.answer.specs.Answer.{answered};
 ghost use Rattle.field.specs.Indices.{noType, noId};
 ghost use Rattle.record_layout.specs.Fields.{gap, numeric, size, string, run, types, slots, numberOr, wordAfter};
-ghost use Rattle.record_layout.specs.Layouts.{pointer, S2, memberO, offset, typeLeaves, idLeaves};
+ghost use Rattle.record_layout.specs.Layouts.{pointer, S2, memberO, offset, idLeaves};
 ghost use Rattle.write_layout.specs.Fields.{and-also, fixedBytes, numericBytes, optionalBytes, ofNumber, ofAbsent, writeField, givenAll};
 ghost use Rattle.write_layout.specs.Records.{writeRecord};
+ghost use Rattle.write_layout.specs.Types.{writtenLeaves};
 ghost use Rattle.write_layout.specs.Buffer.{lay, Writes};
 ghost use Rattle.write_pieces.specs.Pieces.{pieceOf, piecesOf, saidWrite};
 ghost use Rattle.record_cells.specs.Codes.{fieldOf, layoutIn};
 ghost use Rattle.write_cells.specs.Cells.{cellIn, leftBytes, cellBytes, cellValues};
+use answer::Refusal;
 use word_attributes::FlagAnswer;
 use word_attributes::KindAnswer;
 use word_attributes::ModeAnswer;
@@ -397,11 +399,18 @@ fn pieces_by(leaf: u16, layout: u64, row: [u64; 27]) -> [Piece; 16]
     pieces(leaf, layout, row)
 }
 
-// A record of the type stream, and of the id stream, from its leaf and its row, at a place of a lent buffer. Its strings are parts of the text.
+// A record of the type stream, and of the id stream, from its leaf and its row, at a place of a lent buffer. Its strings are parts of the text. A field list and
+// a method list have elements, and are written with them by crates/write_list: here they are 17.
 
 pub fn write_type(text: &[u8], leaf: u16, row: [u64; 27], out: &mut [u8], at: usize) -> WriteAnswer
-    ensures { λ r. ⌜ Writes (now (out .entry)) (lay (writeRecord typeLeaves (givenAll (now (text .entry)) (cellValues leaf row))) (now (out .entry)) at) (saidWrite r) (now (out .exit)) ⌝ }
+    ensures { λ r. ⌜ Writes (now (out .entry)) (lay (writeRecord writtenLeaves (givenAll (now (text .entry)) (cellValues leaf row))) (now (out .entry)) at) (saidWrite r) (now (out .exit)) ⌝ }
 {
+    if leaf == 0x1203 {
+        return WriteAnswer::Refused(Refusal::WouldNotReadBack);
+    }
+    if leaf == 0x1206 {
+        return WriteAnswer::Refused(Refusal::WouldNotReadBack);
+    }
     let layout = record_cells::layout::type_layout(leaf);
     let xs = pieces_by(leaf, layout, row);
     write_pieces::write_record(text, xs, out, at)

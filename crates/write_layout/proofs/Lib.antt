@@ -4,3 +4,4 @@ pub mod Padding
 pub mod RoundTripProof
 pub mod Octets
 pub mod Rewrite
+pub mod TypeLaws

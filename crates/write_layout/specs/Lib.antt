@@ -4,3 +4,4 @@ pub mod Records
 pub mod Lists
 pub mod Buffer
 pub mod RoundTrip
+pub mod Types

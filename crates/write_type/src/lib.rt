@@ -1,6 +1,6 @@
 // The records of a TPI stream from their fields, into a lent buffer. Strings and the elements of counted lists are parts of a lent text, so that
-// what was read from a record is written again with the record's bytes as the text. A field list and a method list have no elements here:
-// crates/write_list writes them with their elements.
+// what was read from a record is written again with the record's bytes as the text. A field list and a method list have elements, and
+// crates/write_list writes them: here they are refused.
 ghost use mathlib.Core.Path.{_≡_};
 ghost use mathlib.Core.List.{List, [], _∷_};
 ghost use Prim.Native.Nat.{ℕ, _+_, _/_};
@@ -10,11 +10,12 @@ ghost use Rattle.field_number.specs.Forms.{Form};
 ghost use Rattle.record_layout.specs.Fields.{number, orAbsent, run, slots};
 ghost use Rattle.record_layout.specs.Layouts.{typeLeaves, class, S2, memberO, pointer};
 ghost use Rattle.record_data.specs.Said.{typeValues, classValues, kindValues, stringValue};
-ghost use Rattle.write_layout.specs.Fields.{fixedBytes, optionalBytes, ofAbsent, and-also, writeField, writeFields, given, givenAll};
+ghost use Rattle.write_layout.specs.Fields.{bad, fixedBytes, optionalBytes, ofAbsent, and-also, writeField, writeFields, given, givenAll};
 ghost use Rattle.write_layout.specs.Records.{writeLeaf, writeRecord};
 ghost use Rattle.write_layout.specs.Buffer.{lay, Writes};
 ghost use Rattle.write_pieces.specs.Pieces.{pieceOf, piecesOf, saidWrite};
 ghost use Rattle.write_fit.specs.Fit.{ofRun};
+ghost use Rattle.write_layout.specs.Types.{writtenLeaves};
 use field::index::OptTypeIndex;
 use field_text::OptString;
 use record_data::ArgumentList;
@@ -276,21 +277,12 @@ fn arguments(r: ArgumentList) -> [Piece; 16]
     xs
 }
 
-// No elements.
-fn field_list() -> [Piece; 16]
-    ensures { λ xs. ⌜ ((t : List ℕ) → piecesOf t xs ≡ writeLeaf typeLeaves (givenAll t (typeValues TypeData.FieldList))) ⌝ }
+// A list's elements are none of its fields: 17.
+fn list() -> [Piece; 16]
+    ensures { λ xs. ⌜ ((t : List ℕ) → piecesOf t xs ≡ bad) ⌝ }
 {
     let mut xs = [Piece::Nothing; 16];
-    xs[0] = write_fit::half(0x1203);
-    xs
-}
-
-// No elements.
-fn method_list() -> [Piece; 16]
-    ensures { λ xs. ⌜ ((t : List ℕ) → piecesOf t xs ≡ writeLeaf typeLeaves (givenAll t (typeValues TypeData.MethodList))) ⌝ }
-{
-    let mut xs = [Piece::Nothing; 16];
-    xs[0] = write_fit::half(0x1206);
+    xs[0] = Piece::Bad;
     xs
 }
 
@@ -318,7 +310,7 @@ fn structure19(r: ClassType) -> [Piece; 16]
 }
 
 fn class_type(r: ClassType) -> [Piece; 16]
-    ensures { λ xs. ⌜ ((t : List ℕ) → piecesOf t xs ≡ writeLeaf typeLeaves (givenAll t (typeValues (TypeData.Class r)))) ⌝ }
+    ensures { λ xs. ⌜ ((t : List ℕ) → piecesOf t xs ≡ writeLeaf writtenLeaves (givenAll t (typeValues (TypeData.Class r)))) ⌝ }
 {
     let kind = r.kind;
     match kind {
@@ -330,7 +322,7 @@ fn class_type(r: ClassType) -> [Piece; 16]
 }
 
 fn type_pieces(d: TypeData) -> [Piece; 16]
-    ensures { λ xs. ⌜ ((t : List ℕ) → piecesOf t xs ≡ writeLeaf typeLeaves (givenAll t (typeValues d))) ⌝ }
+    ensures { λ xs. ⌜ ((t : List ℕ) → piecesOf t xs ≡ writeLeaf writtenLeaves (givenAll t (typeValues d))) ⌝ }
 {
     match d {
         TypeData::Class(r) => class_type(r),
@@ -343,15 +335,16 @@ fn type_pieces(d: TypeData) -> [Piece; 16]
         TypeData::Union(r) => union_type(r),
         TypeData::Bitfield(r) => bitfield(r),
         TypeData::VirtualTableShape(r) => shape(r),
-        TypeData::FieldList => field_list(),
+        TypeData::FieldList => list(),
         TypeData::ArgumentList(r) => arguments(r),
-        TypeData::MethodList => method_list(),
+        TypeData::MethodList => list(),
     }
 }
 
-// A type record at a place of the buffer: its length, its leaf and fields, pad bytes. Everything else of the buffer stays as it was.
+// A type record at a place of the buffer: its length, its leaf and fields, pad bytes. Everything else of the buffer stays as it was. A field list and a
+// method list are 17: `write_field_list` and `write_method_list` of crates/write_list take their elements.
 pub fn write_type(text: &[u8], d: TypeData, out: &mut [u8], at: usize) -> WriteAnswer
-    ensures { λ r. ⌜ Writes (now (out .entry)) (lay (writeRecord typeLeaves (givenAll (now (text .entry)) (typeValues d))) (now (out .entry)) at) (saidWrite r) (now (out .exit)) ⌝ }
+    ensures { λ r. ⌜ Writes (now (out .entry)) (lay (writeRecord writtenLeaves (givenAll (now (text .entry)) (typeValues d))) (now (out .entry)) at) (saidWrite r) (now (out .exit)) ⌝ }
 {
     write_pieces::write_record(text, type_pieces(d), out, at)
 }
