@@ -15,8 +15,6 @@
 
 #include "pdb.h"
 
-
-
 struct paged {
     uint8_t *bytes;
     size_t length, start, room, held;

@@ -1,6 +1,6 @@
 -- How a parsed record, a list and an element of it go over the C boundary: the result, and the numbers behind `out`.
 use Prim.Native.Nat.{ℕ}
-use mathlib.Core.List.{List, [], _∷_}
+use mathlib.Core.List.{List, _∷_}
 use Rattle.answer.specs.Answer.{Answer, pick}
 use Rattle.field.specs.declared.index.Stream.{Stream}
 use Rattle.field.specs.declared.index.Stream.the-variants as stream

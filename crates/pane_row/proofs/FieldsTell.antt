@@ -2,14 +2,14 @@
 use Prim.Native.Nat.{ℕ, zero, suc, _+_, _-_, _*_, _≤_, _<_, _^_}
 use native.Mathlib.Omega.{arith}
 use mathlib.Core.Bool.{Bool, true, false}
-use mathlib.Core.Path.{_≡_, refl, sym, ap, _∙_, subst}
+use mathlib.Core.Path.{_≡_, refl, sym, ap, subst}
 use mathlib.Core.List.{List, [], _∷_}
 use mathlib.Core.Option.{Option, none, some}
 use lib.ListN.{length, drop}
-use lib.Dec.{leb, ltb, eqb}
+use lib.Dec.{leb, ltb}
 use lib.IntN.{ℤ, pos, negsuc}
 use borrow.Author.Tests.{lt-ltb, le-ltb}
-use Rattle.answer.specs.Answer.{Answer, answered, refused, Read, got, ended, pick, stop, then, and-then}
+use Rattle.answer.specs.Answer.{answered, refused, Read, got, ended, pick, stop, then, and-then}
 use Rattle.answer.specs.Tables.{among}
 use Rattle.field.specs.Fields.{littleAt, fixedAt, twos}
 use Rattle.field.specs.Indices.{noType, noId, optionalOf, optionalAt}

@@ -7,7 +7,7 @@ use lib.IntN.{pos}
 use Rattle.answer.specs.Tables.{find}
 use Rattle.field.specs.Indices.{typeOption}
 use Rattle.field_number.specs.Forms.{Form, sizeForm}
-use Rattle.record_layout.specs.Fields.{number, numeral, orAbsent, Shown}
+use Rattle.record_layout.specs.Fields.{number, numeral, orAbsent}
 use Rattle.record_data.specs.Said.{kindLeaf, kindValues, stringValue}
 use Rattle.record_data.specs.declared.ClassKind.{ClassKind}
 use Rattle.record_data.specs.declared.ClassKind.the-variants as kind

@@ -1,5 +1,5 @@
 -- A row gives back the values of every record, and every element, that was read. Assumes nothing.
-use Prim.Native.Nat.{ℕ, zero, suc, _+_, _-_, _≤_, _<_}
+use Prim.Native.Nat.{ℕ, suc, _+_, _-_, _≤_, _<_}
 use native.Mathlib.Omega.{arith}
 use mathlib.Core.Bool.{Bool, true, false}
 use mathlib.Core.Path.{_≡_, refl, sym, ap, _∙_, subst}
@@ -9,20 +9,20 @@ use lib.ListN.{length, getD, set, replicate, length-set, length-replicate}
 use lib.Seq.{getD-set-same, getD-set-other}
 use lib.Dec.{leb, ltb, eqb}
 use borrow.Author.Tests.{ltb-true, eqb-true, eqb-false}
-use Rattle.answer.specs.Answer.{Answer, answered, refused, Read, got, pick, both, stop, then, and-then}
+use Rattle.answer.specs.Answer.{Answer, answered, refused, Read, pick, both, stop, then, and-then}
 use Rattle.answer.specs.Tables.{Line, _is_, find, among}
 use Rattle.field.specs.Fields.{fixedAt}
 use Rattle.field_text.specs.Texts.{paddingAfter}
 use Rattle.record_layout.specs.Fields.{Shown, number, Field, id, readFields}
 use Rattle.record_layout.specs.Layouts.{T, Layout, Table, typeLeaves, idLeaves, memberLeaves, method, byLayout, readLeaf, leafOf, readRecord, recordOf}
 use Rattle.record_list.specs.declared.ListCursor.{ListCursor}
-use Rattle.record_list.specs.Lists.{ElementValues, typeElement, idElement, methodElement, memberElement, Step, stepTo, inCounted, toTheEnd, afterMember, countedStep, methodStep, leftAfter, memberStep, nextMember, stepOf}
-use Rattle.pane_row.specs.Slots.{Slot, off, one, two, sized, three, Slots, firstOf, secondOf, thirdOf, put, puts, putsBy, rowBy}
+use Rattle.record_list.specs.Lists.{ElementValues, typeElement, idElement, methodElement, memberElement, Step, countedStep, methodStep, memberStep, nextMember, stepOf}
+use Rattle.pane_row.specs.Slots.{Slot, off, one, two, sized, three, Slots, firstOf, secondOf, thirdOf, put, puts, rowBy}
 use Rattle.pane_row.specs.Kinds as kind
 use Rattle.pane_row.specs.Kinds.{Kind, kindOf, keepsFirst, keepsSecond, keepsThird, enough, fitting}
 use Rattle.pane_row.specs.Stand.{placesIn, placesOf, apart, stands, lined}
-use Rattle.pane_row.specs.TypePlaces.{typeSlots, typeRow}
-use Rattle.pane_row.specs.IdPlaces.{idSlots, idRow}
+use Rattle.pane_row.specs.TypePlaces.{typeSlots}
+use Rattle.pane_row.specs.IdPlaces.{idSlots}
 use Rattle.pane_row.specs.ElementPlaces.{memberSlots, memberRow, methodSlots, methodRow, indexSlots, indexRow, elementRow}
 use Rattle.pane_row.specs.Back.{told, firstAt, secondAt, thirdAt, fieldsBack, lineBack, backBy, elementBack, RowsTell}
 use Rattle.pane_row.proofs.LengthLaws.{put-length}

@@ -1,6 +1,6 @@
 -- A row gives the values back, by the tables and nothing else: 0 is absent. For every record that was read; proofs/RowsTellProof.antt
 use Prim.Native.Nat.{ℕ, suc, _-_}
-use mathlib.Core.Bool.{Bool, true, false}
+use mathlib.Core.Bool.{true, false}
 use mathlib.Core.Path.{_≡_}
 use mathlib.Core.List.{List, [], _∷_}
 use mathlib.Core.Option.{Option, none, some}
@@ -10,7 +10,7 @@ use lib.IntN.{ℤ, pos, negsuc}
 use Rattle.answer.specs.Answer.{answered, pick}
 use Rattle.answer.specs.Tables.{Line, find}
 use Rattle.field_number.specs.Forms.{Form}
-use Rattle.record_layout.specs.Fields.{Shown, number, numeral, absent, many, Field, fixed, type, id, stringReference, optionalType, optionalId, word, gap, numeric, size, string, run, methods, members, when}
+use Rattle.record_layout.specs.Fields.{Shown, number, numeral, absent, many, id}
 use Rattle.record_layout.specs.Layouts.{T, Layout, Table, typeLeaves, idLeaves, memberLeaves, method, recordOf}
 use Rattle.record_list.specs.Lists.{ElementValues, typeElement, idElement, methodElement, memberElement, Step, stepOf}
 use Rattle.record_list.specs.declared.ListCursor.{ListCursor}

@@ -1,6 +1,6 @@
 -- What kind of value a field has, and which of its three numbers say it: a slot that keeps those keeps the value.
 use mathlib.Core.Bool.{Bool, true, false}
-use mathlib.Core.List.{List, [], _∷_}
+use mathlib.Core.List.{[], _∷_}
 use Rattle.answer.specs.Answer.{both}
 use Rattle.record_layout.specs.Fields.{Field, fixed, type, id, stringReference, optionalType, optionalId, word, gap, numeric, size, string, run, methods, members, when}
 use Rattle.record_layout.specs.Layouts.{Layout}

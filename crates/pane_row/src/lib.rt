@@ -6,7 +6,7 @@ ghost use mathlib.Core.List.{[], _∷_};
 ghost use Rattle.field.specs.Indices.{typeOption, idOption};
 ghost use Rattle.field_number.specs.Numbers.{numberValue};
 ghost use Rattle.field_number.specs.Forms.{sizeForm, variantForm};
-ghost use Rattle.record_layout.specs.Fields.{number, orAbsent, Shown};
+ghost use Rattle.record_layout.specs.Fields.{number, orAbsent};
 ghost use Rattle.record_data.specs.Said.{stringValue, kindLeaf, typeValues};
 ghost use Rattle.record_id.specs.Said.{idValues};
 ghost use Rattle.record_member.specs.Said.{offsetOption, virtualLeaf, memberValues, entryValues};
