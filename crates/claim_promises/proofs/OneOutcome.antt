@@ -49,7 +49,7 @@ use Rattle.stream_index.specs.Walk.{turnOf}
 use Rattle.record_list.specs.Lists.{stepOf}
 use Rattle.record_list.specs.declared.ListCursor.{ListCursor}
 use Rattle.record_reader.specs.declared.ListReader.{ListReader}
-use Rattle.record_layout.specs.Layouts.{idLeaves}
+use Rattle.record_layout.specs.Layouts.{typeLeaves, idLeaves}
 use Rattle.record_data.specs.Said.{typeValues}
 use Rattle.record_id.specs.Said.{idValues}
 use Rattle.write_layout.specs.Fields.{givenAll}
