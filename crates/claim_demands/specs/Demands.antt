@@ -24,7 +24,7 @@ use Rattle.write_list.specs.ListsBack.{ListsReadBack, ListsExactly17}
 use Rattle.write_header.specs.Headers.{HeaderReadsBack}
 use Rattle.write_header.specs.Streams.{StreamWalks}
 use Rattle.stream_finder.specs.Runs.{OfRuns}
-use Rattle.section_item.specs.Sections.{Counts}
+use Rattle.section_item.specs.Sections.{SectionCounts}
 use Rattle.section_finder.specs.Demand.{OfSections}
 use Rattle.section_read.specs.Readers.{EachTaken}
 use Rattle.section_stream.specs.Made.{StreamMade}
@@ -47,7 +47,7 @@ use Rattle.claim_promises.specs.OneBuffer.{OneBuffer}
 use Rattle.claim_promises.specs.Widths.{SizeWidthSaid}
 use Rattle.claim_promises.specs.Indexed.{StreamsIndexed}
 use Rattle.claim_promises.specs.Paged.{SectionTally}
-use Rattle.claim_promises.specs.Examples.{examples, asked, given as answers}
+use Rattle.claim_promises.specs.Examples.{examples, asked, expectedOf as answers}
 use Rattle.claim_promises.specs.DeclareExamples.{declarations, declared, expected}
 use Rattle.claim_promises.specs.Answers.{Answers}
 use Rattle.claim_promises.specs.OneOutcome.{OneOutcome}
@@ -161,7 +161,7 @@ pub record Demands : Type 2 where
   -- crates/section_item/specs/Sections.antt
   pub of-runs : OfRuns
   pub of-sections : OfSections
-  pub sections-counted : Counts
+  pub sections-counted : SectionCounts
   -- the stream that is made of a section: its header is accepted and counts the section's records, their bytes are kept, its walk is the section's with
   -- places 52 higher, its lookups agree: crates/section_stream/specs/Made.antt
   pub made-stream : StreamMade

@@ -18,7 +18,7 @@ use Rattle.declare_piece.specs.declared.Piece.the-variants as piece
 use Rattle.declare_step.specs.Steps.{stepBy, stepOf, startOf}
 use Rattle.declare_step.specs.declared.Around.{Around}
 use Rattle.declare_walk.specs.Walk.{Walked, printed, stopped, onto, joined, restOf, argumentsOf, listed, stepped, walk}
-use Rattle.claim_promises.specs.DeclareWhen.{Inside, of-pointer, of-modifier, of-array, Calls, of-procedure, argumentAt, IsBase, Prints, base, inward, call, Visits, here, into, argument, returned, Fault, too-deep, its-own, its-lists, Meets, StopsBy, IsPrinted}
+use Rattle.claim_promises.specs.DeclareWhen.{Inside, of-pointer, of-modifier, of-array, Calls, of-procedure, argumentAt, IsBase, Prints, base, inward, call, TypeVisits, here, into, argument, returned, Fault, too-deep, its-own, its-lists, Meets, StopsBy, IsPrinted}
 
 -- ---- two walks after each other
 
@@ -206,7 +206,7 @@ module _ (s : List ℕ) (σ : State) where
   fault-stops e (suc d) i (its-own h) a = rw h refl
   fault-stops e (suc d) i (its-lists h m) a = rw (h, m) (onto-stops e _ _ _ (joined-first e _ _ refl))
 
-  pub stopping : (e : Refusal) (d i left at : ℕ) → Visits s σ d i left at → Fault s σ left at e → (a : Around) → StopsBy e (walk s σ d i a)
+  pub stopping : (e : Refusal) (d i left at : ℕ) → TypeVisits s σ d i left at → Fault s σ left at e → (a : Around) → StopsBy e (walk s σ d i a)
   stopping e d i left at here f a = fault-stops e d i f a
   stopping e (suc d) i left at (into {j = j} h v) f a = inside-stops e d i j h (λ b. stopping e d j left at v f b) a
   stopping e (suc d) i left at (argument {p = p} {n = n} {j = j} {m = m} h c all v) f a =

@@ -48,7 +48,7 @@ use Rattle.declare_type.specs.declared.DeclareAnswer.{DeclareAnswer}
 use Rattle.declare_type.specs.Declares.{textIn, declareOf, saidDeclare, lengthOf, bufferAfter, Declares}
 use Rattle.claim_promises.specs.ByTable.{Links, fits, linksFit, By, gives, refuses}
 use Rattle.claim_promises.specs.Given.{by, Given}
-use Rattle.claim_promises.specs.DeclareWhen.{fixedBy, unlimited, Visits, Fault, too-deep, its-own, its-lists, Meets, StopsBy, TooDeep, EntryOther, FoundOther, OtherLeaf, NotPrinted, other-leaf, no-list, other-list, OtherMet, HasRoom, DeclareWhen, Declined, long, full, met}
+use Rattle.claim_promises.specs.DeclareWhen.{fixedBy, unlimited, TypeVisits, Fault, too-deep, its-own, its-lists, Meets, StopsBy, TooDeep, EntryOther, FoundOther, OtherLeaf, NotPrinted, other-leaf, no-list, other-list, OtherMet, HasRoom, DeclareWhen, Declined, long, full, met}
 use Rattle.claim_promises.proofs.ByTable.{within, among-within, both-first, both-second, wider}
 use Rattle.claim_promises.proofs.DeclareModes.{LeafFirst, layout-first, five-modes}
 use Rattle.claim_promises.proofs.DeclarePaths.{printing, stopping, printed-has, stopped-meets}
@@ -492,7 +492,7 @@ other-of : (s : List ℕ) (σ : State) (i : ℕ) (j l : TypeIndex) → nodeOf s 
 other-of s σ i j l h (inl x) = no-list h x
 other-of s σ i j l h (inr x) = other-list h (x .0) (x .1)
 
-met-24 : (s : List ℕ) (σ : State) (i left at : ℕ) (e : Refusal) → Visits s σ 32 i left at → Fault s σ left at e → numberOf e ≡ 24 → OtherMet s σ i
+met-24 : (s : List ℕ) (σ : State) (i left at : ℕ) (e : Refusal) → TypeVisits s σ 32 i left at → Fault s σ left at e → numberOf e ≡ 24 → OtherMet s σ i
 met-24 s σ i left at e v too-deep n = absurd (omega arith)
 met-24 s σ i (suc d) at e v (its-own h) n =
     let x : (0x1000 ≤ at) × OtherLeaf declaredLeaves s σ at = due _ e (rw h at (node-is s σ at)) n in
@@ -500,7 +500,7 @@ met-24 s σ i (suc d) at e v (its-own h) n =
 met-24 s σ i (suc d) at e v (its-lists {j = j} {l = l} h m) n =
     record { left = d; at = at; path = v; other = other-of s σ at j l h (due _ e (rw m at (list-is s σ (l .0))) n) }
 
-met-23 : (s : List ℕ) (σ : State) (i left at : ℕ) (e : Refusal) → Visits s σ 32 i left at → Fault s σ left at e → numberOf e ≡ 23 → TooDeep s σ i
+met-23 : (s : List ℕ) (σ : State) (i left at : ℕ) (e : Refusal) → TypeVisits s σ 32 i left at → Fault s σ left at e → numberOf e ≡ 23 → TooDeep s σ i
 met-23 s σ i left at e v too-deep n = record { at = at; path = v }
 met-23 s σ i left at e v (its-own h) n = absurd (not-23 _ e (rw h at (node-is s σ at)) n)
 met-23 s σ i left at e v (its-lists {l = l} h m) n = absurd (not-23 _ e (rw m at (list-is s σ (l .0))) n)

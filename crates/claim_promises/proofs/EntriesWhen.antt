@@ -35,7 +35,7 @@ use Rattle.claim_promises.specs.ByTable.{Refuses}
 use Rattle.claim_promises.specs.Given.{by, Given}
 use Rattle.claim_promises.specs.ExactlyWhen.{Short}
 use Rattle.claim_promises.specs.RecordsWhen.{CutField, BadField, FailingField, AtLeaf}
-use Rattle.claim_promises.specs.EntriesWhen.{Numbered, NoPrimitive, leavesFor, payload, Whole, EntriesWhen}
+use Rattle.claim_promises.specs.EntriesWhen.{OfNumber, NoPrimitive, leavesFor, payload, Whole, EntriesWhen}
 use Rattle.claim_promises.proofs.Given.{off, at-stop, at-pick, at-then, not-by, denied, given-then}
 use Rattle.claim_promises.proofs.StreamRefuses.{primitive-refuses, type-refuses, id-refuses}
 use Rattle.claim_promises.proofs.GivenStreams as streams
@@ -108,7 +108,7 @@ numbered-8 i a h =
 module _ (t p : List ℕ) where
   -- items: by any number but 1, 8 and 16
   item-given : {n : ℕ} {d : List ℕ} {R : Type 0} (ix : ItemIndex) (at m : ℕ) → eqb 1 n ≡ false → among n (8 ∷ []) ≡ false → Given n d (recordOf (leavesFor ix) (bytes (named t p ix) at m)) R
-      → Given n d (itemOf t p ix at m) (((Numbered ix → ⊥) × (at + m ≤ length (named t p ix))) × R)
+      → Given n d (itemOf t p ix at m) (((OfNumber ix → ⊥) × (at + m ≤ length (named t p ix))) × R)
   unfolding typeItem typeBytes idBytes
   item-given (index.Types i) at m one eight g =
       let h = unnumbered (i .0) _ eight (bytes-given typeLeaves t at m _ one g) in
@@ -118,7 +118,7 @@ module _ (t p : List ℕ) where
       record { when = λ ((u, l), x). h .when (l, x); only = λ e. let y = h .only e in (((λ z. z), y .0), y .1) }
 
   item-1 : {R : Type 0} (ix : ItemIndex) (at m : ℕ) → Given 1 [] (recordOf (leavesFor ix) (bytes (named t p ix) at m)) R
-      → Given 1 [] (itemOf t p ix at m) (((Numbered ix → ⊥) × (length (named t p ix) < at + m)) ⊎ (((Numbered ix → ⊥) × (at + m ≤ length (named t p ix))) × R))
+      → Given 1 [] (itemOf t p ix at m) (((OfNumber ix → ⊥) × (length (named t p ix) < at + m)) ⊎ (((OfNumber ix → ⊥) × (at + m ≤ length (named t p ix))) × R))
   unfolding typeItem typeBytes idBytes among
   item-1 {R = R} (index.Types i) at m g = record { when = to; only = λ e. back (h .only e) }
     where
@@ -144,7 +144,7 @@ module _ (t p : List ℕ) where
 
   items-1 : (i : Item) → Given 1 [] (parseOf t p (entry.Record i))
       (Short t p
-      × (((Numbered (i .index) → ⊥) × (length (named t p (i .index)) < i .place + i .length))
+      × (((OfNumber (i .index) → ⊥) × (length (named t p (i .index)) < i .place + i .length))
       ⊎ (Whole t p i × ((length (payload t p i) < 2) ⊎ AtLeaf CutField (leavesFor (i .index)) (payload t p i) 0))))
   unfolding parseOf
   items-1 i = short-given t p _ refl (item-1 (i .index) (i .place) (i .length) (records.records-1 (leavesFor (i .index)) (payload t p i)))
@@ -162,11 +162,11 @@ module _ (t p : List ℕ) where
   unfolding parseOf among
   items-12 i = short-given t p _ refl (item-given (i .index) (i .place) (i .length) refl refl (records.records-12 (leavesFor (i .index)) (payload t p i)))
 
-  parsed-8 : (e : Entry) → Given 8 (numberIn (indexOf e) ∷ []) (parsedOf t p e) (Numbered (indexOf e) × NoPrimitive (numberIn (indexOf e)))
+  parsed-8 : (e : Entry) → Given 8 (numberIn (indexOf e) ∷ []) (parsedOf t p e) (OfNumber (indexOf e) × NoPrimitive (numberIn (indexOf e)))
   unfolding typeItem typeMarker typeBytes idBytes among
   parsed-8 (entry.Record i) = item (i .index) (i .place) (i .length)
     where
-      item : (ix : ItemIndex) (at m : ℕ) → Given 8 (numberIn ix ∷ []) (itemOf t p ix at m) (Numbered ix × NoPrimitive (numberIn ix))
+      item : (ix : ItemIndex) (at m : ℕ) → Given 8 (numberIn ix ∷ []) (itemOf t p ix at m) (OfNumber ix × NoPrimitive (numberIn ix))
       item (index.Types j) at m = numbered-8 (j .0) _ (bytes-not-8 typeLeaves t at m _ (not-by 8 refl (type-refuses (bytes t at m))))
       item (index.Ids j) at m = record {
         when = λ (x, _). absurd x;
@@ -174,15 +174,15 @@ module _ (t p : List ℕ) where
       }
   parsed-8 (entry.Marker i) = marker i
     where
-      marker : (ix : ItemIndex) → Given 8 (numberIn ix ∷ []) (markerOf ix) (Numbered ix × NoPrimitive (numberIn ix))
+      marker : (ix : ItemIndex) → Given 8 (numberIn ix ∷ []) (markerOf ix) (OfNumber ix × NoPrimitive (numberIn ix))
       marker (index.Types j) = numbered-8 (j .0) (refused 10 (0xffff ∷ [])) refl
       marker (index.Ids j) = record { when = λ (x, _). absurd x; only = off }
 
-  entries-8 : (e : Entry) → Given 8 (numberIn (indexOf e) ∷ []) (parseOf t p e) (Short t p × (Numbered (indexOf e) × NoPrimitive (numberIn (indexOf e))))
+  entries-8 : (e : Entry) → Given 8 (numberIn (indexOf e) ∷ []) (parseOf t p e) (Short t p × (OfNumber (indexOf e) × NoPrimitive (numberIn (indexOf e))))
   unfolding parseOf
   entries-8 e = short-given t p (parsedOf t p e) refl (parsed-8 e)
 
-  marker-10 : (ix : ItemIndex) → Given 10 (0xffff ∷ []) (markerOf ix) (Numbered ix → ⊥)
+  marker-10 : (ix : ItemIndex) → Given 10 (0xffff ∷ []) (markerOf ix) (OfNumber ix → ⊥)
   unfolding typeMarker among
   marker-10 (index.Types j) =
       let g : Given 10 (0xffff ∷ []) {A = Parsed} (refused 10 (0xffff ∷ [])) (Unit {0}) = record { when = λ _. refl; only = λ _. tt } in
@@ -190,7 +190,7 @@ module _ (t p : List ℕ) where
       record { when = λ u. h .when (u, tt); only = λ e. h .only e .0 }
   marker-10 (index.Ids j) = record { when = λ _. refl; only = λ _ x. x }
 
-  markers-10 : (i : ItemIndex) → Given 10 (0xffff ∷ []) (parseOf t p (entry.Marker i)) (Short t p × (Numbered i → ⊥))
+  markers-10 : (i : ItemIndex) → Given 10 (0xffff ∷ []) (parseOf t p (entry.Marker i)) (Short t p × (OfNumber i → ⊥))
   unfolding parseOf
   markers-10 i = short-given t p (markerOf i) refl (marker-10 i)
 

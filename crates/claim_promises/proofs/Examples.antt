@@ -11,9 +11,9 @@ use Rattle.stream_header.specs.Header.{headerOf}
 use Rattle.stream_item.specs.Links.{linkAt, chain, linkOf}
 use Rattle.stream_item.specs.Iterator.{iterOf, nextOf}
 use Rattle.stream_finder.specs.Finder.{begunBy, createBy, maxIndexOf, lookOf}
-use Rattle.claim_promises.specs.Examples.{examples, asked, given}
+use Rattle.claim_promises.specs.Examples.{examples, asked, expectedOf}
 
 -- every line holds
-pub examples-hold : map asked examples ≡ map given examples
+pub examples-hold : map asked examples ≡ map expectedOf examples
 unfolding examples iterOf headerOf nextOf littleAt createBy begunBy lookOf linkOf chain linkAt maxIndexOf kindOf modeOf sizeOf find pointerKinds pointerModes paddingAfter pad primitiveOf kinds indirections
 examples-hold = refl

@@ -25,7 +25,7 @@ use Rattle.claim_promises.specs.ByTable.{Refuses}
 use Rattle.claim_promises.specs.Given.{by, Given}
 use Rattle.claim_promises.specs.ExactlyWhen.{PadsPast, AtEnd}
 use Rattle.claim_promises.specs.RecordsWhen.{CutField, BadField, AtField, AtLeaf}
-use Rattle.claim_promises.specs.ListsWhen.{Counted, NoList, behindPads, placeIn, memberPlace, Before, AtMember, CutMember, CutElement, UnknownMember, leafMet, BadElement, NoElement, Led, stay, step, OnTheWay, FromStart}
+use Rattle.claim_promises.specs.ListsWhen.{Counted, NoList, behindPads, placeIn, memberPlace, Before, AtMember, CutMember, CutElement, UnknownMember, leafMet, BadElement, NoElement, StepsLed, stay, step, OnTheWay, FromStart}
 use Rattle.claim_promises.proofs.ByTable.{within}
 use Rattle.claim_promises.proofs.Given.{off, at-stop, at-pick, at-then, not-by, denied}
 use Rattle.claim_promises.proofs.ReadingRefuses.{fixed-refuses, padding-refuses, fields-refuse, TakesAll, no-more, _&_, method-takes}
@@ -330,7 +330,7 @@ module _ (s : List ℕ) (c : ListCursor) where
 -- ---- element k
 
 module _ (s : List ℕ) where
-  led-refused : {c e : ListCursor} {j n : ℕ} {d : List ℕ} (k : ℕ) → Led s c j e → j ≤ k → stepOf s e ≡ refused n d → elementBy (stepOf s) k c ≡ refused n d
+  led-refused : {c e : ListCursor} {j n : ℕ} {d : List ℕ} (k : ℕ) → StepsLed s c j e → j ≤ k → stepOf s e ≡ refused n d → elementBy (stepOf s) k c ≡ refused n d
   unfolding elementBy
   led-refused {c = c} {n = n} {d = d} k stay l h = element-refused (stepOf s) c k n d h
   led-refused zero (step x on) l h = absurd (omega arith)

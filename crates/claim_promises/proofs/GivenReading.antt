@@ -36,7 +36,7 @@ use Rattle.record_list.specs.Lists.{ElementValues, typeElement, idElement, inCo
 use Rattle.record_list.specs.declared.ListCursor.{ListCursor}
 use Rattle.field.specs.declared.index.Stream.the-variants as stream
 use Rattle.claim_promises.specs.Given.{by, Given}
-use Rattle.claim_promises.specs.ExactlyWhen.{NoZero, PadsPast, short, later, Below, Negative, Ends, AtEnd}
+use Rattle.claim_promises.specs.ExactlyWhen.{NoZero, PadsPast, short, later, Below, Negative, NoMoreMembers, AtEnd}
 use Rattle.claim_promises.proofs.ByTable.{both-first, both-second, within}
 use Rattle.claim_promises.proofs.Given.{off, at-stop, at-pick, at-then, denied, given-then}
 use Rattle.claim_promises.proofs.ReadingRefuses.{fixed-refuses, signed-refuses, Takes, TakesAll, no-more, _&_, fields-refuse, padding-refuses, read-record-refuses, member-takes}
@@ -541,7 +541,7 @@ module _ (s : List ℕ) (c : ListCursor) where
   unfolding among
   pads-15 = at-pick 15 (c .padded) _ _ (λ _. denied 15 refl (padding-refuses s (c .at))) (λ _. off)
 
-  ends-15 : (a : Answer ℕ) → Ends s a → then a (memberStep s) ≡ refused 15 []
+  ends-15 : (a : Answer ℕ) → NoMoreMembers s a → then a (memberStep s) ≡ refused 15 []
   ends-15 (answered q) h = member-step-15 q .when h
 
   pub members-15 : c .leaf ≡ 0x1203 → Given 15 [] (stepOf s c) ((c .left ≡ 0) ⊎ AtEnd s c)

@@ -24,7 +24,7 @@ use Rattle.record_layout.specs.Layouts.{Layout, Table, byLayout, readLeaf, read
 use Rattle.claim_promises.specs.ByTable.{Refuses}
 use Rattle.claim_promises.specs.Given.{by, Given}
 use Rattle.claim_promises.specs.ExactlyWhen.{NoZero, Below, Negative}
-use Rattle.claim_promises.specs.RecordsWhen.{wideBytes, CutNumber, UnknownPrefix, CutField, BadField, FailingField, Reached, here, next, AtField, AtLeaf}
+use Rattle.claim_promises.specs.RecordsWhen.{wideBytes, CutNumber, UnknownPrefix, CutField, BadField, FailingField, FieldReached, here, next, AtField, AtLeaf}
 use Rattle.claim_promises.proofs.Given.{off, at-stop, at-pick, at-then, denied, given-then}
 use Rattle.claim_promises.proofs.ReadingRefuses.{fixed-refuses, optional-refuses, string-refuses, bytes-refuses, numeral-refuses, sized-refuses}
 use Rattle.claim_promises.proofs.GivenReading as reading
@@ -201,7 +201,7 @@ fields-12 (when there f) w s p = if-there (there w) _ (fields-12 f w s p)
 -- ---- layouts and records: by a number n of which it is known when a field is refused by it
 
 module _ (n : ℕ) (P : Field → ℕ → List ℕ → ℕ → Type 0) (each : (f : Field) (w : ℕ) (s : List ℕ) (p : ℕ) → Given n [] (readField f w s p) (P f w s p)) where
-  reached-refused : {s : List ℕ} {fs gs : List Field} {w p u r : ℕ} → Reached s fs w p gs u r → readFields gs u s r ≡ refused n [] → readFields fs w s p ≡ refused n []
+  reached-refused : {s : List ℕ} {fs gs : List Field} {w p u r : ℕ} → FieldReached s fs w p gs u r → readFields gs u s r ≡ refused n [] → readFields fs w s p ≡ refused n []
   unfolding readFieldsBy
   reached-refused here h = h
   reached-refused (next e on) h = rw (e, reached-refused on h) refl

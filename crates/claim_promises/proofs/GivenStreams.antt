@@ -34,7 +34,7 @@ use Rattle.stream_finder.specs.Places.{Ready}
 use Rattle.stream_finder.proofs.FinderLaws.{begun-shift, begun-full, create-is, Open, update-long, update-shift, update-claims, update-foreign, update-full, due-yes, find-long, find-shift, find-claims, find-above, find-unheld, find-held}
 use Rattle.record_parse.specs.Record.{Parsed, entryOf as parsedOf, parseOf}
 use Rattle.claim_promises.specs.Given.{by, Given, refusalOf}
-use Rattle.claim_promises.specs.ExactlyWhen.{lengthAt, Short, Good, Inside, block, skipped, walked, Breaks, brokeAfter, Due}
+use Rattle.claim_promises.specs.ExactlyWhen.{lengthAt, Short, Usable, InBounds, block, linksSkipped, walked, LinkBreaks, brokeAfter, Due}
 use Rattle.claim_promises.proofs.Given.{off, at-stop, at-pick, at-then, carried}
 
 -- ---- headers
@@ -333,9 +333,9 @@ module _ (σ : State) (c : ItemIter) where
   }
 
   due-is : due (σ .finder) (c .index) ≡ true → Due σ c
-  due-is = go (eqb (skipped σ (c .index)) 0) (eqb (block σ (c .index)) (σ .finder .held)) refl refl
+  due-is = go (eqb (linksSkipped σ (c .index)) 0) (eqb (block σ (c .index)) (σ .finder .held)) refl refl
     where
-      go : (x y : Bool) → eqb (skipped σ (c .index)) 0 ≡ x → eqb (block σ (c .index)) (σ .finder .held) ≡ y → both x y ≡ true → Due σ c
+      go : (x y : Bool) → eqb (linksSkipped σ (c .index)) 0 ≡ x → eqb (block σ (c .index)) (σ .finder .held) ≡ y → both x y ≡ true → Due σ c
       go true true d e h = (eqb-true _ _ d, eqb-true _ _ e)
       go true false d e h = off h
       go false y d e h = off h
@@ -365,27 +365,27 @@ module _ (s : List ℕ) (σ : State) (i : ItemIndex) where
       → (longest < length s → eqb 16 n ≡ true → P)
       → (length s ≤ longest → 6 < σ .finder .shift → eqb 26 n ≡ true → P)
       → (length s ≤ longest → σ .finder .shift ≤ 6 → length (σ .table) < σ .finder .held → eqb 13 n ≡ true → P)
-      → (Good s σ → σ .finder .«minimum_index» ≤ numberIn i → σ .finder .«maximum_index» < numberIn i → eqb 8 n ≡ true → P)
-      → (Good s σ → Inside σ (numberIn i) → σ .finder .held ≤ block σ (numberIn i) → eqb 9 n ≡ true → P)
-      → (Good s σ → Inside σ (numberIn i) → block σ (numberIn i) < σ .finder .held → by n (landed i (skipped σ (numberIn i)) (walked s σ (numberIn i))) ≡ true → P)
+      → (Usable s σ → σ .finder .«minimum_index» ≤ numberIn i → σ .finder .«maximum_index» < numberIn i → eqb 8 n ≡ true → P)
+      → (Usable s σ → InBounds σ (numberIn i) → σ .finder .held ≤ block σ (numberIn i) → eqb 9 n ≡ true → P)
+      → (Usable s σ → InBounds σ (numberIn i) → block σ (numberIn i) < σ .finder .held → by n (landed i (linksSkipped σ (numberIn i)) (walked s σ (numberIn i))) ≡ true → P)
       → by n (findOf s σ i) ≡ true → P
   unfolding lookOf
   find-ways n long large claims above unheld walks =
       at-stop n (ltb longest (length s)) 16 _ (λ a. long (ltb-true _ _ a)) (λ a.
       at-stop n (ltb 6 (σ .finder .shift)) 26 _ (λ z. large (ltb-false _ _ a) (ltb-true _ _ z)) (λ z.
       at-stop n (ltb (length (σ .table)) (σ .finder .held)) 13 _ (λ b. claims (ltb-false _ _ a) (ltb-false _ _ z) (ltb-true _ _ b)) (λ b.
-      let good : Good s σ = (ltb-false _ _ a, ltb-false _ _ z, ltb-false _ _ b) in
+      let good : Usable s σ = (ltb-false _ _ a, ltb-false _ _ z, ltb-false _ _ b) in
       at-pick n (ltb (numberIn i) (σ .finder .«minimum_index»)) _ _ (λ _. off) (λ c.
       at-pick n (ltb (σ .finder .«maximum_index») (numberIn i)) _ _ (λ d. above good (ltb-false _ _ c) (ltb-true _ _ d)) (λ d.
       at-pick n (leb (σ .finder .held) (block σ (numberIn i))) _ _ (λ e. unheld good (ltb-false _ _ c, ltb-false _ _ d) (leb-true _ _ e)) (λ e.
       walks good (ltb-false _ _ c, ltb-false _ _ d) (leb-false _ _ e)))))))
 
   -- a walk along the links gives 1 alone
-  landed-not : (n : ℕ) → eqb 1 n ≡ false → (h : Hit) → by n (landed i (skipped σ (numberIn i)) h) ≡ false
+  landed-not : (n : ℕ) → eqb 1 n ≡ false → (h : Hit) → by n (landed i (linksSkipped σ (numberIn i)) h) ≡ false
   landed-not n e (Landed p l) = refl
   landed-not n e (Missed j) = e
 
-  ready : Good s σ → Ready s σ
+  ready : Usable s σ → Ready s σ
   ready (a, z, b) = record { short = a; shift = z; held = b }
 
   pub finds-16 : Given 16 [] (findOf s σ i) (longest < length s)
@@ -406,27 +406,27 @@ module _ (s : List ℕ) (σ : State) (i : ItemIndex) where
     only = find-ways 13 (λ _. off) (λ _ _. off) (λ a z h _. (a, z, h)) (λ _ _ _. off) (λ _ _ _. off) (λ _ _ _ e. off (sym (landed-not 13 refl (walked s σ (numberIn i))) ∙ e));
   }
 
-  pub finds-8 : Given 8 (numberIn i ∷ []) (findOf s σ i) (Good s σ × (σ .finder .«minimum_index» ≤ numberIn i) × (σ .finder .«maximum_index» < numberIn i))
+  pub finds-8 : Given 8 (numberIn i ∷ []) (findOf s σ i) (Usable s σ × (σ .finder .«minimum_index» ≤ numberIn i) × (σ .finder .«maximum_index» < numberIn i))
   finds-8 = record {
     when = λ (g, l, h). find-above s σ i (numberIn i) (ready g) l h;
     only = find-ways 8 (λ _. off) (λ _ _. off) (λ _ _ _. off) (λ g l h _. (g, l, h)) (λ _ _ _. off) (λ _ _ _ e. off (sym (landed-not 8 refl (walked s σ (numberIn i))) ∙ e));
   }
 
-  pub finds-9 : Given 9 (numberIn i ∷ maxIndexOf (σ .finder) ∷ []) (findOf s σ i) (Good s σ × Inside σ (numberIn i) × (σ .finder .held ≤ block σ (numberIn i)))
+  pub finds-9 : Given 9 (numberIn i ∷ maxIndexOf (σ .finder) ∷ []) (findOf s σ i) (Usable s σ × InBounds σ (numberIn i) × (σ .finder .held ≤ block σ (numberIn i)))
   finds-9 = record {
     when = λ (g, (l, u), h). find-unheld s σ i (numberIn i) (ready g) l u h;
     only = find-ways 9 (λ _. off) (λ _ _. off) (λ _ _ _. off) (λ _ _ _. off) (λ g n h _. (g, n, h)) (λ _ _ _ e. off (sym (landed-not 9 refl (walked s σ (numberIn i))) ∙ e));
   }
 
-  breaks : (h : Hit) → Breaks h → landed i (skipped σ (numberIn i)) h ≡ refused 1 (brokeAfter h ∷ [])
+  breaks : (h : Hit) → LinkBreaks h → landed i (linksSkipped σ (numberIn i)) h ≡ refused 1 (brokeAfter h ∷ [])
   breaks (Missed j) b = refl
 
-  broke : (h : Hit) → by 1 (landed i (skipped σ (numberIn i)) h) ≡ true → Breaks h
+  broke : (h : Hit) → by 1 (landed i (linksSkipped σ (numberIn i)) h) ≡ true → LinkBreaks h
   broke (Landed p l) e = off e
   broke (Missed j) e = tt
 
   pub finds-1 : Given 1 (brokeAfter (walked s σ (numberIn i)) ∷ []) (findOf s σ i)
-      (Good s σ × Inside σ (numberIn i) × (block σ (numberIn i) < σ .finder .held) × Breaks (walked s σ (numberIn i)))
+      (Usable s σ × InBounds σ (numberIn i) × (block σ (numberIn i) < σ .finder .held) × LinkBreaks (walked s σ (numberIn i)))
   finds-1 = record {
     when = λ (g, (l, u), h, b). find-held s σ i (numberIn i) _ refl (ready g) l u h ∙ breaks (walked s σ (numberIn i)) b;
     only = find-ways 1 (λ _. off) (λ _ _. off) (λ _ _ _. off) (λ _ _ _. off) (λ _ _ _. off) (λ g n h e. (g, n, h, broke (walked s σ (numberIn i)) e));

@@ -53,6 +53,6 @@ pub no-idle-creation : (shift : ℕ) (s t : List ℕ) (σ : State) → createBy 
 unfolding among
 no-idle-creation shift s t σ e = no-idle (26 ∷ 13 ∷ []) 16 (createBy shift s t) σ refl e
 
-pub no-idle-section : (shift : ℕ) (s t : List ℕ) (σ : State) → section.createBy shift s t ≡ answered σ → Refuses (26 ∷ 13 ∷ []) (idle 25 (section.createBy shift s t)) → ⊥
+pub no-idle-section : (shift : ℕ) (s t : List ℕ) (σ : State) → section.sectionCreateBy shift s t ≡ answered σ → Refuses (26 ∷ 13 ∷ []) (idle 25 (section.sectionCreateBy shift s t)) → ⊥
 unfolding among
-no-idle-section shift s t σ e = no-idle (26 ∷ 13 ∷ []) 25 (section.createBy shift s t) σ refl e
+no-idle-section shift s t σ e = no-idle (26 ∷ 13 ∷ []) 25 (section.sectionCreateBy shift s t) σ refl e

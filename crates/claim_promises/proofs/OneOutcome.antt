@@ -60,7 +60,7 @@ use Rattle.write_pieces.specs.Pieces.{piecesOf}
 use Rattle.write_header.specs.Headers.{headerBytes}
 use Rattle.section_finder.specs.Finders as sections
 use Rattle.section_finder.proofs.OneOutcome.{one-indexes as one-section}
-use Rattle.section_stream.specs.Streams.{streamOf}
+use Rattle.section_stream.specs.Streams.{sectionStream}
 use Rattle.write_row.specs.Rows.{memberRows, methodRows}
 use Rattle.declare_piece.specs.Pieces.{textOf}
 use Rattle.declare_word.specs.Spellings.{kindText, byText, modeText, qualsText}
@@ -223,15 +223,15 @@ one-outcome = record {
   record-reader-list-reader-step = one-reader-step;
   record-reader-step-of = one-stepped;
   record-reader-nth = λ stream s k r q a b. one-element r q (a ∙ sym b);
-  section-finder-create = λ s t. one-fills t (sections.createOf s t);
-  section-finder-create-by = λ s t shift. one-fills t (sections.createBy shift s t);
+  section-finder-create = λ s t. one-fills t (sections.sectionCreateOf s t);
+  section-finder-create-by = λ s t shift. one-fills t (sections.sectionCreateBy shift s t);
   section-finder-index-all = one-section 3;
   section-finder-index-all-by = λ s t shift. one-section shift s t;
   section-item-iter = λ s r q a b. one-iter r q (a ∙ sym b);
   section-item-len = λ s r q a b. one-len r q (a ∙ sym b);
   section-read-parse = λ s entry r q a b. one-parse r q (a ∙ sym b);
   section-read-start = λ bytes r q a b. one-start r q (a ∙ sym b);
-  section-stream-to-stream = λ s out. one-writes out (lay (streamOf s) out 0);
+  section-stream-to-stream = λ s out. one-writes out (lay (sectionStream s) out 0);
   stream-finder-create = λ s t. one-fills t (createOf s t);
   stream-finder-begin = λ t records shift. one-fills t (begunIn shift t records);
   stream-finder-create-by = λ s t shift. one-fills t (createBy shift s t);

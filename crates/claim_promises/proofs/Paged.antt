@@ -13,12 +13,12 @@ use Rattle.stream_index.specs.Walk.{Turns, none, more}
 use Rattle.stream_index.specs.declared.Tour.{Tour}
 use Rattle.stream_index.proofs.WalkLaws.{Moves, turn-back}
 use Rattle.section_item.specs.Sections.{first, countOf}
-use Rattle.section_finder.specs.Finders.{sectionRun, createBy, WholeBy}
+use Rattle.section_finder.specs.Finders.{sectionRun, sectionCreateBy, SectionWholeBy}
 use Rattle.pane.proofs.TallyProof.{Kept, tallied, update-kept, begun-kept}
 use Rattle.claim_promises.specs.Paged.{SectionTally}
 
-created-kept : (shift : ℕ) (s t : List ℕ) (σ : State) → createBy shift s t ≡ answered σ → Kept 4096 shift σ
-unfolding createBy
+created-kept : (shift : ℕ) (s t : List ℕ) (σ : State) → sectionCreateBy shift s t ≡ answered σ → Kept 4096 shift σ
+unfolding sectionCreateBy
 created-kept shift s t σ e = go (countOf s) e
   where
     go : (a : Answer ℕ) → then a (λ n. begunIn shift t (sectionRun n)) ≡ answered σ → Kept 4096 shift σ

@@ -16,12 +16,12 @@ use Rattle.stream_item.specs.Iterator.{Next, done, yielded, nextOf}
 use Rattle.stream_item.specs.declared.Entry.{Entry}
 use Rattle.stream_item.specs.declared.iter.ItemIter.{ItemIter}
 use Rattle.stream_finder.specs.Finder.{State, begunIn}
-use Rattle.section_item.specs.Sections.{first, startOf, onBy, walkBy, lastOf, countOf}
+use Rattle.section_item.specs.Sections.{first, sectionStart, sectionOn, walkBy, lastOf, countOf}
 use Rattle.section_item.proofs.SectionLaws.{start-long, start-short, start-signature, start-first, count-refused, counted}
-use Rattle.section_finder.specs.Finders.{sectionRun, createBy}
+use Rattle.section_finder.specs.Finders.{sectionRun, sectionCreateBy}
 use Rattle.section_finder.proofs.FinderLaws.{create-is}
 use Rattle.section_read.specs.Readers.{readerAt, sortedOf, readOf}
-use Rattle.section_stream.specs.Streams.{streamBytes, streamOf}
+use Rattle.section_stream.specs.Streams.{streamBytes, sectionStream}
 use Rattle.section_stream.proofs.StreamLaws.{stream-length, stream-long, stream-is}
 use Rattle.field_put.specs.Bytes.{put}
 use Rattle.write_layout.specs.Buffer.{Written, lay, bufferAfter, placeAfter, Writes}
@@ -39,8 +39,8 @@ use Rattle.claim_promises.proofs.StreamRefuses.{next-refuses, run-refus
 
 -- ---- demand 1
 
-starts : (s : List ℕ) → Refuses (16 ∷ 1 ∷ 25 ∷ []) (startOf s)
-unfolding startOf fits among listed find inTable refusals
+starts : (s : List ℕ) → Refuses (16 ∷ 1 ∷ 25 ∷ []) (sectionStart s)
+unfolding sectionStart fits among listed find inTable refusals
 starts s =
     by-stop (ltb longest (length s)) 16 refl
     (by-stop (ltb (length s) 4) 1 refl
@@ -52,7 +52,7 @@ unfolding walkBy
 walks zero s c = gives
 walks (suc k) s c = by-then (next-refuses s c) (on (λ d. walks k s d))
   where
-    on : ((d : ItemIter) → Refuses (16 ∷ 1 ∷ 6 ∷ 7 ∷ []) (walkBy k s d)) → (n : Next) → Refuses (16 ∷ 1 ∷ 6 ∷ 7 ∷ []) (onBy (walkBy k s) c n)
+    on : ((d : ItemIter) → Refuses (16 ∷ 1 ∷ 6 ∷ 7 ∷ []) (walkBy k s d)) → (n : Next) → Refuses (16 ∷ 1 ∷ 6 ∷ 7 ∷ []) (sectionOn (walkBy k s) c n)
     on w done = gives
     on w (yielded i d) = w d
 
@@ -60,15 +60,15 @@ counts : (s : List ℕ) → Refuses (16 ∷ 1 ∷ 25 ∷ 6 ∷ 7 ∷ []) (countO
 unfolding countOf lastOf within among
 counts s = by-then (wider refl (starts s)) (λ c. by-then (wider refl (walks (suc (length s)) s c)) (λ d. gives))
 
-creations : (shift : ℕ) (s t : List ℕ) → Refuses (16 ∷ 1 ∷ 25 ∷ 6 ∷ 7 ∷ 26 ∷ 13 ∷ []) (createBy shift s t)
-unfolding createBy within among
+creations : (shift : ℕ) (s t : List ℕ) → Refuses (16 ∷ 1 ∷ 25 ∷ 6 ∷ 7 ∷ 26 ∷ 13 ∷ []) (sectionCreateBy shift s t)
+unfolding sectionCreateBy within among
 creations shift s t = by-then (wider refl (counts s)) (λ n. wider refl (run-refuses shift t (sectionRun n)))
 
-made : (s : List ℕ) → Refuses (16 ∷ 1 ∷ 25 ∷ 6 ∷ 7 ∷ []) (streamOf s)
-unfolding streamOf fits among listed find inTable refusals
+made : (s : List ℕ) → Refuses (16 ∷ 1 ∷ 25 ∷ 6 ∷ 7 ∷ []) (sectionStream s)
+unfolding sectionStream fits among listed find inTable refusals
 made s = by-stop (ltb longest (length s + 52)) 16 refl (by-then (counts s) (λ n. gives))
 
-streams : (s o : List ℕ) → Refuses (16 ∷ 1 ∷ 25 ∷ 6 ∷ 7 ∷ 19 ∷ []) (lay (streamOf s) o 0)
+streams : (s o : List ℕ) → Refuses (16 ∷ 1 ∷ 25 ∷ 6 ∷ 7 ∷ 19 ∷ []) (lay (sectionStream s) o 0)
 unfolding lay fits within among listed find inTable refusals
 streams s o = by-then (wider refl (made s)) (λ bs. by-stop (ltb (length o) (0 + length bs)) 19 refl gives)
 
@@ -92,42 +92,42 @@ sections-refuse = record {
   streams = streams;
   entries = entries;
   lists = λ b. start-refuses (readerAt b 0) b;
-  create-keeps = λ shift s t. leaves-alone t (createBy shift s t);
+  create-keeps = λ shift s t. leaves-alone t (sectionCreateBy shift s t);
   index-keeps = λ shift s t e t′ h. h .1;
-  stream-keeps = λ s o. writes-nothing o (lay (streamOf s) o 0);
+  stream-keeps = λ s o. writes-nothing o (lay (sectionStream s) o 0);
 }
 
 -- ---- given exactly when
 
 module _ (s : List ℕ) where
   start-ways : {P : Type 0} (n : ℕ) → (longest < length s → eqb 16 n ≡ true → P) → (length s ≤ longest → length s < 4 → eqb 1 n ≡ true → P)
-      → (length s ≤ longest → 4 ≤ length s → (littleAt 4 s 0 ≡ 4 → ⊥) → eqb 25 n ≡ true → P) → by n (startOf s) ≡ true → P
-  unfolding startOf
+      → (length s ≤ longest → 4 ≤ length s → (littleAt 4 s 0 ≡ 4 → ⊥) → eqb 25 n ≡ true → P) → by n (sectionStart s) ≡ true → P
+  unfolding sectionStart
   start-ways n long short wrong =
       at-stop n (ltb longest (length s)) 16 _ (λ a. long (ltb-true _ _ a)) (λ a.
       at-stop n (ltb (length s) 4) 1 _ (λ b. short (ltb-false _ _ a) (ltb-true _ _ b)) (λ b.
       at-pick n (eqb (littleAt 4 s 0) 4) _ _ (λ _. off) (λ c. wrong (ltb-false _ _ a) (ltb-false _ _ b) (eqb-false _ _ c))))
 
-  starts-16 : Given 16 [] (startOf s) (longest < length s)
+  starts-16 : Given 16 [] (sectionStart s) (longest < length s)
   starts-16 = record { when = start-long s; only = start-ways 16 (λ a _. a) (λ _ _. off) (λ _ _ _. off) }
 
-  starts-1 : Given 1 [] (startOf s) (length s < 4)
+  starts-1 : Given 1 [] (sectionStart s) (length s < 4)
   starts-1 = record { when = λ a. start-short s (omega arith) a; only = start-ways 1 (λ _. off) (λ _ b _. b) (λ _ _ _. off) }
 
-  starts-25 : Given 25 [] (startOf s) ((length s ≤ longest) × (4 ≤ length s) × (littleAt 4 s 0 ≡ 4 → ⊥))
+  starts-25 : Given 25 [] (sectionStart s) ((length s ≤ longest) × (4 ≤ length s) × (littleAt 4 s 0 ≡ 4 → ⊥))
   starts-25 = record { when = λ (a, b, c). start-signature s a b c; only = start-ways 25 (λ _. off) (λ _ _. off) (λ a b c _. (a, b, c)) }
 
 module _ (shift : ℕ) (s t : List ℕ) (n : ℕ) (e : countOf s ≡ answered n) where
-  created : createBy shift s t ≡ begunIn shift t (sectionRun n)
+  created : sectionCreateBy shift s t ≡ begunIn shift t (sectionRun n)
   created = create-is shift s t (answered n) e
 
-  creations-else : Refuses (26 ∷ 13 ∷ []) (createBy shift s t)
+  creations-else : Refuses (26 ∷ 13 ∷ []) (sectionCreateBy shift s t)
   creations-else = rw created (run-refuses shift t (sectionRun n))
 
-  creations-26 : Given 26 [] (createBy shift s t) (6 < shift)
+  creations-26 : Given 26 [] (sectionCreateBy shift s t) (6 < shift)
   creations-26 = rw created (begins-26 shift t (sectionRun n))
 
-  creations-13 : Given 13 [] (createBy shift s t) ((shift ≤ 6) × (0 < n) × (length t ≡ 0))
+  creations-13 : Given 13 [] (sectionCreateBy shift s t) ((shift ≤ 6) × (0 < n) × (length t ≡ 0))
   creations-13 = record {
     when = λ (a, b, c). created ∙ begins-13 shift t (sectionRun n) .when (a, (let w : 4096 < 4096 + n = omega arith in w), c);
     only = λ y. let (a, b, c) = begins-13 shift t (sectionRun n) .only (ap (by 13) (sym created) ∙ y) in (a, (let x : 0 < n = omega arith in x), c);
@@ -137,18 +137,18 @@ module _ (shift : ℕ) (s t : List ℕ) (n : ℕ) (e : countOf s ≡ answered n)
 walk-16 : (k : ℕ) (s : List ℕ) (c : ItemIter) → by 16 (walkBy k s c) ≡ true → longest < length s
 unfolding walkBy
 walk-16 zero s c y = off y
-walk-16 (suc k) s c y = at-then 16 (nextOf s c) (onBy (walkBy k s) c) (nexts-16 s c .only) (λ n _ z. on (λ d. walk-16 k s d) n z) y
+walk-16 (suc k) s c y = at-then 16 (nextOf s c) (sectionOn (walkBy k s) c) (nexts-16 s c .only) (λ n _ z. on (λ d. walk-16 k s d) n z) y
   where
-    on : ((d : ItemIter) → by 16 (walkBy k s d) ≡ true → longest < length s) → (n : Next) → by 16 (onBy (walkBy k s) c n) ≡ true → longest < length s
+    on : ((d : ItemIter) → by 16 (walkBy k s d) ≡ true → longest < length s) → (n : Next) → by 16 (sectionOn (walkBy k s) c n) ≡ true → longest < length s
     on w done z = off z
     on w (yielded i d) z = w d z
 
 count-16 : (s : List ℕ) → by 16 (countOf s) ≡ true → longest < length s
 unfolding countOf lastOf
-count-16 s y = at-then 16 (startOf s) _ (starts-16 s .only) (λ c _ z. at-then 16 (walkBy (suc (length s)) s c) _ (walk-16 (suc (length s)) s c) (λ d _. off) z) y
+count-16 s y = at-then 16 (sectionStart s) _ (starts-16 s .only) (λ c _ z. at-then 16 (walkBy (suc (length s)) s c) _ (walk-16 (suc (length s)) s c) (λ d _. off) z) y
 
-streams-16 : (s : List ℕ) → Given 16 [] (streamOf s) (longest < length s + 52)
-unfolding streamOf
+streams-16 : (s : List ℕ) → Given 16 [] (sectionStream s) (longest < length s + 52)
+unfolding sectionStream
 streams-16 s = record {
   when = stream-long s;
   only = at-stop 16 (ltb longest (length s + 52)) 16 _ (λ a _. ltb-true _ _ a) (λ a.
@@ -159,11 +159,11 @@ module _ (s o : List ℕ) (n : ℕ) (l : length s + 52 ≤ longest) (e : countOf
   four : 4 ≤ length s
   four = counted s n e .begun .four
 
-  laid : lay (streamOf s) o 0 ≡ stop (ltb (length o) (0 + length (streamBytes n s))) 19 (answered (record { buffer = put o 0 (streamBytes n s); next = 0 + length (streamBytes n s) }))
+  laid : lay (sectionStream s) o 0 ≡ stop (ltb (length o) (0 + length (streamBytes n s))) 19 (answered (record { buffer = put o 0 (streamBytes n s); next = 0 + length (streamBytes n s) }))
   unfolding lay
   laid = rw (stream-is s (answered n) l e)
 
-  streams-19 : Given 19 [] (lay (streamOf s) o 0) (length o < length s + 52)
+  streams-19 : Given 19 [] (lay (sectionStream s) o 0) (length o < length s + 52)
   streams-19 = record {
     when = λ a.
         let w : length o < 0 + length (streamBytes n s) = omega (arith, stream-length n s four) in
@@ -174,21 +174,21 @@ module _ (s o : List ℕ) (n : ℕ) (l : length s + 52 ≤ longest) (e : countOf
         (ap (by 19) (sym laid) ∙ y);
   }
 
-  streams-else : Refuses (19 ∷ []) (lay (streamOf s) o 0)
+  streams-else : Refuses (19 ∷ []) (lay (sectionStream s) o 0)
   unfolding fits among listed find inTable refusals
   streams-else = rw laid (by-stop (ltb (length o) (0 + length (streamBytes n s))) 19 refl gives)
 
 -- ---- as the count is
 
-creations-own : (shift : ℕ) (s t : List ℕ) → RefusedAs (16 ∷ 1 ∷ 25 ∷ 6 ∷ 7 ∷ []) (createBy shift s t) (countOf s)
+creations-own : (shift : ℕ) (s t : List ℕ) → RefusedAs (16 ∷ 1 ∷ 25 ∷ 6 ∷ 7 ∷ []) (sectionCreateBy shift s t) (countOf s)
 unfolding apart among
 creations-own shift s t =
-    as-first (16 ∷ 1 ∷ 25 ∷ 6 ∷ 7 ∷ []) (26 ∷ 13 ∷ []) (createBy shift s t) (countOf s) refl (λ n d e. create-is shift s t (refused n d) e) (creations-else shift s t)
+    as-first (16 ∷ 1 ∷ 25 ∷ 6 ∷ 7 ∷ []) (26 ∷ 13 ∷ []) (sectionCreateBy shift s t) (countOf s) refl (λ n d e. create-is shift s t (refused n d) e) (creations-else shift s t)
 
-streams-own : (s o : List ℕ) → length s + 52 ≤ longest → RefusedAs (1 ∷ 25 ∷ 6 ∷ 7 ∷ []) (lay (streamOf s) o 0) (countOf s)
+streams-own : (s o : List ℕ) → length s + 52 ≤ longest → RefusedAs (1 ∷ 25 ∷ 6 ∷ 7 ∷ []) (lay (sectionStream s) o 0) (countOf s)
 unfolding apart among lay
 streams-own s o l =
-    as-first (1 ∷ 25 ∷ 6 ∷ 7 ∷ []) (19 ∷ []) (lay (streamOf s) o 0) (countOf s) refl (λ n d e. rw (stream-is s (refused n d) l e)) (λ n. streams-else s o n l)
+    as-first (1 ∷ 25 ∷ 6 ∷ 7 ∷ []) (19 ∷ []) (lay (sectionStream s) o 0) (countOf s) refl (λ n d e. rw (stream-is s (refused n d) l e)) (λ n. streams-else s o n l)
 
 pub sections-when : SectionsWhen
 sections-when = record {

@@ -32,10 +32,10 @@ use Rattle.record_parse.specs.Record.{parseOf, saidParse}
 use Rattle.record_reader.specs.Reader.{Steps}
 use Rattle.record_reader.specs.declared.ListReader.{ListReader}
 use Rattle.record_reader.specs.declared.Stepped.{Stepped}
-use Rattle.section_finder.specs.Finders.{IndexesBy as IndexesBy-of-section-finder, createBy as createBy-of-section-finder, createOf as createOf-of-section-finder}
-use Rattle.section_item.specs.Sections.{countOf, startOf as startOf-of-section-item}
+use Rattle.section_finder.specs.Finders.{SectionIndexesBy, sectionCreateBy, sectionCreateOf}
+use Rattle.section_item.specs.Sections.{countOf, sectionStart}
 use Rattle.section_read.specs.Readers.{readOf, readerAt}
-use Rattle.section_stream.specs.Streams.{streamOf}
+use Rattle.section_stream.specs.Streams.{sectionStream}
 use Rattle.stream_drop.specs.Drop.{Drops, dropOf}
 use Rattle.stream_drop.specs.declared.DropAnswer.{DropAnswer}
 use Rattle.stream_finder.specs.Finder.{Fills, begunIn, createBy as createBy-of-stream-finder, createOf as createOf-of-stream-finder, findOf, maxIndexOf, saidFind, state, updateOf}
@@ -167,15 +167,15 @@ pub record Answers : Type 1 where
   pub record-reader-step-of : (bytes : List ℕ) (cursor : ListCursor) (u : Stepped) → contract.record-reader-step-of bytes cursor u → Steps cursor (stepOf-of-record-list bytes cursor) (u .answer) (u .cursor)
   pub record-reader-nth : (stream : Stream) (s : List ℕ) (k : ℕ) → Says (contract.record-reader-nth stream s k) saidElement (elementOf stream s k)
   -- sections of object files
-  pub section-finder-create : (s : List ℕ) (t : List ℕ) (r : FinderAnswer) (t′ : List ℕ) → contract.section-finder-create s t r t′ → Fills t (createOf-of-section-finder s t) r t′
-  pub section-finder-create-by : (s : List ℕ) (t : List ℕ) (shift : ℕ) (r : FinderAnswer) (t′ : List ℕ) → contract.section-finder-create-by s t shift r t′ → Fills t (createBy-of-section-finder shift s t) r t′
-  pub section-finder-index-all : (s : List ℕ) (t : List ℕ) (r : IndexAnswer) (t′ : List ℕ) → contract.section-finder-index-all s t r t′ → IndexesBy-of-section-finder 3 s t r t′
-  pub section-finder-index-all-by : (s : List ℕ) (t : List ℕ) (shift : ℕ) (r : IndexAnswer) (t′ : List ℕ) → contract.section-finder-index-all-by s t shift r t′ → IndexesBy-of-section-finder shift s t r t′
-  pub section-item-iter : (s : List ℕ) → Says (contract.section-item-iter s) saidIter (startOf-of-section-item s)
+  pub section-finder-create : (s : List ℕ) (t : List ℕ) (r : FinderAnswer) (t′ : List ℕ) → contract.section-finder-create s t r t′ → Fills t (sectionCreateOf s t) r t′
+  pub section-finder-create-by : (s : List ℕ) (t : List ℕ) (shift : ℕ) (r : FinderAnswer) (t′ : List ℕ) → contract.section-finder-create-by s t shift r t′ → Fills t (sectionCreateBy shift s t) r t′
+  pub section-finder-index-all : (s : List ℕ) (t : List ℕ) (r : IndexAnswer) (t′ : List ℕ) → contract.section-finder-index-all s t r t′ → SectionIndexesBy 3 s t r t′
+  pub section-finder-index-all-by : (s : List ℕ) (t : List ℕ) (shift : ℕ) (r : IndexAnswer) (t′ : List ℕ) → contract.section-finder-index-all-by s t shift r t′ → SectionIndexesBy shift s t r t′
+  pub section-item-iter : (s : List ℕ) → Says (contract.section-item-iter s) saidIter (sectionStart s)
   pub section-item-len : (s : List ℕ) → Says (contract.section-item-len s) saidLen (countOf s)
   pub section-read-parse : (s : List ℕ) (entry : Entry) → Says (contract.section-read-parse s entry) saidParse (readOf s entry)
   pub section-read-start : (bytes : List ℕ) → Says (contract.section-read-start bytes) saidStart (startOf-of-record-list (readerAt bytes 0) bytes)
-  pub section-stream-to-stream : (s : List ℕ) (out : List ℕ) (r : WriteAnswer) (out′ : List ℕ) → contract.section-stream-to-stream s out r out′ → Writes out (lay (streamOf s) out 0) (saidWrite r) out′
+  pub section-stream-to-stream : (s : List ℕ) (out : List ℕ) (r : WriteAnswer) (out′ : List ℕ) → contract.section-stream-to-stream s out r out′ → Writes out (lay (sectionStream s) out 0) (saidWrite r) out′
   -- what is written, into a buffer that is lent; a declaration
   pub declare-type-declare : (s : List ℕ) (f : ItemFinder) (t : List ℕ) (i : TypeIndex) (out : List ℕ) (r : DeclareAnswer) (out′ : List ℕ) → contract.declare-type-declare s f t i out r out′ → Declares (declareOf s (state f t) (i .0) (length out)) out r out′
   pub write-header-write-header : (h : Header) (out : List ℕ) (at : ℕ) (r : WriteAnswer) (out′ : List ℕ) → contract.write-header-write-header h out at r out′ → Writes out (lay (headerBytes h) out at) (saidWrite r) out′

@@ -20,7 +20,7 @@ use Rattle.pane_out.specs.Handed.{isSet, mark}
 use Rattle.pane_parse.specs.Out.{outRead, recordAt}
 use Rattle.pane_record.specs.Out.{cursorAt as cursorAt-of-pane-record, outId, outList as outList-of-pane-record, outStep, outType, streamAt}
 use Rattle.pane_report.specs.Out.{outReport, totalsAt}
-use Rattle.pane_section.specs.Out.{indexOf as indexOf-of-pane-section, outCount, outList as outList-of-pane-section, outStart, outStream}
+use Rattle.pane_section.specs.Out.{sectionIndexBy, outCount, outList as outList-of-pane-section, outStart, outStream}
 use Rattle.pane_state.specs.Entries.{entryAt}
 use Rattle.pane_state.specs.Finders.{outFinder}
 use Rattle.pane_state.specs.Given.{cursorAt as cursorAt-of-pane-state, finderAt, finderWith}
@@ -33,12 +33,12 @@ use Rattle.record_cells.specs.Codes.{layoutIn}
 use Rattle.record_layout.specs.Layouts.{idLeaves, recordOf, typeLeaves}
 use Rattle.record_list.specs.Lists.{startOf as startOf-of-record-list, stepOf as stepOf-of-record-list}
 use Rattle.record_parse.specs.Record.{parseOf}
-use Rattle.section_finder.specs.Finders.{createBy as createBy-of-section-finder}
+use Rattle.section_finder.specs.Finders.{sectionCreateBy}
 use Rattle.section_item.specs.Sections as specs
 use Rattle.section_read.specs.Readers.{readOf, readerAt}
-use Rattle.section_stream.specs.Streams.{streamOf}
+use Rattle.section_stream.specs.Streams.{sectionStream}
 use Rattle.stream_drop.specs.Drop.{dropOf}
-use Rattle.stream_finder.specs.Finder.{createBy as createBy-of-stream-finder, findOf, maxIndexOf, updateOf}
+use Rattle.stream_finder.specs.Finder.{createBy, findOf, maxIndexOf, updateOf}
 use Rattle.stream_fit.specs.Fit.{fitOf}
 use Rattle.stream_header.specs.Header.{headerOf}
 use Rattle.stream_item.specs.Iterator.{nextOf}
@@ -70,7 +70,7 @@ pub record Border : Type 0 where
   -- is a stream fit to bind
   pub pane-fit-pdb-fit : (s : List ℕ) (r : ℕ) (out′ : List ℕ) → contract.pane-fit-pdb-fit s r out′ → (r, out′) ≡ outFit (fitOf s)
   -- a stream's finder, entries, and places in a file
-  pub pane-index-pdb-create : (s : List ℕ) (table : List ℕ) (shift : ℕ) (r : ℕ) (table′ : List ℕ) (out′ : List ℕ) → contract.pane-index-pdb-create s table shift r table′ out′ → (r, out′, table′) ≡ outFinder table (createBy-of-stream-finder shift s table)
+  pub pane-index-pdb-create : (s : List ℕ) (table : List ℕ) (shift : ℕ) (r : ℕ) (table′ : List ℕ) (out′ : List ℕ) → contract.pane-index-pdb-create s table shift r table′ out′ → (r, out′, table′) ≡ outFinder table (createBy shift s table)
   pub pane-index-pdb-index : (s : List ℕ) (table : List ℕ) (shift : ℕ) (r : ℕ) (table′ : List ℕ) (out′ : List ℕ) → contract.pane-index-pdb-index s table shift r table′ out′ → (r, out′, table′) ≡ outWalk table (indexAllBy shift Types s table)
   pub pane-index-pdb-max-index : (minimum : ℕ) (maximum : ℕ) (held : ℕ) (shift : ℕ) (r : ℕ) → contract.pane-index-pdb-max-index minimum maximum held shift r → r ≡ maxIndexOf (finderWith minimum maximum held shift)
   pub pane-index-pdb-view : (tpi : List ℕ) (ipi : List ℕ) (ids : ℕ) (item : ℕ) (index : ℕ) (place : ℕ) (length : ℕ) (r : ℕ) (out′ : List ℕ) → contract.pane-index-pdb-view tpi ipi ids item index place length r out′ → (r, out′) ≡ outView (viewOf tpi ipi (entryAt ids item index place length))
@@ -90,11 +90,11 @@ pub record Border : Type 0 where
   -- reports
   pub pane-report-pdb-report : (s : List ℕ) (taken : ℕ) (refused : ℕ) (headers : ℕ) (records : ℕ) (bytes : ℕ) (length : ℕ) (stream : ℕ) (index : ℕ) (rows : ℕ) (table : List ℕ) (r : ℕ) (table′ : List ℕ) (out′ : List ℕ) → contract.pane-report-pdb-report s taken refused headers records bytes length stream index rows table r table′ out′ → (r, out′, table′) ≡ outReport table (addOf (reportIn (totalsAt taken refused headers records bytes length stream index rows) table) s)
   -- sections
-  pub pane-section-pdb-section-start : (s : List ℕ) (r : ℕ) (out′ : List ℕ) → contract.pane-section-pdb-section-start s r out′ → (r, out′) ≡ outStart (specs.startOf s)
+  pub pane-section-pdb-section-start : (s : List ℕ) (r : ℕ) (out′ : List ℕ) → contract.pane-section-pdb-section-start s r out′ → (r, out′) ≡ outStart (specs.sectionStart s)
   pub pane-section-pdb-section-count : (s : List ℕ) (r : ℕ) (out′ : List ℕ) → contract.pane-section-pdb-section-count s r out′ → (r, out′) ≡ outCount (specs.countOf s)
-  pub pane-section-pdb-section-create : (s : List ℕ) (table : List ℕ) (shift : ℕ) (r : ℕ) (table′ : List ℕ) (out′ : List ℕ) → contract.pane-section-pdb-section-create s table shift r table′ out′ → (r, out′, table′) ≡ outFinder table (createBy-of-section-finder shift s table)
-  pub pane-section-pdb-section-index : (s : List ℕ) (table : List ℕ) (shift : ℕ) (r : ℕ) (table′ : List ℕ) (out′ : List ℕ) → contract.pane-section-pdb-section-index s table shift r table′ out′ → (r, out′, table′) ≡ outWalk table (indexOf-of-pane-section shift s table)
-  pub pane-section-pdb-section-stream : (s : List ℕ) (buffer : List ℕ) (r : ℕ) (buffer′ : List ℕ) (out′ : List ℕ) → contract.pane-section-pdb-section-stream s buffer r buffer′ out′ → (r, out′, buffer′) ≡ outStream buffer (lay (streamOf s) buffer 0)
+  pub pane-section-pdb-section-create : (s : List ℕ) (table : List ℕ) (shift : ℕ) (r : ℕ) (table′ : List ℕ) (out′ : List ℕ) → contract.pane-section-pdb-section-create s table shift r table′ out′ → (r, out′, table′) ≡ outFinder table (sectionCreateBy shift s table)
+  pub pane-section-pdb-section-index : (s : List ℕ) (table : List ℕ) (shift : ℕ) (r : ℕ) (table′ : List ℕ) (out′ : List ℕ) → contract.pane-section-pdb-section-index s table shift r table′ out′ → (r, out′, table′) ≡ outWalk table (sectionIndexBy shift s table)
+  pub pane-section-pdb-section-stream : (s : List ℕ) (buffer : List ℕ) (r : ℕ) (buffer′ : List ℕ) (out′ : List ℕ) → contract.pane-section-pdb-section-stream s buffer r buffer′ out′ → (r, out′, buffer′) ≡ outStream buffer (lay (sectionStream s) buffer 0)
   pub pane-section-pdb-section-list : (s : List ℕ) (r : ℕ) (out′ : List ℕ) → contract.pane-section-pdb-section-list s r out′ → (r, out′) ≡ outList-of-pane-section (startOf-of-record-list (readerAt s 0) s)
   -- strings, numbers, words
   pub pane-word-pdb-string : (s : List ℕ) (leaf : ℕ) (at : ℕ) (r : ℕ) (out′ : List ℕ) → contract.pane-word-pdb-string s leaf at r out′ → (r, out′) ≡ outString (stringOf leaf s at)

@@ -77,7 +77,7 @@ use Rattle.pane_row.specs.ElementPlaces.{indexRow, memberRow as memberRow-of-pa
 use Rattle.pane_row.specs.IdPlaces.{idRow}
 use Rattle.pane_row.specs.ListPlaces.{cursorRow}
 use Rattle.pane_row.specs.TypePlaces.{typeRow}
-use Rattle.pane_section.specs.Out.{indexOf as indexOf-of-pane-section, outCount, outList as outList-of-pane-section, outStart, outStream}
+use Rattle.pane_section.specs.Out.{outCount, outList as outList-of-pane-section, outStart, outStream, sectionIndexBy}
 use Rattle.pane_state.specs.Entries.{entryAt}
 use Rattle.pane_state.specs.Finders.{outFinder}
 use Rattle.pane_state.specs.Given.{cursorAt as cursorAt-of-pane-state, finderAt, finderWith}
@@ -119,14 +119,14 @@ use Rattle.record_reference.specs.Said.{saidOfElement, saidReferences}
 use Rattle.record_reference.specs.Values.{elementRefs, slots, slotsBy}
 use Rattle.record_reference.specs.declared.ElementReferences.{ElementReferences}
 use Rattle.record_reference.specs.declared.References.{References}
-use Rattle.section_finder.specs.Finders.{Indexes as Indexes-of-section-finder, IndexesBy as IndexesBy-of-section-finder, createBy as createBy-of-section-finder, createOf as createOf-of-section-finder}
+use Rattle.section_finder.specs.Finders.{SectionIndexes, SectionIndexesBy, sectionCreateBy, sectionCreateOf}
 use Rattle.section_item.specs.Sections as specs
-use Rattle.section_item.specs.Sections.{countOf, startOf as startOf-of-section-item}
+use Rattle.section_item.specs.Sections.{countOf, sectionStart}
 use Rattle.section_read.specs.Readers.{readOf, readerAt}
-use Rattle.section_stream.specs.Streams.{streamOf}
+use Rattle.section_stream.specs.Streams.{sectionStream}
 use Rattle.stream_drop.specs.Drop.{Drops, dropOf}
 use Rattle.stream_drop.specs.declared.DropAnswer.{DropAnswer}
-use Rattle.stream_finder.specs.Finder.{Fills, begunIn, createBy as createBy-of-stream-finder, createOf as createOf-of-stream-finder, findOf, maxIndexOf, saidFind, state, updateOf}
+use Rattle.stream_finder.specs.Finder.{Fills, begunIn, createBy, createOf, findOf, maxIndexOf, saidFind, state, updateOf}
 use Rattle.stream_finder.specs.Lent.{Updates}
 use Rattle.stream_finder.specs.declared.FindAnswer.{FindAnswer}
 use Rattle.stream_finder.specs.declared.FinderAnswer.{FinderAnswer}
@@ -139,12 +139,12 @@ use Rattle.stream_fit.specs.declared.FitAnswer.{FitAnswer}
 use Rattle.stream_header.specs.Header.{headerOf, saidHeader}
 use Rattle.stream_header.specs.declared.Header.{Header}
 use Rattle.stream_header.specs.declared.HeaderAnswer.{HeaderAnswer}
-use Rattle.stream_index.specs.Walk.{Indexes as Indexes-of-stream-index, IndexesBy as IndexesBy-of-stream-index, Leads, Walks, turnOf}
+use Rattle.stream_index.specs.Walk.{Indexes, IndexesBy, Leads, Walks, turnOf}
 use Rattle.stream_index.specs.declared.IndexAnswer.{IndexAnswer}
 use Rattle.stream_index.specs.declared.Tour.{Tour}
 use Rattle.stream_index.specs.declared.TurnAnswer.{TurnAnswer}
 use Rattle.stream_item.specs.Information.{isEmptyOf, lenOf, saidEmpty, saidLen}
-use Rattle.stream_item.specs.Items.{indexOf as indexOf-of-stream-item, lengthOf}
+use Rattle.stream_item.specs.Items.{indexOf, lengthOf}
 use Rattle.stream_item.specs.Iterator.{iterOf, nextOf, saidIter, saidNext}
 use Rattle.stream_item.specs.Links.{linkOf}
 use Rattle.stream_item.specs.declared.Entry.{Entry}
@@ -410,7 +410,7 @@ pane-fit-pdb-fit s r out′ = (r, out′) ≡ outFit (fitOf s)
 
 -- pane_index::pdb_create
 abbrev pub pane-index-pdb-create : (s : List ℕ) (table : List ℕ) (shift : ℕ) → ℕ → List ℕ → List ℕ → Type 0
-pane-index-pdb-create s table shift r table′ out′ = (r, out′, table′) ≡ outFinder table (createBy-of-stream-finder shift s table)
+pane-index-pdb-create s table shift r table′ out′ = (r, out′, table′) ≡ outFinder table (createBy shift s table)
 
 -- pane_index::pdb_index
 abbrev pub pane-index-pdb-index : (s : List ℕ) (table : List ℕ) (shift : ℕ) → ℕ → List ℕ → List ℕ → Type 0
@@ -514,7 +514,7 @@ pane-row-index-row at left padded i r = r ≡ 0 ∷ 0 ∷ at ∷ left ∷ padded
 
 -- pane_section::pdb_section_start
 abbrev pub pane-section-pdb-section-start : (s : List ℕ) → ℕ → List ℕ → Type 0
-pane-section-pdb-section-start s r out′ = (r, out′) ≡ outStart (specs.startOf s)
+pane-section-pdb-section-start s r out′ = (r, out′) ≡ outStart (specs.sectionStart s)
 
 -- pane_section::pdb_section_count
 abbrev pub pane-section-pdb-section-count : (s : List ℕ) → ℕ → List ℕ → Type 0
@@ -522,15 +522,15 @@ pane-section-pdb-section-count s r out′ = (r, out′) ≡ outCount (specs.coun
 
 -- pane_section::pdb_section_create
 abbrev pub pane-section-pdb-section-create : (s : List ℕ) (table : List ℕ) (shift : ℕ) → ℕ → List ℕ → List ℕ → Type 0
-pane-section-pdb-section-create s table shift r table′ out′ = (r, out′, table′) ≡ outFinder table (createBy-of-section-finder shift s table)
+pane-section-pdb-section-create s table shift r table′ out′ = (r, out′, table′) ≡ outFinder table (sectionCreateBy shift s table)
 
 -- pane_section::pdb_section_index
 abbrev pub pane-section-pdb-section-index : (s : List ℕ) (table : List ℕ) (shift : ℕ) → ℕ → List ℕ → List ℕ → Type 0
-pane-section-pdb-section-index s table shift r table′ out′ = (r, out′, table′) ≡ outWalk table (indexOf-of-pane-section shift s table)
+pane-section-pdb-section-index s table shift r table′ out′ = (r, out′, table′) ≡ outWalk table (sectionIndexBy shift s table)
 
 -- pane_section::pdb_section_stream
 abbrev pub pane-section-pdb-section-stream : (s : List ℕ) (buffer : List ℕ) → ℕ → List ℕ → List ℕ → Type 0
-pane-section-pdb-section-stream s buffer r buffer′ out′ = (r, out′, buffer′) ≡ outStream buffer (lay (streamOf s) buffer 0)
+pane-section-pdb-section-stream s buffer r buffer′ out′ = (r, out′, buffer′) ≡ outStream buffer (lay (sectionStream s) buffer 0)
 
 -- pane_section::pdb_section_list
 abbrev pub pane-section-pdb-section-list : (s : List ℕ) → ℕ → List ℕ → Type 0
@@ -710,23 +710,23 @@ record-reference-element-references e r = ((p : ℕ) → saidOfElement r p ≡ e
 
 -- section_finder::create
 abbrev pub section-finder-create : (s : List ℕ) (t : List ℕ) → FinderAnswer → List ℕ → Type 0
-section-finder-create s t r t′ = Fills t (createOf-of-section-finder s t) r t′
+section-finder-create s t r t′ = Fills t (sectionCreateOf s t) r t′
 
 -- section_finder::create_by
 abbrev pub section-finder-create-by : (s : List ℕ) (t : List ℕ) (shift : ℕ) → FinderAnswer → List ℕ → Type 0
-section-finder-create-by s t shift r t′ = Fills t (createBy-of-section-finder shift s t) r t′
+section-finder-create-by s t shift r t′ = Fills t (sectionCreateBy shift s t) r t′
 
 -- section_finder::index_all
 abbrev pub section-finder-index-all : (s : List ℕ) (t : List ℕ) → IndexAnswer → List ℕ → Type 0
-section-finder-index-all s t r t′ = Indexes-of-section-finder s t r t′
+section-finder-index-all s t r t′ = SectionIndexes s t r t′
 
 -- section_finder::index_all_by
 abbrev pub section-finder-index-all-by : (s : List ℕ) (t : List ℕ) (shift : ℕ) → IndexAnswer → List ℕ → Type 0
-section-finder-index-all-by s t shift r t′ = IndexesBy-of-section-finder shift s t r t′
+section-finder-index-all-by s t shift r t′ = SectionIndexesBy shift s t r t′
 
 -- section_item::iter
 abbrev pub section-item-iter : (s : List ℕ) → IterAnswer → Type 0
-section-item-iter s r = saidIter r ≡ startOf-of-section-item s
+section-item-iter s r = saidIter r ≡ sectionStart s
 
 -- section_item::len
 abbrev pub section-item-len : (s : List ℕ) → LenAnswer → Type 0
@@ -742,7 +742,7 @@ section-read-start bytes r = saidStart r ≡ startOf-of-record-list (readerAt by
 
 -- section_stream::to_stream
 abbrev pub section-stream-to-stream : (s : List ℕ) (out : List ℕ) → WriteAnswer → List ℕ → Type 0
-section-stream-to-stream s out r out′ = Writes out (lay (streamOf s) out 0) (saidWrite r) out′
+section-stream-to-stream s out r out′ = Writes out (lay (sectionStream s) out 0) (saidWrite r) out′
 
 -- stream_drop::drop
 abbrev pub stream-drop-drop : (s : List ℕ) (roots : List ℕ) (table : List ℕ) (out : List ℕ) → DropAnswer → List ℕ → List ℕ → Type 0
@@ -750,11 +750,11 @@ stream-drop-drop s roots table out r table′ out′ = Drops table out (dropOf s
 
 -- stream_finder::create
 abbrev pub stream-finder-create : (s : List ℕ) (t : List ℕ) → FinderAnswer → List ℕ → Type 0
-stream-finder-create s t r t′ = Fills t (createOf-of-stream-finder s t) r t′
+stream-finder-create s t r t′ = Fills t (createOf s t) r t′
 
 -- stream_finder::create_by
 abbrev pub stream-finder-create-by : (s : List ℕ) (t : List ℕ) (shift : ℕ) → FinderAnswer → List ℕ → Type 0
-stream-finder-create-by s t shift r t′ = Fills t (createBy-of-stream-finder shift s t) r t′
+stream-finder-create-by s t shift r t′ = Fills t (createBy shift s t) r t′
 
 -- stream_finder::begin
 abbrev pub stream-finder-begin : (t : List ℕ) (records : Run) (shift : ℕ) → FinderAnswer → List ℕ → Type 0
@@ -810,15 +810,15 @@ stream-index-index-on s f t c r t′ = Walks s c (state f t) r t′
 
 -- stream_index::index_all
 abbrev pub stream-index-index-all : (stream : Stream) (s : List ℕ) (t : List ℕ) → IndexAnswer → List ℕ → Type 0
-stream-index-index-all stream s t r t′ = Indexes-of-stream-index stream s t r t′
+stream-index-index-all stream s t r t′ = Indexes stream s t r t′
 
 -- stream_index::index_all_by
 abbrev pub stream-index-index-all-by : (stream : Stream) (s : List ℕ) (t : List ℕ) (shift : ℕ) → IndexAnswer → List ℕ → Type 0
-stream-index-index-all-by stream s t shift r t′ = IndexesBy-of-stream-index shift stream s t r t′
+stream-index-index-all-by stream s t shift r t′ = IndexesBy shift stream s t r t′
 
 -- stream_item::Entry::index
 abbrev pub stream-item-entry-index : (self : Entry) → ItemIndex → Type 0
-stream-item-entry-index self r = r ≡ indexOf-of-stream-item self
+stream-item-entry-index self r = r ≡ indexOf self
 
 -- stream_item::Entry::len
 abbrev pub stream-item-entry-len : (self : Entry) → ℕ → Type 0

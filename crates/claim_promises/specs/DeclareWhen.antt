@@ -71,13 +71,13 @@ pub data Prints (s : List ℕ) (σ : State) : ℕ → ℕ → Type 0 where
 
 -- The walk from type i with d types left to nest comes to type j with e left. Arguments come from left to right and the return behind them, so
 -- that all before it have a declaration.
-pub data Visits (s : List ℕ) (σ : State) : ℕ → ℕ → ℕ → ℕ → Type 0 where
-  here : {d i : ℕ} → Visits s σ d i d i
-  into : {d i j e k : ℕ} → Inside s σ i j → Visits s σ d j e k → Visits s σ (suc d) i e k
+pub data TypeVisits (s : List ℕ) (σ : State) : ℕ → ℕ → ℕ → ℕ → Type 0 where
+  here : {d i : ℕ} → TypeVisits s σ d i d i
+  into : {d i j e k : ℕ} → Inside s σ i j → TypeVisits s σ d j e k → TypeVisits s σ (suc d) i e k
   argument : {d i p n j m e k : ℕ}
-      → Calls s σ i p n j → m < n → ((o : ℕ) → o < m → Prints s σ d (argumentAt s p o)) → Visits s σ d (argumentAt s p m) e k → Visits s σ (suc d) i e k
+      → Calls s σ i p n j → m < n → ((o : ℕ) → o < m → Prints s σ d (argumentAt s p o)) → TypeVisits s σ d (argumentAt s p m) e k → TypeVisits s σ (suc d) i e k
   returned : {d i p n j e k : ℕ}
-      → Calls s σ i p n j → ((o : ℕ) → o < n → Prints s σ d (argumentAt s p o)) → Visits s σ d j e k → Visits s σ (suc d) i e k
+      → Calls s σ i p n j → ((o : ℕ) → o < n → Prints s σ d (argumentAt s p o)) → TypeVisits s σ d j e k → TypeVisits s σ (suc d) i e k
 
 -- ---- what a visited type is refused by
 
@@ -91,7 +91,7 @@ pub data Fault (s : List ℕ) (σ : State) : ℕ → ℕ → Refusal → Type 0 
 pub record Meets (s : List ℕ) (σ : State) (d i : ℕ) (e : Refusal) : Type 0 where
   pub left : ℕ
   pub at : ℕ
-  pub path : Visits s σ d i left at
+  pub path : TypeVisits s σ d i left at
   pub fault : Fault s σ left at e
 
 abbrev pub StopsBy : Refusal → Walked → Type 0
@@ -105,7 +105,7 @@ IsPrinted (stopped k x) = ⊥
 -- 23: the walk comes to a type with none left to nest
 pub record TooDeep (s : List ℕ) (σ : State) (i : ℕ) : Type 0 where
   pub at : ℕ
-  pub path : Visits s σ 32 i 0 at
+  pub path : TypeVisits s σ 32 i 0 at
 
 -- what is found at an index has a leaf, and it is none of these; the marker's is none
 abbrev pub EntryOther : List ℕ → List ℕ → Entry → Type 0
@@ -130,7 +130,7 @@ pub data NotPrinted (s : List ℕ) (σ : State) (i : ℕ) : Type 0 where
 pub record OtherMet (s : List ℕ) (σ : State) (i : ℕ) : Type 0 where
   pub left : ℕ
   pub at : ℕ
-  pub path : Visits s σ 32 i (suc left) at
+  pub path : TypeVisits s σ 32 i (suc left) at
   pub other : NotPrinted s σ at
 
 -- neither 16 nor 19

@@ -33,9 +33,9 @@ use Rattle.claim_promises.specs.RecordsWhen.{CutField, BadField, Failing
 -- ---- words of the conditions, over the TPI stream t and the IPI stream p
 
 -- an index that is read as a primitive; and one that is none
-abbrev pub Numbered : ItemIndex → Type 0
-Numbered (index.Types i) = i .0 < 0x1000
-Numbered (index.Ids i) = ⊥
+abbrev pub OfNumber : ItemIndex → Type 0
+OfNumber (index.Types i) = i .0 < 0x1000
+OfNumber (index.Ids i) = ⊥
 
 abbrev pub NoPrimitive : ℕ → Type 0
 NoPrimitive i = (0x1000 ≤ i) ⊎ (8 ≤ i / 2 ^ 8 % 2 ^ 4) ⊎ (find (i % 2 ^ 8) kinds ≡ none)
@@ -50,13 +50,13 @@ payload t p i = bytes (named t p (i .index)) (i .place) (i .length)
 
 -- it is read by its bytes, and they are all in its stream
 abbrev pub Whole : List ℕ → List ℕ → Item → Type 0
-Whole t p i = (Numbered (i .index) → ⊥) × (i .place + i .length ≤ length (named t p (i .index)))
+Whole t p i = (OfNumber (i .index) → ⊥) × (i .place + i .length ≤ length (named t p (i .index)))
 
 pub record EntriesWhen : Type 0 where
   -- an item, 1: it passes the end of its stream, or its record passes the end of the item
   pub items-1 : (t p : List ℕ) (i : Item) → Given 1 [] (parseOf t p (entry.Record i))
       (Short t p
-      × (((Numbered (i .index) → ⊥) × (length (named t p (i .index)) < i .place + i .length))
+      × (((OfNumber (i .index) → ⊥) × (length (named t p (i .index)) < i .place + i .length))
       ⊎ (Whole t p i × ((length (payload t p i) < 2) ⊎ AtLeaf CutField (leavesFor (i .index)) (payload t p i) 0))))
   -- 10, with the leaf; 11; 12
   pub items-10 : (t p : List ℕ) (i : Item) → Given 10 (littleAt 2 (payload t p i) 0 ∷ []) (parseOf t p (entry.Record i))
@@ -64,9 +64,9 @@ pub record EntriesWhen : Type 0 where
   pub items-11 : (t p : List ℕ) (i : Item) → Given 11 [] (parseOf t p (entry.Record i)) (Short t p × (Whole t p i × AtLeaf BadField (leavesFor (i .index)) (payload t p i) 0))
   pub items-12 : (t p : List ℕ) (i : Item) → Given 12 [] (parseOf t p (entry.Record i)) (Short t p × (Whole t p i × AtLeaf FailingField (leavesFor (i .index)) (payload t p i) 0))
   -- 8 of an item and of the marker, with the index: it is to be a primitive and is none
-  pub entries-8 : (t p : List ℕ) (e : Entry) → Given 8 (numberIn (indexOf e) ∷ []) (parseOf t p e) (Short t p × (Numbered (indexOf e) × NoPrimitive (numberIn (indexOf e))))
+  pub entries-8 : (t p : List ℕ) (e : Entry) → Given 8 (numberIn (indexOf e) ∷ []) (parseOf t p e) (Short t p × (OfNumber (indexOf e) × NoPrimitive (numberIn (indexOf e))))
   -- the marker: 10 with 0xffff unless it is to be a primitive, and never 1, 11 or 12
-  pub markers-10 : (t p : List ℕ) (i : ItemIndex) → Given 10 (0xffff ∷ []) (parseOf t p (entry.Marker i)) (Short t p × (Numbered i → ⊥))
+  pub markers-10 : (t p : List ℕ) (i : ItemIndex) → Given 10 (0xffff ∷ []) (parseOf t p (entry.Marker i)) (Short t p × (OfNumber i → ⊥))
   pub markers-1 : (t p : List ℕ) (i : ItemIndex) → Given 1 [] (parseOf t p (entry.Marker i)) ⊥
   pub markers-11 : (t p : List ℕ) (i : ItemIndex) → Given 11 [] (parseOf t p (entry.Marker i)) ⊥
   pub markers-12 : (t p : List ℕ) (i : ItemIndex) → Given 12 [] (parseOf t p (entry.Marker i)) ⊥

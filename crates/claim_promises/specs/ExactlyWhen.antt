@@ -66,27 +66,27 @@ abbrev pub Short : List ℕ → List ℕ → Type 0
 Short t p = (length t ≤ longest) × (length p ≤ longest)
 
 -- the stream may be so long, the finder's shift is at most 6, and it claims no more places than its table has
-abbrev pub Good : List ℕ → State → Type 0
-Good s σ = (length s ≤ longest) × (σ .finder .shift ≤ 6) × (σ .finder .held ≤ length (σ .table))
+abbrev pub Usable : List ℕ → State → Type 0
+Usable s σ = (length s ≤ longest) × (σ .finder .shift ≤ 6) × (σ .finder .held ≤ length (σ .table))
 
 -- the number n is one of the stream's indices
-abbrev pub Inside : State → ℕ → Type 0
-Inside σ n = (σ .finder .«minimum_index» ≤ n) × (n ≤ σ .finder .«maximum_index»)
+abbrev pub InBounds : State → ℕ → Type 0
+InBounds σ n = (σ .finder .«minimum_index» ≤ n) × (n ≤ σ .finder .«maximum_index»)
 
 -- d / 2^shift and d mod 2^shift, where d is how far n is above the minimum
 abbrev pub block : State → ℕ → ℕ
 block σ n = (n - σ .finder .«minimum_index») / blockOf (σ .finder)
 
-abbrev pub skipped : State → ℕ → ℕ
-skipped σ n = (n - σ .finder .«minimum_index») % blockOf (σ .finder)
+abbrev pub linksSkipped : State → ℕ → ℕ
+linksSkipped σ n = (n - σ .finder .«minimum_index») % blockOf (σ .finder)
 
 -- the links that a lookup goes along
 abbrev pub walked : List ℕ → State → ℕ → Hit
-walked s σ n = linkOf s (getD (σ .table) (block σ n) 0) (skipped σ n)
+walked s σ n = linkOf s (getD (σ .table) (block σ n) 0) (linksSkipped σ n)
 
-abbrev pub Breaks : Hit → Type 0
-Breaks (Landed p n) = ⊥
-Breaks (Missed j) = Unit {0}
+abbrev pub LinkBreaks : Hit → Type 0
+LinkBreaks (Landed p n) = ⊥
+LinkBreaks (Missed j) = Unit {0}
 
 abbrev pub brokeAfter : Hit → ℕ
 brokeAfter (Landed p n) = 0
@@ -94,7 +94,7 @@ brokeAfter (Missed j) = j
 
 -- a place must be stored: the cursor's index starts a block, and the finder holds just the places before it
 abbrev pub Due : State → ItemIter → Type 0
-Due σ c = (skipped σ (c .index) ≡ 0) × (block σ (c .index) ≡ σ .finder .held)
+Due σ c = (linksSkipped σ (c .index) ≡ 0) × (block σ (c .index) ≡ σ .finder .held)
 
 -- a number that was read is negative
 abbrev pub Below : ℤ → Type 0
@@ -106,12 +106,12 @@ Negative (answered g) = Below (g .value)
 Negative (refused n d) = ⊥
 
 -- no byte is left at the next member's place, which is behind the padding after a member
-abbrev pub Ends : List ℕ → Answer ℕ → Type 0
-Ends s (answered q) = length s ≤ q
-Ends s (refused n d) = ⊥
+abbrev pub NoMoreMembers : List ℕ → Answer ℕ → Type 0
+NoMoreMembers s (answered q) = length s ≤ q
+NoMoreMembers s (refused n d) = ⊥
 
 abbrev pub AtEnd : List ℕ → ListCursor → Type 0
-AtEnd s c = Ends s (pick (c .padded) (paddingAfter s (c .at)) (answered (c .at)))
+AtEnd s c = NoMoreMembers s (pick (c .padded) (paddingAfter s (c .at)) (answered (c .at)))
 
 pub record ExactlyWhen : Type 0 where
   -- 1, ended: "a field, string, padding run or record passes the end of its bytes"
@@ -138,7 +138,7 @@ pub record ExactlyWhen : Type 0 where
       (Short t p × ((length (named t p (i .index)) < i .place + i .length) ⊎ (i .length < 2)))
   -- from `find`, with the links passed
   pub finds-1 : (s : List ℕ) (σ : State) (i : ItemIndex) → Given 1 (brokeAfter (walked s σ (numberIn i)) ∷ []) (findOf s σ i)
-      (Good s σ × Inside σ (numberIn i) × (block σ (numberIn i) < σ .finder .held) × Breaks (walked s σ (numberIn i)))
+      (Usable s σ × InBounds σ (numberIn i) × (block σ (numberIn i) < σ .finder .held) × LinkBreaks (walked s σ (numberIn i)))
   -- 2, header small; 3, header large; 4, minimum low; 5, maximum low
   pub headers-2 : (s : List ℕ) → Given 2 [] (headerOf s) ((56 ≤ length s) × (length s ≤ longest) × (fieldsOf s .«header_size» < 56))
   pub headers-3 : (s : List ℕ) → Given 3 [] (headerOf s) ((56 ≤ length s) × (length s ≤ longest) × (1024 < fieldsOf s .«header_size»))
@@ -160,12 +160,12 @@ pub record ExactlyWhen : Type 0 where
       ((length s ≤ longest) × (2 ≤ lengthAt s c) × (c .at + 2 + lengthAt s c ≤ length s) × (4294967295 ≤ c .index))
   -- 8, not found, with the index: "lookup above maximum_index; unknown primitive; the marker's view"
   pub finds-8 : (s : List ℕ) (σ : State) (i : ItemIndex) → Given 8 (numberIn i ∷ []) (findOf s σ i)
-      (Good s σ × (σ .finder .«minimum_index» ≤ numberIn i) × (σ .finder .«maximum_index» < numberIn i))
+      (Usable s σ × (σ .finder .«minimum_index» ≤ numberIn i) × (σ .finder .«maximum_index» < numberIn i))
   pub primitives-8 : (i : ℕ) → Given 8 (i ∷ []) (primitiveOf i) ((0x1000 ≤ i) ⊎ (8 ≤ i / 2 ^ 8 % 2 ^ 4) ⊎ (find (i % 2 ^ 8) kinds ≡ none))
   pub views-8 : (t p : List ℕ) (i : ItemIndex) → Given 8 (numberIn i ∷ []) (viewOf t p (entry.Marker i)) (Short t p)
   -- 9, not indexed, with the index and the highest indexed: its block is no held place
   pub finds-9 : (s : List ℕ) (σ : State) (i : ItemIndex) → Given 9 (numberIn i ∷ maxIndexOf (σ .finder) ∷ []) (findOf s σ i)
-      (Good s σ × Inside σ (numberIn i) × (σ .finder .held ≤ block σ (numberIn i)))
+      (Usable s σ × InBounds σ (numberIn i) × (σ .finder .held ≤ block σ (numberIn i)))
   -- 10, leaf unknown, with the leaf: "leaf not among those this reader takes", of a record by any table, of a member, of a list
   pub records-10 : (table : Table) (s : List ℕ) → Given 10 (littleAt 2 s 0 ∷ []) (recordOf table s) ((2 ≤ length s) × (find (littleAt 2 s 0) table ≡ none))
   pub members-10 : (table : Table) (s : List ℕ) (p : ℕ) → Given 10 (littleAt 2 s p ∷ []) (readRecord table s p) ((p + 2 ≤ length s) × (find (littleAt 2 s p) table ≡ none))

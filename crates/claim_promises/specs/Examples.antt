@@ -37,19 +37,19 @@ pub data Asked : Type 0 where
   primitive : ℕ → Asked
 
 -- what is shown where it is not refused
-pub data Shown : Type 0 where
+pub data ExampleShown : Type 0 where
   -- an index, and where its payload starts and ends
-  item : ℕ → ℕ → ℕ → Shown
-  over : Shown
+  item : ℕ → ℕ → ℕ → ExampleShown
+  over : ExampleShown
   -- where the payload starts and ends, and the links passed
-  found : ℕ → ℕ → ℕ → Shown
-  marker : ℕ → Shown
-  pointer-kind : PointerKind → Shown
-  pointer-mode : PointerMode → Shown
-  number : ℕ → Shown
+  found : ℕ → ℕ → ℕ → ExampleShown
+  marker : ℕ → ExampleShown
+  pointer-kind : PointerKind → ExampleShown
+  pointer-mode : PointerMode → ExampleShown
+  number : ℕ → ExampleShown
   -- header_size, minimum and maximum
-  bounds : ℕ → ℕ → ℕ → Shown
-  by : PrimitiveKind → Indirection → Shown
+  bounds : ℕ → ℕ → ℕ → ExampleShown
+  by : PrimitiveKind → Indirection → ExampleShown
 
 abbrev stepAgain : List ℕ → Next → Answer Next
 stepAgain s done = answered done
@@ -59,28 +59,28 @@ abbrev stepped : ℕ → List ℕ → Answer Next
 stepped zero s = then (iterOf Types s) (nextOf s)
 stepped (suc k) s = then (stepped k s) (stepAgain s)
 
-abbrev nextShown : Next → Shown
+abbrev nextShown : Next → ExampleShown
 nextShown done = over
 nextShown (yielded i c) = item (numberIn (i .index)) (i .place) (i .place + i .length)
 
-abbrev entryShown : Entry → ℕ → Shown
+abbrev entryShown : Entry → ℕ → ExampleShown
 entryShown (entry.Record i) k = found (i .place) (i .place + i .length) k
 entryShown (entry.Marker i) k = marker (numberIn i)
 
-abbrev pub outcome : Asked → Answer Shown
-outcome (step k s) = then (stepped k s) (λ x. answered (nextShown x))
-outcome (lookup s i) = then (createOf s (0 ∷ [])) (λ σ. then (findOf s σ (indexIn Types i)) (λ x. answered (entryShown (x .entry) (x .passed))))
-outcome (kind w) = then (kindOf w) (λ k. answered (pointer-kind k))
-outcome (mode w) = then (modeOf w) (λ m. answered (pointer-mode m))
-outcome (size w) = then (sizeOf w) (λ n. answered (number n))
-outcome (header s) = then (headerOf s) (λ h. answered (bounds (h .«header_size») (h .«minimum_index») (h .«maximum_index»)))
-outcome (padding s) = then (paddingAfter s 0) (λ n. answered (number n))
-outcome (primitive i) = then (primitiveOf i) (λ t. answered (by (t .kind) (t .indirection)))
+abbrev pub exampleOutcome : Asked → Answer ExampleShown
+exampleOutcome (step k s) = then (stepped k s) (λ x. answered (nextShown x))
+exampleOutcome (lookup s i) = then (createOf s (0 ∷ [])) (λ σ. then (findOf s σ (indexIn Types i)) (λ x. answered (entryShown (x .entry) (x .passed))))
+exampleOutcome (kind w) = then (kindOf w) (λ k. answered (pointer-kind k))
+exampleOutcome (mode w) = then (modeOf w) (λ m. answered (pointer-mode m))
+exampleOutcome (size w) = then (sizeOf w) (λ n. answered (number n))
+exampleOutcome (header s) = then (headerOf s) (λ h. answered (bounds (h .«header_size») (h .«minimum_index») (h .«maximum_index»)))
+exampleOutcome (padding s) = then (paddingAfter s 0) (λ n. answered (number n))
+exampleOutcome (primitive i) = then (primitiveOf i) (λ t. answered (by (t .kind) (t .indirection)))
 
 -- a line of 01: what is asked, and what is answered, or the number and its details
 infix 15 _gives_
 pub data Example : Type 0 where
-  _gives_ : Asked → Answer Shown → Example
+  _gives_ : Asked → Answer ExampleShown → Example
 
 unfoldable pub examples : List Example
 examples =
@@ -115,8 +115,8 @@ examples =
     ∷ (primitive 0x0004 gives refused 8 (0x0004 ∷ []))
     ∷ []
 
-abbrev pub asked : Example → Answer Shown
-asked (a gives r) = outcome a
+abbrev pub asked : Example → Answer ExampleShown
+asked (a gives r) = exampleOutcome a
 
-abbrev pub given : Example → Answer Shown
-given (a gives r) = r
+abbrev pub expectedOf : Example → Answer ExampleShown
+expectedOf (a gives r) = r

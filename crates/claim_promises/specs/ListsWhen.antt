@@ -81,16 +81,16 @@ NoElement s c =
     ⊎ ((c .leaf ≡ 0x1203) × ((c .left ≡ 0) ⊎ AtEnd s c))
 
 -- so many steps lead from one cursor to another
-pub data Led (s : List ℕ) : ListCursor → ℕ → ListCursor → Type 0 where
-  stay : {c : ListCursor} → Led s c 0 c
-  step : {c : ListCursor} {j : ℕ} {e : ListCursor} {x : Step} → stepOf s c ≡ answered x → Led s (x .next) j e → Led s c (suc j) e
+pub data StepsLed (s : List ℕ) : ListCursor → ℕ → ListCursor → Type 0 where
+  stay : {c : ListCursor} → StepsLed s c 0 c
+  step : {c : ListCursor} {j : ℕ} {e : ListCursor} {x : Step} → stepOf s c ≡ answered x → StepsLed s (x .next) j e → StepsLed s c (suc j) e
 
 -- P of a cursor on the way to element k, or of that element's
 pub record OnTheWay (P : ListCursor → Type 0) (s : List ℕ) (c : ListCursor) (k : ℕ) : Type 0 where
   pub steps : ℕ
   pub few : steps ≤ k
   pub cursor : ListCursor
-  pub led : Led s c steps cursor
+  pub led : StepsLed s c steps cursor
   pub so : P cursor
 
 -- and that way starts where the record's list does

@@ -9,19 +9,19 @@ use Rattle.stream_finder.specs.Runs.{UpdatedIn}
 use Rattle.stream_index.specs.declared.Tour.{Tour}
 use Rattle.stream_index.specs.declared.IndexAnswer.the-variants as walk
 use Rattle.section_item.specs.Sections.{countOf}
-use Rattle.section_finder.specs.Finders.{sectionRun, createBy, IndexesBy}
+use Rattle.section_finder.specs.Finders.{sectionRun, sectionCreateBy, SectionIndexesBy}
 use Rattle.pane.specs.Tally.{AllFound, passedUp, tally}
 
 pub record SectionTally : Type 0 where
   -- of one that any number of cursors has updated in any order
   pub shared : (shift : ℕ) (s : List ℕ) (n : ℕ) (t : List ℕ) (σ τ : State) (c : ℕ)
       → countOf s ≡ answered n
-      → createBy shift s t ≡ answered σ
+      → sectionCreateBy shift s t ≡ answered σ
       → UpdatedIn s (sectionRun n) σ τ
       → AllFound Types s τ 4096 c
       → passedUp Types s τ 4096 c ≡ tally (2 ^ shift) c
   -- of one that `index_all_by` has left, however its walk ended
   pub indexed : (shift : ℕ) (s t : List ℕ) (r : Tour) (t′ : List ℕ) (c : ℕ)
-      → IndexesBy shift s t (walk.Answered r) t′
+      → SectionIndexesBy shift s t (walk.Answered r) t′
       → AllFound Types s (state (r .finder) t′) 4096 c
       → passedUp Types s (state (r .finder) t′) 4096 c ≡ tally (2 ^ shift) c

@@ -91,10 +91,10 @@ FailingField methods w s p = ⊥
 FailingField members w s p = ⊥
 
 -- fields are read in order: from the fields fs at place p, w being the word, one comes to the fields gs at q with the word u, all before them read
-pub data Reached (s : List ℕ) : List Field → ℕ → ℕ → List Field → ℕ → ℕ → Type 0 where
-  here : {fs : List Field} {w p : ℕ} → Reached s fs w p fs w p
-  next : {f : Field} {fs gs : List Field} {w p u r : ℕ} {v : Shown} {q : ℕ} → readField f w s p ≡ got v q → Reached s fs (wordAfter f v w) q gs u r
-      → Reached s (f ∷ fs) w p gs u r
+pub data FieldReached (s : List ℕ) : List Field → ℕ → ℕ → List Field → ℕ → ℕ → Type 0 where
+  here : {fs : List Field} {w p : ℕ} → FieldReached s fs w p fs w p
+  next : {f : Field} {fs gs : List Field} {w p u r : ℕ} {v : Shown} {q : ℕ} → readField f w s p ≡ got v q → FieldReached s fs (wordAfter f v w) q gs u r
+      → FieldReached s (f ∷ fs) w p gs u r
 
 -- P of one of the fields, where its reading comes to it
 pub record AtField (P : Field → ℕ → List ℕ → ℕ → Type 0) (fs : List Field) (w : ℕ) (s : List ℕ) (p : ℕ) : Type 0 where
@@ -102,7 +102,7 @@ pub record AtField (P : Field → ℕ → List ℕ → ℕ → Type 0) (fs : Lis
   pub after : List Field
   pub the-word : ℕ
   pub place : ℕ
-  pub reached : Reached s fs w p (field ∷ after) the-word place
+  pub reached : FieldReached s fs w p (field ∷ after) the-word place
   pub so : P field the-word s place
 
 -- P of one of the fields of the record at place p, whose leaf the table has

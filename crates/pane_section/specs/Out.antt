@@ -4,7 +4,7 @@ use mathlib.Core.List.{List, [], _∷_}
 use Rattle.answer.specs.Answer.{Answer, answered, then}
 use Rattle.stream_item.specs.declared.iter.ItemIter.{ItemIter}
 use Rattle.section_item.specs.Sections.{first}
-use Rattle.section_finder.specs.Finders.{createBy}
+use Rattle.section_finder.specs.Finders.{sectionCreateBy}
 use Rattle.write_layout.specs.Buffer.{Written, placeAfter, bufferAfter}
 use Rattle.record_list.specs.declared.ListCursor.{ListCursor}
 use Rattle.pane_out.specs.Handed.{handed, sizeField}
@@ -21,8 +21,8 @@ abbrev pub outCount : Answer ℕ → ℕ × List ℕ
 outCount = handed 1 sizeField
 
 -- a whole walk: refused as the creation is; else from a fresh finder and a fresh cursor
-unfoldable pub indexOf : ℕ → List ℕ → List ℕ → Answer Arrived
-indexOf shift s t = then (createBy shift s t) (λ σ. answered (walkOf s first σ))
+unfoldable pub sectionIndexBy : ℕ → List ℕ → List ℕ → Answer Arrived
+sectionIndexBy shift s t = then (sectionCreateBy shift s t) (λ σ. answered (walkOf s first σ))
 
 -- how many bytes the stream has, which starts at place 0; and the buffer after the call
 abbrev pub outStream : List ℕ → Answer Written → ℕ × List ℕ × List ℕ

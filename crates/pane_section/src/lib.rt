@@ -7,13 +7,13 @@
 ghost use mathlib.Core.Path.{_≡_};
 ghost use Rattle.record_list.specs.Lists.{startOf};
 ghost use Rattle.section_item.specs.Sections as section;
-ghost use Rattle.section_finder.specs.Finders.{createBy};
-ghost use Rattle.section_stream.specs.Streams.{streamOf};
+ghost use Rattle.section_finder.specs.Finders.{sectionCreateBy};
+ghost use Rattle.section_stream.specs.Streams.{sectionStream};
 ghost use Rattle.section_read.specs.Readers.{readerAt};
 ghost use Rattle.write_layout.specs.Buffer.{lay};
 ghost use Rattle.pane_state.specs.Finders.{outFinder};
 ghost use Rattle.pane_state.specs.Walk.{outWalk};
-ghost use Rattle.pane_section.specs.Out.{outStart, outCount, indexOf, outStream, outList};
+ghost use Rattle.pane_section.specs.Out.{outStart, outCount, sectionIndexBy, outStream, outList};
 use pane_out::first;
 use pane_out::second;
 use pane_row::cursor_row;
@@ -28,7 +28,7 @@ use write_pieces::WriteAnswer;
 // The fresh cursor of a section. Behind `out`: the details, its place and its index.
 #[no_mangle]
 pub extern "C" fn pdb_section_start(s: &[u8], out: &mut [u64; 4]) -> u32
-    ensures { λ r. ⌜ (r, now (out .exit)) ≡ outStart (section.startOf (now (s .entry))) ⌝ }
+    ensures { λ r. ⌜ (r, now (out .exit)) ≡ outStart (section.sectionStart (now (s .entry))) ⌝ }
 {
     match section_item::iter(s) {
         IterAnswer::Answered(c) => {
@@ -68,7 +68,7 @@ pub extern "C" fn pdb_section_create(
     shift: u32,
     out: &mut [u64; 6],
 ) -> u32
-    ensures { λ r. ⌜ (r, now (out .exit), now (table .exit)) ≡ outFinder (now (table .entry)) (createBy shift (now (s .entry)) (now (table .entry))) ⌝ }
+    ensures { λ r. ⌜ (r, now (out .exit), now (table .exit)) ≡ outFinder (now (table .entry)) (sectionCreateBy shift (now (s .entry)) (now (table .entry))) ⌝ }
 {
     match section_finder::create_by(s, table, shift) {
         FinderAnswer::Answered(g) => {
@@ -98,7 +98,7 @@ pub extern "C" fn pdb_section_index(
     shift: u32,
     out: &mut [u64; 11],
 ) -> u32
-    ensures { λ r. ⌜ (r, now (out .exit), now (table .exit)) ≡ outWalk (now (table .entry)) (indexOf shift (now (s .entry)) (now (table .entry))) ⌝ }
+    ensures { λ r. ⌜ (r, now (out .exit), now (table .exit)) ≡ outWalk (now (table .entry)) (sectionIndexBy shift (now (s .entry)) (now (table .entry))) ⌝ }
 {
     match section_finder::index_all_by(s, table, shift) {
         IndexAnswer::Answered(t) => {
@@ -116,7 +116,7 @@ pub extern "C" fn pdb_section_index(
 // it was.
 #[no_mangle]
 pub extern "C" fn pdb_section_stream(s: &[u8], buffer: &mut [u8], out: &mut [u64; 3]) -> u32
-    ensures { λ r. ⌜ (r, now (out .exit), now (buffer .exit)) ≡ outStream (now (buffer .entry)) (lay (streamOf (now (s .entry))) (now (buffer .entry)) 0) ⌝ }
+    ensures { λ r. ⌜ (r, now (out .exit), now (buffer .exit)) ≡ outStream (now (buffer .entry)) (lay (sectionStream (now (s .entry))) (now (buffer .entry)) 0) ⌝ }
 {
     match section_stream::to_stream(s, buffer) {
         WriteAnswer::Written(n) => {

@@ -14,17 +14,17 @@ use Rattle.stream_finder.proofs.DemandProof.{demand3-in, not-indexed-in}
 use Rattle.stream_finder.proofs.SharedProof.{shared-in}
 use Rattle.stream_index.specs.declared.Tour.{Tour}
 use Rattle.stream_index.proofs.WalkedWhole.{turns-walked, run-premises}
-use Rattle.section_item.specs.Sections.{first, startOf, countOf}
+use Rattle.section_item.specs.Sections.{first, sectionStart, countOf}
 use Rattle.section_item.proofs.SectionLaws.{counted, start-first}
-use Rattle.section_finder.specs.Finders.{sectionRun, createBy, WholeBy}
-use Rattle.section_finder.specs.Demand.{Premises, SectionDemand3, SectionNotIndexed, SectionShared, SectionIndexed, OfSections}
+use Rattle.section_finder.specs.Finders.{sectionRun, sectionCreateBy, SectionWholeBy}
+use Rattle.section_finder.specs.Demand.{SectionPremises, SectionDemand3, SectionNotIndexed, SectionShared, SectionIndexed, OfSections}
 use Rattle.section_finder.proofs.FinderLaws.{created-in}
 
 -- a section that was counted is not too long
 short : (s : List ℕ) (n : ℕ) → countOf s ≡ answered n → length s ≤ longest
 short s n e = counted s n e .begun .short
 
-premises-in : (shift : ℕ) (s : List ℕ) (n : ℕ) (t : List ℕ) (N : ℕ) (τ : State) (d : ℕ) → Premises shift s n t N τ d → PremisesIn shift Types s (sectionRun n) t N τ d
+premises-in : (shift : ℕ) (s : List ℕ) (n : ℕ) (t : List ℕ) (N : ℕ) (τ : State) (d : ℕ) → SectionPremises shift s n t N τ d → PremisesIn shift Types s (sectionRun n) t N τ d
 premises-in shift s n t N τ d p = record {
   short = short s n (p .accepted);
   counts = omega (arith, p .counts);
@@ -48,7 +48,7 @@ section-shared : SectionShared
 unfolding SectionShared SharedIn
 section-shared shift small s n t σ τ e c w = shared-in shift small Types s (sectionRun n) t σ τ (short s n e) (created-in shift s t n σ e c) w
 
-begun : (s : List ℕ) (n : ℕ) → countOf s ≡ answered n → startOf s ≡ answered first
+begun : (s : List ℕ) (n : ℕ) → countOf s ≡ answered n → sectionStart s ≡ answered first
 begun s n e = let k = counted s n e in start-first s (k .begun .short) (k .begun .four) (k .begun .signature)
 
 section-indexed : SectionIndexed

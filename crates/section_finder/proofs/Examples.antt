@@ -14,27 +14,27 @@ use Rattle.stream_finder.specs.Finder.{State, state, updateOf, lookOf, findOf}
 use Rattle.stream_finder.specs.Demand.{Walked, none, more}
 use Rattle.stream_finder.specs.Finder.{holdingIn}
 use Rattle.stream_item.specs.declared.Entry.the-variants as entry
-use Rattle.section_item.specs.Sections.{first, startOf, walkBy, lastOf, countOf}
+use Rattle.section_item.specs.Sections.{first, sectionStart, walkBy, lastOf, countOf}
 use Rattle.section_item.proofs.Examples.{sectionE}
 use Rattle.stream_index.specs.Walk as index
 use Rattle.stream_index.specs.Walk.{turnOf}
 use Rattle.stream_index.specs.declared.End.the-variants as end
 use Rattle.stream_index.specs.declared.IndexAnswer.the-variants as walk
-use Rattle.section_finder.specs.Finders.{sectionRun, createBy, Indexes}
-use Rattle.section_finder.specs.Demand.{Premises}
+use Rattle.section_finder.specs.Finders.{sectionRun, sectionCreateBy, SectionIndexes}
+use Rattle.section_finder.specs.Demand.{SectionPremises}
 
 -- a fresh finder of it stores 4 in place 0
-pub createE : createBy 3 sectionE (0 ∷ 7 ∷ []) ≡ answered (state (holdingIn (sectionRun 2) 3 1) (4 ∷ 7 ∷ []))
-unfolding createBy countOf startOf lastOf walkBy nextOf littleAt
+pub createE : sectionCreateBy 3 sectionE (0 ∷ 7 ∷ []) ≡ answered (state (holdingIn (sectionRun 2) 3 1) (4 ∷ 7 ∷ []))
+unfolding sectionCreateBy countOf sectionStart lastOf walkBy nextOf littleAt
 createE = refl
 
 -- 26 right before 13; 13 with no table
-pub shiftE : createBy 7 sectionE [] ≡ refused 26 []
-unfolding createBy countOf startOf lastOf walkBy nextOf littleAt
+pub shiftE : sectionCreateBy 7 sectionE [] ≡ refused 26 []
+unfolding sectionCreateBy countOf sectionStart lastOf walkBy nextOf littleAt
 shiftE = refl
 
-pub fullE : createBy 3 sectionE [] ≡ refused 13 []
-unfolding createBy countOf startOf lastOf walkBy nextOf littleAt
+pub fullE : sectionCreateBy 3 sectionE [] ≡ refused 13 []
+unfolding sectionCreateBy countOf sectionStart lastOf walkBy nextOf littleAt
 fullE = refl
 
 -- 4097 passes 1 link, and its payload starts at 16, 52 below its place in the stream; 4098 gives 1 with 2 passed
@@ -48,8 +48,8 @@ unfolding lookOf linkOf chain linkAt littleAt
 behindE = refl
 
 -- the premises of demand 3 are met, with both records yielded
-pub premisesE : (d : ℕ) → d ≤ 2 → Premises 3 sectionE 2 (0 ∷ []) 2 (state (holdingIn (sectionRun 2) 3 1) (4 ∷ [])) d
-unfolding createBy countOf startOf lastOf walkBy nextOf updateOf littleAt
+pub premisesE : (d : ℕ) → d ≤ 2 → SectionPremises 3 sectionE 2 (0 ∷ []) 2 (state (holdingIn (sectionRun 2) 3 1) (4 ∷ [])) d
+unfolding sectionCreateBy countOf sectionStart lastOf walkBy nextOf updateOf littleAt
 premisesE d l = record {
   accepted = refl;
   counts = omega arith;
@@ -63,14 +63,14 @@ premisesE d l = record {
 }
 
 -- indexed whole: two turns, then the end; one place is stored. Without its signature it is refused, and the table stays
-pub indexE : Indexes sectionE (0 ∷ []) (walk.Answered (record { finder = holdingIn (sectionRun 2) 3 1; cursor = record { stream = Types; at = 26; index = 4098 }; end = end.Done })) (4 ∷ [])
-unfolding createBy countOf startOf lastOf walkBy turnOf nextOf updateOf littleAt
+pub indexE : SectionIndexes sectionE (0 ∷ []) (walk.Answered (record { finder = holdingIn (sectionRun 2) 3 1; cursor = record { stream = Types; at = 26; index = 4098 }; end = end.Done })) (4 ∷ [])
+unfolding sectionCreateBy countOf sectionStart lastOf walkBy turnOf nextOf updateOf littleAt
 indexE = record {
   fresh = state (holdingIn (sectionRun 2) 3 1) (4 ∷ []);
   created = refl;
   walks = record { turns = 2; led = index.more (index.more index.none refl) refl; ended = refl };
 }
 
-pub index2 : Indexes (2 ∷ 0 ∷ 0 ∷ 0 ∷ []) (7 ∷ []) (walk.Refused refusal.Signature) (7 ∷ [])
-unfolding createBy countOf startOf littleAt
+pub index2 : SectionIndexes (2 ∷ 0 ∷ 0 ∷ 0 ∷ []) (7 ∷ []) (walk.Refused refusal.Signature) (7 ∷ [])
+unfolding sectionCreateBy countOf sectionStart littleAt
 index2 = (refl, refl)

@@ -14,12 +14,12 @@ use Rattle.stream_index.specs.declared.IndexAnswer.{IndexAnswer}
 use Rattle.stream_index.specs.declared.IndexAnswer.the-variants as walk
 use Rattle.stream_index.proofs.OneWalk.{one-walks}
 use Rattle.section_item.specs.Sections.{first}
-use Rattle.section_finder.specs.Finders.{IndexesBy}
+use Rattle.section_finder.specs.Finders.{SectionIndexesBy}
 
 refusals : (a b : Refusal) → _≡_ {A = Answer State} (no a) (no b) → a ≡ b
 refusals a b e = one-refusal a b (cc) (cc)
 
-pub one-indexes : (shift : ℕ) (s t : List ℕ) (r q : IndexAnswer) (u v : List ℕ) → IndexesBy shift s t r u → IndexesBy shift s t q v → (r ≡ q) × (u ≡ v)
+pub one-indexes : (shift : ℕ) (s t : List ℕ) (r q : IndexAnswer) (u v : List ℕ) → SectionIndexesBy shift s t r u → SectionIndexesBy shift s t q v → (r ≡ q) × (u ≡ v)
 one-indexes shift s t (walk.Answered r) (walk.Answered q) u v w x =
     let f : w .fresh ≡ x .fresh = cc in
     let h = one-walks s first (x .fresh) r q u v (subst (λ (σ : State). Walks s first σ r u) f (w .walks)) (x .walks) in

@@ -13,18 +13,18 @@ use Rattle.stream_finder.specs.Finder.{State, state, holdingIn, findOf}
 use Rattle.stream_finder.specs.Demand.{Walked, looked, numberGiven}
 use Rattle.stream_finder.specs.Runs.{UpdatedIn, ServesIn}
 use Rattle.stream_index.specs.declared.Tour.{Tour}
-use Rattle.section_item.specs.Sections.{first, startOf, countOf}
-use Rattle.section_finder.specs.Finders.{sectionRun, createBy, WholeBy}
+use Rattle.section_item.specs.Sections.{first, sectionStart, countOf}
+use Rattle.section_finder.specs.Finders.{sectionRun, sectionCreateBy, SectionWholeBy}
 
 -- the premises: a section of n records, at least one, a fresh finder with room, and a fresh iterator over the same bytes that has yielded N
 -- records, the finder updated after each and by nothing else
-pub record Premises (shift : ℕ) (s : List ℕ) (n : ℕ) (t : List ℕ) (N : ℕ) (τ : State) (d : ℕ) : Type 0 where
+pub record SectionPremises (shift : ℕ) (s : List ℕ) (n : ℕ) (t : List ℕ) (N : ℕ) (τ : State) (d : ℕ) : Type 0 where
   pub accepted : countOf s ≡ answered n
   pub counts : 0 < n
   pub room : 1 + N / 2 ^ shift ≤ length t
   pub fresh : State
-  pub created : createBy shift s t ≡ answered fresh
-  pub begun : startOf s ≡ answered first
+  pub created : sectionCreateBy shift s t ≡ answered fresh
+  pub begun : sectionStart s ≡ answered first
   pub cursor : ItemIter
   pub walked : Walked s first fresh N cursor τ
   pub upto : d ≤ n
@@ -33,13 +33,13 @@ pub record Premises (shift : ℕ) (s : List ℕ) (n : ℕ) (t : List ℕ) (N : �
 unfoldable pub SectionDemand3 : Type 0
 SectionDemand3 =
     (shift : ℕ) → shift ≤ 6 → (s : List ℕ) (n : ℕ) (t : List ℕ) (N : ℕ) (τ : State) (d : ℕ)
-    → Premises shift s n t N τ d
+    → SectionPremises shift s n t N τ d
     → findOf s τ (indexIn Types (4096 + d)) ≡ looked Types s 4 (holdingIn (sectionRun n) shift (1 + N / 2 ^ shift)) d
 
 unfoldable pub SectionNotIndexed : Type 0
 SectionNotIndexed =
     (shift : ℕ) → shift ≤ 6 → (s : List ℕ) (n : ℕ) (t : List ℕ) (N : ℕ) (τ : State) (d : ℕ)
-    → Premises shift s n t N τ d
+    → SectionPremises shift s n t N τ d
     → eqb (numberGiven (findOf s τ (indexIn Types (4096 + d)))) 9 ≡ ltb (N / 2 ^ shift) (d / 2 ^ shift)
 
 -- any order of updates, from any number of cursors that started fresh on the section
@@ -47,7 +47,7 @@ unfoldable pub SectionShared : Type 0
 SectionShared =
     (shift : ℕ) → shift ≤ 6 → (s : List ℕ) (n : ℕ) (t : List ℕ) (σ τ : State)
     → countOf s ≡ answered n
-    → createBy shift s t ≡ answered σ
+    → sectionCreateBy shift s t ≡ answered σ
     → UpdatedIn s (sectionRun n) σ τ
     → ServesIn Types s (sectionRun n) τ
 
@@ -55,8 +55,8 @@ SectionShared =
 unfoldable pub SectionIndexed : Type 0
 SectionIndexed =
     (shift : ℕ) → shift ≤ 6 → (s t : List ℕ) (n : ℕ) (r : Tour) (t′ : List ℕ)
-    → countOf s ≡ answered n → 0 < n → (w : WholeBy shift s t r t′)
-    → (d : ℕ) → d ≤ n → Premises shift s n t (w .walks .turns) (state (r .finder) t′) d
+    → countOf s ≡ answered n → 0 < n → (w : SectionWholeBy shift s t r t′)
+    → (d : ℕ) → d ≤ n → SectionPremises shift s n t (w .walks .turns) (state (r .finder) t′) d
 
 pub record OfSections : Type 0 where
   pub demand3 : SectionDemand3

@@ -18,23 +18,23 @@ abbrev pub sectionRun : ℕ → Run
 sectionRun n = record { start = 4; minimum = 4096; maximum = 4096 + n }
 
 -- 16, 1, 25 and the iterator's own, while the records are counted; then a fresh finder of their run: 26, 13
-unfoldable pub createBy : ℕ → List ℕ → List ℕ → Answer State
-createBy shift s t = then (countOf s) (λ n. begunIn shift t (sectionRun n))
+unfoldable pub sectionCreateBy : ℕ → List ℕ → List ℕ → Answer State
+sectionCreateBy shift s t = then (countOf s) (λ n. begunIn shift t (sectionRun n))
 
 -- without a shift it is 3
-abbrev pub createOf : List ℕ → List ℕ → Answer State
-createOf = createBy 3
+abbrev pub sectionCreateOf : List ℕ → List ℕ → Answer State
+sectionCreateOf = sectionCreateBy 3
 
 -- a walk from a fresh finder of this shift and a fresh cursor
-pub record WholeBy (shift : ℕ) (s t : List ℕ) (r : Tour) (t′ : List ℕ) : Type 0 where
+pub record SectionWholeBy (shift : ℕ) (s t : List ℕ) (r : Tour) (t′ : List ℕ) : Type 0 where
   pub fresh : State
-  pub created : createBy shift s t ≡ answered fresh
+  pub created : sectionCreateBy shift s t ≡ answered fresh
   pub walks : Walks s first fresh r t′
 
 -- refused as the creation is; else a whole walk
-abbrev pub IndexesBy : ℕ → List ℕ → List ℕ → IndexAnswer → List ℕ → Type 0
-IndexesBy shift s t (walk.Answered r) t′ = WholeBy shift s t r t′
-IndexesBy shift s t (walk.Refused e) t′ = (createBy shift s t ≡ no e) × (t′ ≡ t)
+abbrev pub SectionIndexesBy : ℕ → List ℕ → List ℕ → IndexAnswer → List ℕ → Type 0
+SectionIndexesBy shift s t (walk.Answered r) t′ = SectionWholeBy shift s t r t′
+SectionIndexesBy shift s t (walk.Refused e) t′ = (sectionCreateBy shift s t ≡ no e) × (t′ ≡ t)
 
-abbrev pub Indexes : List ℕ → List ℕ → IndexAnswer → List ℕ → Type 0
-Indexes = IndexesBy 3
+abbrev pub SectionIndexes : List ℕ → List ℕ → IndexAnswer → List ℕ → Type 0
+SectionIndexes = SectionIndexesBy 3

@@ -7,7 +7,7 @@ use mathlib.Core.List.{List}
 use Rattle.answer.specs.Answer.{answered, refused}
 use Rattle.field.specs.Fields.{littleAt}
 use Rattle.stream_item.specs.Iterator.{nextOf}
-use Rattle.section_item.specs.Sections.{first, startOf, walkBy, lastOf, countOf}
+use Rattle.section_item.specs.Sections.{first, sectionStart, walkBy, lastOf, countOf}
 
 abbrev pub sectionE : List ℕ
 sectionE =
@@ -15,28 +15,28 @@ sectionE =
     ∷ 8 ∷ 0 ∷ 0x01 ∷ 0x10 ∷ 0x74 ∷ 0 ∷ 0 ∷ 0 ∷ 1 ∷ 0
     ∷ 10 ∷ 0 ∷ 0x02 ∷ 0x10 ∷ 0x00 ∷ 0x10 ∷ 0 ∷ 0 ∷ 0x0c ∷ 0 ∷ 1 ∷ 0 ∷ []
 
-pub startE : startOf sectionE ≡ answered first
-unfolding startOf littleAt
+pub startE : sectionStart sectionE ≡ answered first
+unfolding sectionStart littleAt
 startE = refl
 
 pub countE : countOf sectionE ≡ answered 2
-unfolding countOf startOf lastOf walkBy nextOf littleAt
+unfolding countOf sectionStart lastOf walkBy nextOf littleAt
 countE = refl
 
 -- a signature of 2, three bytes, a record that is cut
 pub signature2 : countOf (2 ∷ 0 ∷ 0 ∷ 0 ∷ []) ≡ refused 25 []
-unfolding countOf startOf littleAt
+unfolding countOf sectionStart littleAt
 signature2 = refl
 
 pub three : countOf (4 ∷ 0 ∷ 0 ∷ []) ≡ refused 1 []
-unfolding countOf startOf
+unfolding countOf sectionStart
 three = refl
 
 pub cut : countOf (4 ∷ 0 ∷ 0 ∷ 0 ∷ 8 ∷ 0 ∷ 1 ∷ []) ≡ refused 1 []
-unfolding countOf startOf lastOf walkBy nextOf littleAt
+unfolding countOf sectionStart lastOf walkBy nextOf littleAt
 cut = refl
 
 -- no records at all
 pub bare : countOf (4 ∷ 0 ∷ 0 ∷ 0 ∷ []) ≡ answered 0
-unfolding countOf startOf lastOf walkBy nextOf littleAt
+unfolding countOf sectionStart lastOf walkBy nextOf littleAt
 bare = refl

@@ -1,4 +1,4 @@
--- The outcomes of `startOf`, a law for each; a walk by its steps; and what the count of a section says. Assumes nothing.
+-- The outcomes of `sectionStart`, a law for each; a walk by its steps; and what the count of a section says. Assumes nothing.
 use Prim.Native.Nat.{ℕ, zero, suc, _+_, _-_, _≤_, _<_}
 use mathlib.Core.Path.{_≡_, refl, sym, ap, _∙_}
 use mathlib.Core.Logic.{_⊎_, inl, inr}
@@ -16,24 +16,24 @@ use Rattle.stream_item.proofs.LinkLaws.{WholeAt, whole-is}
 use Rattle.stream_item.proofs.NextLaws.{passed, Yields, yields}
 use Rattle.stream_item.specs.declared.Item.{Item}
 use Rattle.stream_item.specs.declared.iter.ItemIter.{ItemIter}
-use Rattle.section_item.specs.Sections.{first, startOf, onBy, walkBy, lastOf, countOf, Passed, none, more, Ends, Counts}
+use Rattle.section_item.specs.Sections.{first, sectionStart, sectionOn, walkBy, lastOf, countOf, SectionPassed, none, more, SectionEnds, SectionCounts}
 
 -- ---- where a walk starts
 module _ (s : List ℕ) where
-  pub start-long : longest < length s → startOf s ≡ refused 16 []
-  unfolding startOf
+  pub start-long : longest < length s → sectionStart s ≡ refused 16 []
+  unfolding sectionStart
   start-long h = simp (lt-ltb _ _ h)
 
-  pub start-short : length s ≤ longest → length s < 4 → startOf s ≡ refused 1 []
-  unfolding startOf
+  pub start-short : length s ≤ longest → length s < 4 → sectionStart s ≡ refused 1 []
+  unfolding sectionStart
   start-short a h = simp (le-ltb _ _ a, lt-ltb _ _ h)
 
-  pub start-signature : length s ≤ longest → 4 ≤ length s → (littleAt 4 s 0 ≡ 4 → ⊥) → startOf s ≡ refused 25 []
-  unfolding startOf
+  pub start-signature : length s ≤ longest → 4 ≤ length s → (littleAt 4 s 0 ≡ 4 → ⊥) → sectionStart s ≡ refused 25 []
+  unfolding sectionStart
   start-signature a b h = simp (le-ltb _ _ a, le-ltb _ _ b, ne-eqb _ _ h)
 
-  pub start-first : length s ≤ longest → 4 ≤ length s → littleAt 4 s 0 ≡ 4 → startOf s ≡ answered first
-  unfolding startOf
+  pub start-first : length s ≤ longest → 4 ≤ length s → littleAt 4 s 0 ≡ 4 → sectionStart s ≡ answered first
+  unfolding sectionStart
   start-first a b h = simp (le-ltb _ _ a, le-ltb _ _ b, eq-eqb _ _ h)
 
 -- back: what a start that was given says
@@ -47,8 +47,8 @@ picked : (b : Bool) (c : ItemIter) → _≡_ {A = Answer ItemIter} (pick b (answ
 picked true c e = (refl, cc)
 picked false c e = let z : _≡_ {A = ℕ} 0 1 = cc in absurd (omega arith)
 
-pub starts : (s : List ℕ) (c : ItemIter) → startOf s ≡ answered c → Starts s c
-unfolding startOf
+pub starts : (s : List ℕ) (c : ItemIter) → sectionStart s ≡ answered c → Starts s c
+unfolding sectionStart
 starts s c e =
     let t1 = passed (ltb longest (length s)) 16 _ _ e in
     let t2 = passed (ltb (length s) 4) 1 _ _ (t1 .1) in
@@ -70,7 +70,7 @@ further s c i d e =
 
 -- ---- a walk by its steps
 module _ (s : List ℕ) (k : ℕ) (c : ItemIter) where
-  walk-step : (a : Answer Next) → nextOf s c ≡ a → walkBy (suc k) s c ≡ then a (onBy (walkBy k s) c)
+  walk-step : (a : Answer Next) → nextOf s c ≡ a → walkBy (suc k) s c ≡ then a (sectionOn (walkBy k s) c)
   unfolding walkBy
   walk-step a e = rw e
 
@@ -86,10 +86,10 @@ left-first s c = record { steps = suc (length s); enough = omega arith; is = ref
 
 module _ (s : List ℕ) (c d : ItemIter) (l : Left s c d) where
   -- there is a step to make
-  stepped : (a : Answer Next) → nextOf s d ≡ a → (k : ℕ) × (length s - d .at ≤ k) × (lastOf s c ≡ then a (onBy (walkBy k s) d))
+  stepped : (a : Answer Next) → nextOf s d ≡ a → (k : ℕ) × (length s - d .at ≤ k) × (lastOf s c ≡ then a (sectionOn (walkBy k s) d))
   stepped a e = go (l .steps) refl
     where
-      go : (k : ℕ) → l .steps ≡ k → (k : ℕ) × (length s - d .at ≤ k) × (lastOf s c ≡ then a (onBy (walkBy k s) d))
+      go : (k : ℕ) → l .steps ≡ k → (k : ℕ) × (length s - d .at ≤ k) × (lastOf s c ≡ then a (sectionOn (walkBy k s) d))
       go zero q = absurd (omega (arith, l .enough))
       go (suc k) q = (k, omega (arith, l .enough), l .is ∙ ap (λ (n : ℕ). walkBy n s d) q ∙ walk-step s k d a e)
 
@@ -111,7 +111,7 @@ never a n x e = let z : _≡_ {A = ℕ} 0 1 = cc in absurd (omega arith)
 
 -- the index is as much above the first as there are records, and stays a u32
 pub record Over (s : List ℕ) (c d : ItemIter) : Type 0 where
-  pub ends : Ends s c d
+  pub ends : SectionEnds s c d
   pub index : d .index ≡ c .index + ends .records
   pub small : c .index ≤ 4294967295 → d .index ≤ 4294967295
 
@@ -137,7 +137,7 @@ last-ends s c d e = walk-over (suc (length s)) s c d (omega arith) e
 record Stopped (s : List ℕ) (c : ItemIter) (k : ℕ) (x : List ℕ) : Type 0 where
   pub records : ℕ
   pub cursor : ItemIter
-  pub led : Passed s c records cursor
+  pub led : SectionPassed s c records cursor
   pub stops : nextOf s cursor ≡ refused k x
 
 same-refusal : {A B : Type 0} (n : ℕ) (x : List ℕ) (m : ℕ) (y : List ℕ) → _≡_ {A = Answer A} (refused n x) (refused m y) → _≡_ {A = Answer B} (refused n x) (refused m y)
@@ -159,19 +159,19 @@ walk-stopped (suc j) s c k x e = go (λ b. walk-stopped j s b k x) (nextOf s c) 
     go on (refused n y) h = record { records = 0; cursor = c; led = none; stops = h ∙ same-refusal n y k x (sym (walk-step s j c (refused n y) h) ∙ e) }
 
 count-stopped : (s : List ℕ) (k : ℕ) (x : List ℕ) → countOf s ≡ refused k x
-    → (startOf s ≡ refused k x) ⊎ ((n : ℕ) × (d : ItemIter) × (startOf s ≡ answered first) × Passed s first n d × (nextOf s d ≡ refused k x))
+    → (sectionStart s ≡ refused k x) ⊎ ((n : ℕ) × (d : ItemIter) × (sectionStart s ≡ answered first) × SectionPassed s first n d × (nextOf s d ≡ refused k x))
 unfolding countOf lastOf
-count-stopped s k x e = go (startOf s) refl e
+count-stopped s k x e = go (sectionStart s) refl e
   where
-    ended : startOf s ≡ answered first → (b : Answer ItemIter) → lastOf s first ≡ b → then b (λ d. answered (d .index - 0x1000)) ≡ refused k x
-        → (startOf s ≡ refused k x) ⊎ ((n : ℕ) × (d : ItemIter) × (startOf s ≡ answered first) × Passed s first n d × (nextOf s d ≡ refused k x))
+    ended : sectionStart s ≡ answered first → (b : Answer ItemIter) → lastOf s first ≡ b → then b (λ d. answered (d .index - 0x1000)) ≡ refused k x
+        → (sectionStart s ≡ refused k x) ⊎ ((n : ℕ) × (d : ItemIter) × (sectionStart s ≡ answered first) × SectionPassed s first n d × (nextOf s d ≡ refused k x))
     ended p (answered d) l q = never-refused (d .index - 0x1000) k x q
     ended p (refused m y) l q =
         let w : Stopped s first k x = walk-stopped (suc (length s)) s first k x (l ∙ same-refusal m y k x q) in
         inr (w .records, w .cursor, p, w .led, w .stops)
 
-    go : (a : Answer ItemIter) → startOf s ≡ a → then a (λ c. then (lastOf s c) (λ d. answered (d .index - 0x1000))) ≡ refused k x
-        → (startOf s ≡ refused k x) ⊎ ((n : ℕ) × (d : ItemIter) × (startOf s ≡ answered first) × Passed s first n d × (nextOf s d ≡ refused k x))
+    go : (a : Answer ItemIter) → sectionStart s ≡ a → then a (λ c. then (lastOf s c) (λ d. answered (d .index - 0x1000))) ≡ refused k x
+        → (sectionStart s ≡ refused k x) ⊎ ((n : ℕ) × (d : ItemIter) × (sectionStart s ≡ answered first) × SectionPassed s first n d × (nextOf s d ≡ refused k x))
     go (refused m y) p q = inl (p ∙ same-refusal m y k x q)
     go (answered c) p q = let f : c ≡ first = sym (starts s c p .cursor) in ended (rw f at p) (lastOf s first) refl (rw f at q)
 
@@ -205,12 +205,12 @@ pub record Counted (s : List ℕ) (n : ℕ) : Type 0 where
   pub last : lastOf s first ≡ answered end
   pub is : end .index ≡ 0x1000 + n
   pub small : 0x1000 + n ≤ 4294967295
-  pub walk : Passed s first n end
+  pub walk : SectionPassed s first n end
   pub over : nextOf s end ≡ answered done
 
 pub counted : (s : List ℕ) (n : ℕ) → countOf s ≡ answered n → Counted s n
 unfolding countOf
-counted s n e = go (startOf s) refl e
+counted s n e = go (sectionStart s) refl e
   where
     ended : Starts s first → (b : Answer ItemIter) → lastOf s first ≡ b → then b (λ d. answered (d .index - 0x1000)) ≡ answered n → Counted s n
     ended st (refused m x) p q = never n m x q
@@ -221,7 +221,7 @@ counted s n e = go (startOf s) refl e
         let small : d .index ≤ 4294967295 = o .small (omega arith) in
         record { begun = st; end = d; last = p; is = omega (arith, o .index); small = omega (arith, o .index); walk = rw r at (o .ends .led); over = o .ends .over }
 
-    go : (a : Answer ItemIter) → startOf s ≡ a → then a (λ c. then (lastOf s c) (λ d. answered (d .index - 0x1000))) ≡ answered n → Counted s n
+    go : (a : Answer ItemIter) → sectionStart s ≡ a → then a (λ c. then (lastOf s c) (λ d. answered (d .index - 0x1000))) ≡ answered n → Counted s n
     go (refused m x) p q = never n m x q
     go (answered c) p q =
         let st : Starts s c = starts s c p in
@@ -229,31 +229,31 @@ counted s n e = go (startOf s) refl e
         ended (rw f at st) (lastOf s first) refl (rw f at q)
 
 -- what was counted, forward
-pub count-is : (s : List ℕ) (c : ItemIter) (a : Answer ItemIter) → startOf s ≡ answered c → lastOf s c ≡ a → countOf s ≡ then a (λ d. answered (d .index - 0x1000))
+pub count-is : (s : List ℕ) (c : ItemIter) (a : Answer ItemIter) → sectionStart s ≡ answered c → lastOf s c ≡ a → countOf s ≡ then a (λ d. answered (d .index - 0x1000))
 unfolding countOf
 count-is s c a e h = rw (e, h)
 
-pub count-refused : (s : List ℕ) (n : ℕ) (x : List ℕ) → startOf s ≡ refused n x → countOf s ≡ refused n x
+pub count-refused : (s : List ℕ) (n : ℕ) (x : List ℕ) → sectionStart s ≡ refused n x → countOf s ≡ refused n x
 unfolding countOf
 count-refused s n x e = rw e
 
 -- the last cursor is not below the first
-pub counted-from : (s : List ℕ) (c d : ItemIter) → startOf s ≡ answered c → lastOf s c ≡ answered d → 0x1000 ≤ d .index
+pub counted-from : (s : List ℕ) (c d : ItemIter) → sectionStart s ≡ answered c → lastOf s c ≡ answered d → 0x1000 ≤ d .index
 counted-from s c d e h =
     let i : 0x1000 ≡ c .index = ap (λ (x : ItemIter). x .index) (starts s c e .cursor) in
     omega (arith, last-ends s c d h .index)
 
 -- ---- the walk by steps, and back
-left-on : (s : List ℕ) (c d : ItemIter) (n : ℕ) (e : ItemIter) → Left s c d → Passed s d n e → Left s c e
+left-on : (s : List ℕ) (c d : ItemIter) (n : ℕ) (e : ItemIter) → Left s c d → SectionPassed s d n e → Left s c e
 left-on s c d zero e l none = l
 left-on s c d (suc n) e l (more {d = b} {i = i} h w) = left-on s c b n e (left-next s c d l i b h) w
 
 -- the index goes up by one with each record
-passed-index : (s : List ℕ) (c : ItemIter) (n : ℕ) (d : ItemIter) → Passed s c n d → d .index ≡ c .index + n
+passed-index : (s : List ℕ) (c : ItemIter) (n : ℕ) (d : ItemIter) → SectionPassed s c n d → d .index ≡ c .index + n
 passed-index s c zero d none = omega arith
 passed-index s c (suc n) d (more {d = b} {i = i} h w) = omega (arith, passed-index s b n d w, further s c i b h .index)
 
-pub counts : Counts
+pub counts : SectionCounts
 counts = record {
   walked = λ s n e. let k : Counted s n = counted s n e in (k .end, k .walk, k .over, over-end s (k .end) (k .over));
   counted = λ s n d b w o.

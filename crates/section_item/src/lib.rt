@@ -7,7 +7,7 @@ ghost use lib.ListN.{length};
 ghost use Rattle.field.specs.Fields.{littleAt};
 ghost use Rattle.stream_item.specs.Iterator.{saidIter};
 ghost use Rattle.stream_item.specs.Information.{saidLen};
-ghost use Rattle.section_item.specs.Sections.{startOf, lastOf, countOf};
+ghost use Rattle.section_item.specs.Sections.{sectionStart, lastOf, countOf};
 use answer::Refusal;
 use field::fixed;
 use field::fixed::Read32;
@@ -42,7 +42,7 @@ fn signature(s: &[u8]) -> u32
 // A fresh iterator over a section: it stands behind the signature, at 0x1000. Types and ids are numbered in one run, and the items carry
 // the type stream's tag.
 pub fn iter(s: &[u8]) -> IterAnswer
-    ensures { λ r. ⌜ saidIter r ≡ startOf (now (s .entry)) ⌝ }
+    ensures { λ r. ⌜ saidIter r ≡ sectionStart (now (s .entry)) ⌝ }
 {
     if s.len() > LONGEST {
         return IterAnswer::Refused(Refusal::TooLong);

@@ -25,13 +25,13 @@ takenBy (some fs) = Ids
 unfoldable pub readerOf : ℕ → Stream
 readerOf leaf = takenBy (find leaf idLeaves)
 
-abbrev pub byLeaf : Read ℕ → Stream
-byLeaf (answered g) = readerOf (g .value)
-byLeaf (refused n d) = Types
+abbrev pub readerByLeaf : Read ℕ → Stream
+readerByLeaf (answered g) = readerOf (g .value)
+readerByLeaf (refused n d) = Types
 
 -- of the leaf at place p. A record of fewer than two bytes is 1 by either reader
 unfoldable pub readerAt : List ℕ → ℕ → Stream
-readerAt s p = byLeaf (fixedAt 2 s p)
+readerAt s p = readerByLeaf (fixedAt 2 s p)
 
 -- an item below 0x1000 is read as a primitive, as the type reader does
 unfoldable pub tagOf : List ℕ → ℕ → ℕ → Stream

@@ -34,11 +34,10 @@ use Rattle.write_header.proofs.HeaderBack.{header-reads-back}
 use Rattle.section_item.specs.Sections.{first, countOf}
 use Rattle.section_item.proofs.SectionLaws.{Counted, counted}
 use Rattle.section_finder.specs.Finders.{sectionRun}
-use Rattle.section_finder.specs.Demand as section
-use Rattle.section_finder.specs.Demand.{SectionDemand3}
+use Rattle.section_finder.specs.Demand.{SectionPremises, SectionDemand3}
 use Rattle.section_finder.proofs.DemandProof.{of-sections}
-use Rattle.section_stream.specs.Streams.{headerFor, streamBytes, streamOf}
-use Rattle.section_stream.specs.Made.{upCursor, upItem, upNext, upHit, upEntry, upFound, Made, StreamMade}
+use Rattle.section_stream.specs.Streams.{headerFor, streamBytes, sectionStream}
+use Rattle.section_stream.specs.Made.{upCursor, upItem, upNext, upHit, upEntry, upFound, SectionMade, StreamMade}
 use Rattle.section_stream.proofs.StreamLaws.{head-length, stream-length, head-bytes}
 
 -- ---- tests of numbers that are both 52 higher
@@ -240,7 +239,7 @@ module _ (s : List ℕ) (n : ℕ) (e : countOf s ≡ answered n) (short : length
       header-reads-back (headerFor n (length s - 4)) (headerFields (headerFor n (length s - 4))) (drop 4 s) (head-bytes n (length s - 4))
       (narrow n (length s - 4) (k .small) (omega arith)) long-enough
 
-  agree : (shift N d : ℕ) (t u : List ℕ) (σ τ : State) → shift ≤ 6 → section.Premises shift s n t N σ d → stream.Premises shift Types (streamBytes n s) (headerFor n (length s - 4)) u N τ d
+  agree : (shift N d : ℕ) (t u : List ℕ) (σ τ : State) → shift ≤ 6 → SectionPremises shift s n t N σ d → stream.Premises shift Types (streamBytes n s) (headerFor n (length s - 4)) u N τ d
       → findOf (streamBytes n s) τ (indexIn Types (4096 + d)) ≡ upFound (findOf s σ (indexIn Types (4096 + d)))
   unfolding Demand3Every Demand3By SectionDemand3
   agree shift N d t u σ τ small p q =
@@ -248,7 +247,7 @@ module _ (s : List ℕ) (n : ℕ) (e : countOf s ≡ answered n) (short : length
       ∙ looked-up s (streamBytes n s) (holdingIn (sectionRun n) shift (1 + N / 2 ^ shift)) d (hit-up s (streamBytes n s) h d)
       ∙ ap upFound (sym (of-sections .demand3 shift small s n t N σ d p))
 
-  made : Made s (streamBytes n s) n
+  made : SectionMade s (streamBytes n s) n
   made = record {
     counted = e;
     long = h .long;
@@ -263,14 +262,14 @@ module _ (s : List ℕ) (n : ℕ) (e : countOf s ≡ answered n) (short : length
 
 -- what was counted, or refused
 pub stream-made : StreamMade
-unfolding StreamMade streamOf
+unfolding StreamMade sectionStream
 stream-made s m e =
     let t = passed (ltb longest (length s + 52)) 16 _ _ e in
     let short : length s + 52 ≤ longest = ltb-false _ _ (t .0) in
     go short (countOf s) refl (t .1)
   where
-    go : length s + 52 ≤ longest → (a : Answer ℕ) → countOf s ≡ a → then a (λ n. answered (streamBytes n s)) ≡ answered m → (n : ℕ) × Made s m n
+    go : length s + 52 ≤ longest → (a : Answer ℕ) → countOf s ≡ a → then a (λ n. answered (streamBytes n s)) ≡ answered m → (n : ℕ) × SectionMade s m n
     go short (answered n) p q =
         let w : streamBytes n s ≡ m = cc in
-        (n, subst (λ (x : List ℕ). Made s x n) w (made s n p short))
+        (n, subst (λ (x : List ℕ). SectionMade s x n) w (made s n p short))
     go short (refused k d) p q = let z : _≡_ {A = ℕ} 0 1 = cc in absurd (omega arith)

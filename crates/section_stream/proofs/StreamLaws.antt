@@ -20,7 +20,7 @@ use Rattle.write_pieces.specs.declared.WriteAnswer.the-variants as write
 use Rattle.write_header.specs.Headers.{headerFields, headerBytes}
 use Rattle.write_header.proofs.HeaderLaws.{header-length}
 use Rattle.section_item.specs.Sections.{countOf}
-use Rattle.section_stream.specs.Streams.{headerFor, streamBytes, streamOf}
+use Rattle.section_stream.specs.Streams.{headerFor, streamBytes, sectionStream}
 
 -- 56 bytes
 pub head-length : (n size : ℕ) → length (headerFields (headerFor n size)) ≡ 56
@@ -103,15 +103,15 @@ module _ (s : List ℕ) (n : ℕ) (o : List ℕ) (four : 4 ≤ length s) where
 
 -- ---- the whole
 module _ (s : List ℕ) where
-  pub stream-long : longest < length s + 52 → streamOf s ≡ refused 16 []
-  unfolding streamOf
+  pub stream-long : longest < length s + 52 → sectionStream s ≡ refused 16 []
+  unfolding sectionStream
   stream-long h = rw (lt-ltb _ _ h)
 
-  pub stream-is : (a : Answer ℕ) → length s + 52 ≤ longest → countOf s ≡ a → streamOf s ≡ then a (λ n. answered (streamBytes n s))
-  unfolding streamOf
+  pub stream-is : (a : Answer ℕ) → length s + 52 ≤ longest → countOf s ≡ a → sectionStream s ≡ then a (λ n. answered (streamBytes n s))
+  unfolding sectionStream
   stream-is a h e = rw (le-ltb _ _ h, e)
 
   -- a refusal leaves the buffer
-  pub writes-refused : (k : ℕ) (d : List ℕ) (o : List ℕ) → streamOf s ≡ refused k d → Writes o (lay (streamOf s) o 0) (refused k d) o
+  pub writes-refused : (k : ℕ) (d : List ℕ) (o : List ℕ) → sectionStream s ≡ refused k d → Writes o (lay (sectionStream s) o 0) (refused k d) o
   unfolding lay
   writes-refused k d o e = rw e (record { answer = refl; left = refl })

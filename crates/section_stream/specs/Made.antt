@@ -19,8 +19,8 @@ use Rattle.stream_item.specs.declared.link.Hit.the-variants.{Landed, Missed}
 use Rattle.stream_finder.specs.Finder.{State, Found, findOf}
 use Rattle.stream_finder.specs.Demand as stream
 use Rattle.section_item.specs.Sections.{first, countOf}
-use Rattle.section_finder.specs.Demand as section
-use Rattle.section_stream.specs.Streams.{headerFor, streamOf}
+use Rattle.section_finder.specs.Demand.{SectionPremises}
+use Rattle.section_stream.specs.Streams.{headerFor, sectionStream}
 
 -- 52 higher, all else as it was
 abbrev pub upCursor : ItemIter → ItemIter
@@ -47,7 +47,7 @@ upFound (answered f) = answered (record { entry = upEntry (f .entry); passed = f
 upFound (refused n x) = refused n x
 
 -- of the stream m that was made of the section s, n being its records
-pub record Made (s m : List ℕ) (n : ℕ) : Type 0 where
+pub record SectionMade (s m : List ℕ) (n : ℕ) : Type 0 where
   pub counted : countOf s ≡ answered n
   pub long : length m ≡ length s + 52
   -- behind the header stands what stood behind the signature; so the bytes at a place of the section are those 52 higher, and a payload's are kept
@@ -62,9 +62,9 @@ pub record Made (s m : List ℕ) (n : ℕ) : Type 0 where
   pub links : (d : ℕ) → linkOf m 56 d ≡ upHit (linkOf s 4 d)
   -- lookups, details and links passed included: finders of one shift, after as many records
   pub lookups : (shift N d : ℕ) (t u : List ℕ) (σ τ : State) → shift ≤ 6
-      → section.Premises shift s n t N σ d
+      → SectionPremises shift s n t N σ d
       → stream.Premises shift Types m (headerFor n (length s - 4)) u N τ d
       → findOf m τ (indexIn Types (4096 + d)) ≡ upFound (findOf s σ (indexIn Types (4096 + d)))
 
 unfoldable pub StreamMade : Type 0
-StreamMade = (s m : List ℕ) → streamOf s ≡ answered m → (n : ℕ) × Made s m n
+StreamMade = (s m : List ℕ) → sectionStream s ≡ answered m → (n : ℕ) × SectionMade s m n

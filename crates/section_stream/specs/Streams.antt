@@ -39,7 +39,7 @@ streamBytes n s = headerFields (headerFor n (length s - 4)) ++ drop 4 s
 
 -- 16 where the section is too long or its stream would be; 1, 25 and the iterator's own while the records are counted. 19 is what laying the
 -- bytes adds (`lay` of crates/write_layout)
-unfoldable pub streamOf : List ℕ → Encoded
-streamOf s =
+unfoldable pub sectionStream : List ℕ → Encoded
+sectionStream s =
     stop (ltb longest (length s + 52)) 16
     (then (countOf s) (λ n. answered (streamBytes n s)))

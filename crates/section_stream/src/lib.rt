@@ -6,7 +6,7 @@ ghost use lib.ListN.{length};
 ghost use Rattle.answer.specs.Answer.{answered};
 ghost use Rattle.write_layout.specs.Buffer.{lay, Writes};
 ghost use Rattle.write_pieces.specs.Pieces.{saidWrite};
-ghost use Rattle.section_stream.specs.Streams.{headerFor, streamBytes, streamOf};
+ghost use Rattle.section_stream.specs.Streams.{headerFor, streamBytes, sectionStream};
 use answer::Refusal;
 use section_item::FIRST;
 use stream_header::Header;
@@ -58,7 +58,7 @@ fn put_stream(s: &[u8], n: u32, out: &mut [u8]) -> WriteAnswer
 
 // The type stream of a section, from place 0 of the buffer. Everything else of the buffer stays as it was.
 pub fn to_stream(s: &[u8], out: &mut [u8]) -> WriteAnswer
-    ensures { λ r. ⌜ Writes (now (out .entry)) (lay (streamOf (now (s .entry))) (now (out .entry)) 0) (saidWrite r) (now (out .exit)) ⌝ }
+    ensures { λ r. ⌜ Writes (now (out .entry)) (lay (sectionStream (now (s .entry))) (now (out .entry)) 0) (saidWrite r) (now (out .exit)) ⌝ }
 {
     if s.len() > LONGEST - HIGHER {
         return WriteAnswer::Refused(Refusal::TooLong);

@@ -1,4 +1,4 @@
--- `section_item::iter` meets its contract: each return is an outcome of `startOf`. Assumes nothing.
+-- `section_item::iter` meets its contract: each return is an outcome of `sectionStart`. Assumes nothing.
 use borrow.Author.Needs.{needs}
 use native.Mathlib.Omega.{arith}
 use mathlib.Core.Path.{sym}
