@@ -97,6 +97,9 @@ one-reader-step x r q m k a b =
 
 pub one-outcome : OneOutcome
 one-outcome = record {
+  pane-row-member-row = λ at left padded m u q a b. a ∙ sym b;
+  pane-row-entry-row = λ at left padded m u q a b. a ∙ sym b;
+  pane-row-index-row = λ at left padded i u q a b. a ∙ sym b;
   pane-declare-pdb-declare = λ s table minimum maximum held shift index buffer. one-out-table _;
   pane-drop-pdb-drop = λ s roots table buffer. one-out-both _;
   pane-fit-pdb-fit = λ s. one-out _;
@@ -123,7 +126,6 @@ one-outcome = record {
   pane-row-type-row = λ d r q a b. a ∙ sym b;
   pane-row-id-row = λ d r q a b. a ∙ sym b;
   pane-row-cursor-row = λ c r q a b. a ∙ sym b;
-  pane-row-element-row = λ at left padded x r q a b. a ∙ sym b;
   pane-section-pdb-section-start = λ s. one-out _;
   pane-section-pdb-section-count = λ s. one-out _;
   pane-section-pdb-section-create = λ s table shift. one-out-table _;
