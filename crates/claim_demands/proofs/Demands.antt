@@ -27,6 +27,12 @@ use Rattle.section_read.proofs.TakenProof.{each-taken}
 use Rattle.section_stream.proofs.MadeProof.{stream-made}
 use Rattle.pane.proofs.TallyProof.{tally-holds}
 use Rattle.pane.proofs.SameProof.{same}
+use Rattle.pane_row.proofs.RowsTellProof.{rows-tell}
+use Rattle.pane_row.proofs.Stands.{slots-stand}
+use Rattle.pane_state.proofs.SameWalkProof.{same-walk}
+use Rattle.pane_word.proofs.WordLaws.{named}
+use Rattle.record_cells.proofs.CellsTell.{cells-tell}
+use Rattle.claim_promises.proofs.Border.{border}
 use Rattle.claim_promises.proofs.Demand1.{demand1}
 use Rattle.claim_promises.proofs.RefusedBy.{each-refused-by}
 use Rattle.claim_promises.proofs.ExactlyWhen.{exactly-when}
@@ -107,6 +113,12 @@ demands = record {
   paged = tally-holds;
   sections-paged = section-tally;
   five = same;
+  border = border;
+  rows-tell = rows-tell;
+  rows-stand = slots-stand;
+  cells-tell = cells-tell;
+  same-walk = same-walk;
+  words-named = named;
   of-runs = of-runs;
   of-sections = of-sections;
   sections-counted = counts;

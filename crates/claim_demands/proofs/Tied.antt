@@ -46,16 +46,72 @@ use Rattle.field_text.proofs.RawString.bytes.Met as field-text-raw-string-bytes
 use Rattle.field_text.proofs.after_padding.Met as field-text-after-padding
 use Rattle.field_text.proofs.string_at.Met as field-text-string-at
 use Rattle.field_text.proofs.string_of.Met as field-text-string-of
-use Rattle.pane.proofs.pdb_drop.Met as pane-pdb-drop
 use Rattle.pane.proofs.pdb_find.Met as pane-pdb-find
-use Rattle.pane.proofs.pdb_fit.Met as pane-pdb-fit
 use Rattle.pane.proofs.pdb_header.Met as pane-pdb-header
-use Rattle.pane.proofs.pdb_load.Met as pane-pdb-load
 use Rattle.pane.proofs.pdb_next.Met as pane-pdb-next
 use Rattle.pane.proofs.pdb_primitive.Met as pane-pdb-primitive
-use Rattle.pane.proofs.pdb_report.Met as pane-pdb-report
-use Rattle.pane.proofs.pdb_save.Met as pane-pdb-save
 use Rattle.pane.proofs.pdb_update.Met as pane-pdb-update
+use Rattle.pane_declare.proofs.pdb_declare.Met as pane-declare-pdb-declare
+use Rattle.pane_drop.proofs.pdb_drop.Met as pane-drop-pdb-drop
+use Rattle.pane_fit.proofs.pdb_fit.Met as pane-fit-pdb-fit
+use Rattle.pane_index.proofs.pdb_create.Met as pane-index-pdb-create
+use Rattle.pane_index.proofs.pdb_index.Met as pane-index-pdb-index
+use Rattle.pane_index.proofs.pdb_kind.Met as pane-index-pdb-kind
+use Rattle.pane_index.proofs.pdb_load.Met as pane-index-pdb-load
+use Rattle.pane_index.proofs.pdb_load_short.Met as pane-index-pdb-load-short
+use Rattle.pane_index.proofs.pdb_max_index.Met as pane-index-pdb-max-index
+use Rattle.pane_index.proofs.pdb_save.Met as pane-index-pdb-save
+use Rattle.pane_index.proofs.pdb_save_short.Met as pane-index-pdb-save-short
+use Rattle.pane_index.proofs.pdb_view.Met as pane-index-pdb-view
+use Rattle.pane_out.proofs.first.Met as pane-out-first
+use Rattle.pane_out.proofs.flag.Met as pane-out-flag
+use Rattle.pane_out.proofs.is_set.Met as pane-out-is-set
+use Rattle.pane_out.proofs.second.Met as pane-out-second
+use Rattle.pane_parse.proofs.pdb_parse.Met as pane-parse-pdb-parse
+use Rattle.pane_parse.proofs.pdb_section_read.Met as pane-parse-pdb-section-read
+use Rattle.pane_record.proofs.pdb_id.Met as pane-record-pdb-id
+use Rattle.pane_record.proofs.pdb_list.Met as pane-record-pdb-list
+use Rattle.pane_record.proofs.pdb_step.Met as pane-record-pdb-step
+use Rattle.pane_record.proofs.pdb_type.Met as pane-record-pdb-type
+use Rattle.pane_report.proofs.pdb_report.Met as pane-report-pdb-report
+use Rattle.pane_row.proofs.cursor_row.Met as pane-row-cursor-row
+use Rattle.pane_row.proofs.entry_row.Met as pane-row-entry-row
+use Rattle.pane_row.proofs.id_row.Met as pane-row-id-row
+use Rattle.pane_row.proofs.index_row.Met as pane-row-index-row
+use Rattle.pane_row.proofs.member_row.Met as pane-row-member-row
+use Rattle.pane_row.proofs.type_row.Met as pane-row-type-row
+use Rattle.pane_section.proofs.pdb_section_count.Met as pane-section-pdb-section-count
+use Rattle.pane_section.proofs.pdb_section_create.Met as pane-section-pdb-section-create
+use Rattle.pane_section.proofs.pdb_section_index.Met as pane-section-pdb-section-index
+use Rattle.pane_section.proofs.pdb_section_list.Met as pane-section-pdb-section-list
+use Rattle.pane_section.proofs.pdb_section_start.Met as pane-section-pdb-section-start
+use Rattle.pane_section.proofs.pdb_section_stream.Met as pane-section-pdb-section-stream
+use Rattle.pane_state.proofs.entry_of.Met as pane-state-entry-of
+use Rattle.pane_state.proofs.walk_out.Met as pane-state-walk-out
+use Rattle.pane_word.proofs.pdb_field_attributes.Met as pane-word-pdb-field-attributes
+use Rattle.pane_word.proofs.pdb_function_attributes.Met as pane-word-pdb-function-attributes
+use Rattle.pane_word.proofs.pdb_is_cross_module.Met as pane-word-pdb-is-cross-module
+use Rattle.pane_word.proofs.pdb_number.Met as pane-word-pdb-number
+use Rattle.pane_word.proofs.pdb_optional_id.Met as pane-word-pdb-optional-id
+use Rattle.pane_word.proofs.pdb_optional_type.Met as pane-word-pdb-optional-type
+use Rattle.pane_word.proofs.pdb_padding.Met as pane-word-pdb-padding
+use Rattle.pane_word.proofs.pdb_pointer_attributes.Met as pane-word-pdb-pointer-attributes
+use Rattle.pane_word.proofs.pdb_properties.Met as pane-word-pdb-properties
+use Rattle.pane_word.proofs.pdb_size.Met as pane-word-pdb-size
+use Rattle.pane_word.proofs.pdb_string.Met as pane-word-pdb-string
+use Rattle.pane_write.proofs.pdb_cells.Met as pane-write-pdb-cells
+use Rattle.pane_write.proofs.pdb_layout.Met as pane-write-pdb-layout
+use Rattle.pane_write.proofs.pdb_write_fields.Met as pane-write-pdb-write-fields
+use Rattle.pane_write.proofs.pdb_write_header.Met as pane-write-pdb-write-header
+use Rattle.pane_write.proofs.pdb_write_id.Met as pane-write-pdb-write-id
+use Rattle.pane_write.proofs.pdb_write_methods.Met as pane-write-pdb-write-methods
+use Rattle.pane_write.proofs.pdb_write_type.Met as pane-write-pdb-write-type
+use Rattle.record_cells.proofs.id_cells.Met as record-cells-id-cells
+use Rattle.record_cells.proofs.layout.id_layout.Met as record-cells-layout-id-layout
+use Rattle.record_cells.proofs.layout.member_layout.Met as record-cells-layout-member-layout
+use Rattle.record_cells.proofs.layout.method_layout.Met as record-cells-layout-method-layout
+use Rattle.record_cells.proofs.layout.type_layout.Met as record-cells-layout-type-layout
+use Rattle.record_cells.proofs.type_cells.Met as record-cells-type-cells
 use Rattle.record_data.proofs.TypeData.name.Met as record-data-type-data-name
 use Rattle.record_data.proofs.type_data.Met as record-data-type-data
 use Rattle.record_id.proofs.id_data.Met as record-id-id-data
@@ -159,6 +215,8 @@ use Rattle.word_attributes.proofs.TypeProperties.packed.Met as word-attributes-
 use Rattle.word_attributes.proofs.TypeProperties.scoped_definition.Met as word-attributes-type-properties-scoped-definition
 use Rattle.word_attributes.proofs.TypeProperties.sealed.Met as word-attributes-type-properties-sealed
 use Rattle.word_primitive.proofs.primitive.Met as word-primitive-primitive
+use Rattle.write_cells.proofs.write_id.Met as write-cells-write-id
+use Rattle.write_cells.proofs.write_type.Met as write-cells-write-type
 use Rattle.write_fit.proofs.gap.Met as write-fit-gap
 use Rattle.write_fit.proofs.half.Met as write-fit-half
 use Rattle.write_fit.proofs.natural.Met as write-fit-natural
@@ -231,11 +289,67 @@ tied = record {
   pane-pdb-update = record { says = λ M 𝓤 H A mem run. refl; meets = λ M. pane-pdb-update.met };
   pane-pdb-find = record { says = λ M 𝓤 H A mem run. refl; meets = λ M. pane-pdb-find.met };
   pane-pdb-primitive = record { says = λ M 𝓤 H A mem run. refl; meets = λ M. pane-pdb-primitive.met };
-  pane-pdb-load = record { says = λ M 𝓤 H A mem run. refl; meets = λ M. pane-pdb-load.met };
-  pane-pdb-save = record { says = λ M 𝓤 H A mem run. refl; meets = λ M. pane-pdb-save.met };
-  pane-pdb-fit = record { says = λ M 𝓤 H A mem run. refl; meets = λ M. pane-pdb-fit.met };
-  pane-pdb-drop = record { says = λ M 𝓤 H A mem run. refl; meets = λ M. pane-pdb-drop.met };
-  pane-pdb-report = record { says = λ M 𝓤 H A mem run. refl; meets = λ M. pane-pdb-report.met };
+  pane-declare-pdb-declare = record { says = λ M 𝓤 H A mem run. refl; meets = λ M. pane-declare-pdb-declare.met };
+  pane-drop-pdb-drop = record { says = λ M 𝓤 H A mem run. refl; meets = λ M. pane-drop-pdb-drop.met };
+  pane-fit-pdb-fit = record { says = λ M 𝓤 H A mem run. refl; meets = λ M. pane-fit-pdb-fit.met };
+  pane-index-pdb-create = record { says = λ M 𝓤 H A mem run. refl; meets = λ M. pane-index-pdb-create.met };
+  pane-index-pdb-index = record { says = λ M 𝓤 H A mem run. refl; meets = λ M. pane-index-pdb-index.met };
+  pane-index-pdb-max-index = record { says = λ M 𝓤 H A mem run. refl; meets = λ M. pane-index-pdb-max-index.met };
+  pane-index-pdb-view = record { says = λ M 𝓤 H A mem run. refl; meets = λ M. pane-index-pdb-view.met };
+  pane-index-pdb-kind = record { says = λ M 𝓤 H A mem run. refl; meets = λ M. pane-index-pdb-kind.met };
+  pane-index-pdb-load = record { says = λ M 𝓤 H A mem run. refl; meets = λ M. pane-index-pdb-load.met };
+  pane-index-pdb-load-short = record { says = λ M 𝓤 H A mem run. refl; meets = λ M. pane-index-pdb-load-short.met };
+  pane-index-pdb-save = record { says = λ M 𝓤 H A mem run. refl; meets = λ M. pane-index-pdb-save.met };
+  pane-index-pdb-save-short = record { says = λ M 𝓤 H A mem run. refl; meets = λ M. pane-index-pdb-save-short.met };
+  pane-out-first = record { says = λ M 𝓤 H A mem run. refl; meets = λ M. pane-out-first.met };
+  pane-out-second = record { says = λ M 𝓤 H A mem run. refl; meets = λ M. pane-out-second.met };
+  pane-out-is-set = record { says = λ M 𝓤 H A mem run. refl; meets = λ M. pane-out-is-set.met };
+  pane-out-flag = record { says = λ M 𝓤 H A mem run. refl; meets = λ M. pane-out-flag.met };
+  pane-parse-pdb-parse = record { says = λ M 𝓤 H A mem run. refl; meets = λ M. pane-parse-pdb-parse.met };
+  pane-parse-pdb-section-read = record { says = λ M 𝓤 H A mem run. refl; meets = λ M. pane-parse-pdb-section-read.met };
+  pane-record-pdb-type = record { says = λ M 𝓤 H A mem run. refl; meets = λ M. pane-record-pdb-type.met };
+  pane-record-pdb-id = record { says = λ M 𝓤 H A mem run. refl; meets = λ M. pane-record-pdb-id.met };
+  pane-record-pdb-list = record { says = λ M 𝓤 H A mem run. refl; meets = λ M. pane-record-pdb-list.met };
+  pane-record-pdb-step = record { says = λ M 𝓤 H A mem run. refl; meets = λ M. pane-record-pdb-step.met };
+  pane-report-pdb-report = record { says = λ M 𝓤 H A mem run. refl; meets = λ M. pane-report-pdb-report.met };
+  pane-row-type-row = record { says = λ M 𝓤 H A mem run. refl; meets = λ M. pane-row-type-row.met };
+  pane-row-id-row = record { says = λ M 𝓤 H A mem run. refl; meets = λ M. pane-row-id-row.met };
+  pane-row-cursor-row = record { says = λ M 𝓤 H A mem run. refl; meets = λ M. pane-row-cursor-row.met };
+  pane-row-member-row = record { says = λ M 𝓤 H A mem run. refl; meets = λ M. pane-row-member-row.met };
+  pane-row-entry-row = record { says = λ M 𝓤 H A mem run. refl; meets = λ M. pane-row-entry-row.met };
+  pane-row-index-row = record { says = λ M 𝓤 H A mem run. refl; meets = λ M. pane-row-index-row.met };
+  pane-section-pdb-section-start = record { says = λ M 𝓤 H A mem run. refl; meets = λ M. pane-section-pdb-section-start.met };
+  pane-section-pdb-section-count = record { says = λ M 𝓤 H A mem run. refl; meets = λ M. pane-section-pdb-section-count.met };
+  pane-section-pdb-section-create = record { says = λ M 𝓤 H A mem run. refl; meets = λ M. pane-section-pdb-section-create.met };
+  pane-section-pdb-section-index = record { says = λ M 𝓤 H A mem run. refl; meets = λ M. pane-section-pdb-section-index.met };
+  pane-section-pdb-section-stream = record { says = λ M 𝓤 H A mem run. refl; meets = λ M. pane-section-pdb-section-stream.met };
+  pane-section-pdb-section-list = record { says = λ M 𝓤 H A mem run. refl; meets = λ M. pane-section-pdb-section-list.met };
+  pane-state-walk-out = record { says = λ M 𝓤 H A mem run. refl; meets = λ M. pane-state-walk-out.met };
+  pane-state-entry-of = record { says = λ M 𝓤 H A mem run. refl; meets = λ M. pane-state-entry-of.met };
+  pane-word-pdb-string = record { says = λ M 𝓤 H A mem run. refl; meets = λ M. pane-word-pdb-string.met };
+  pane-word-pdb-padding = record { says = λ M 𝓤 H A mem run. refl; meets = λ M. pane-word-pdb-padding.met };
+  pane-word-pdb-size = record { says = λ M 𝓤 H A mem run. refl; meets = λ M. pane-word-pdb-size.met };
+  pane-word-pdb-number = record { says = λ M 𝓤 H A mem run. refl; meets = λ M. pane-word-pdb-number.met };
+  pane-word-pdb-optional-type = record { says = λ M 𝓤 H A mem run. refl; meets = λ M. pane-word-pdb-optional-type.met };
+  pane-word-pdb-optional-id = record { says = λ M 𝓤 H A mem run. refl; meets = λ M. pane-word-pdb-optional-id.met };
+  pane-word-pdb-is-cross-module = record { says = λ M 𝓤 H A mem run. refl; meets = λ M. pane-word-pdb-is-cross-module.met };
+  pane-word-pdb-properties = record { says = λ M 𝓤 H A mem run. refl; meets = λ M. pane-word-pdb-properties.met };
+  pane-word-pdb-field-attributes = record { says = λ M 𝓤 H A mem run. refl; meets = λ M. pane-word-pdb-field-attributes.met };
+  pane-word-pdb-function-attributes = record { says = λ M 𝓤 H A mem run. refl; meets = λ M. pane-word-pdb-function-attributes.met };
+  pane-word-pdb-pointer-attributes = record { says = λ M 𝓤 H A mem run. refl; meets = λ M. pane-word-pdb-pointer-attributes.met };
+  pane-write-pdb-write-type = record { says = λ M 𝓤 H A mem run. refl; meets = λ M. pane-write-pdb-write-type.met };
+  pane-write-pdb-write-id = record { says = λ M 𝓤 H A mem run. refl; meets = λ M. pane-write-pdb-write-id.met };
+  pane-write-pdb-write-fields = record { says = λ M 𝓤 H A mem run. refl; meets = λ M. pane-write-pdb-write-fields.met };
+  pane-write-pdb-write-methods = record { says = λ M 𝓤 H A mem run. refl; meets = λ M. pane-write-pdb-write-methods.met };
+  pane-write-pdb-write-header = record { says = λ M 𝓤 H A mem run. refl; meets = λ M. pane-write-pdb-write-header.met };
+  pane-write-pdb-cells = record { says = λ M 𝓤 H A mem run. refl; meets = λ M. pane-write-pdb-cells.met };
+  pane-write-pdb-layout = record { says = λ M 𝓤 H A mem run. refl; meets = λ M. pane-write-pdb-layout.met };
+  record-cells-type-cells = record { says = λ M 𝓤 H A mem run. refl; meets = λ M. record-cells-type-cells.met };
+  record-cells-id-cells = record { says = λ M 𝓤 H A mem run. refl; meets = λ M. record-cells-id-cells.met };
+  record-cells-layout-type-layout = record { says = λ M 𝓤 H A mem run. refl; meets = λ M. record-cells-layout-type-layout.met };
+  record-cells-layout-member-layout = record { says = λ M 𝓤 H A mem run. refl; meets = λ M. record-cells-layout-member-layout.met };
+  record-cells-layout-method-layout = record { says = λ M 𝓤 H A mem run. refl; meets = λ M. record-cells-layout-method-layout.met };
+  record-cells-layout-id-layout = record { says = λ M 𝓤 H A mem run. refl; meets = λ M. record-cells-layout-id-layout.met };
   record-data-type-data-name = record { says = λ M 𝓤 H A mem run. refl; meets = λ M. record-data-type-data-name.met };
   record-data-type-data = record { says = λ M 𝓤 H A mem run. refl; meets = λ M. record-data-type-data.met };
   record-id-id-data = record { says = λ M 𝓤 H A mem run. refl; meets = λ M. record-id-id-data.met };
@@ -339,6 +453,8 @@ tied = record {
   word-attributes-pointer-attributes-size = record { says = λ M 𝓤 H A mem run. refl; meets = λ M. word-attributes-pointer-attributes-size.met };
   word-attributes-pointer-attributes-is-mocom = record { says = λ M 𝓤 H A mem run. refl; meets = λ M. word-attributes-pointer-attributes-is-mocom.met };
   word-primitive-primitive = record { says = λ M 𝓤 H A mem run. refl; meets = λ M. word-primitive-primitive.met };
+  write-cells-write-type = record { says = λ M 𝓤 H A mem run. refl; meets = λ M. write-cells-write-type.met };
+  write-cells-write-id = record { says = λ M 𝓤 H A mem run. refl; meets = λ M. write-cells-write-id.met };
   write-fit-half = record { says = λ M 𝓤 H A mem run. refl; meets = λ M. write-fit-half.met };
   write-fit-word = record { says = λ M 𝓤 H A mem run. refl; meets = λ M. write-fit-word.met };
   write-fit-natural = record { says = λ M 𝓤 H A mem run. refl; meets = λ M. write-fit-natural.met };

@@ -30,6 +30,12 @@ use Rattle.section_read.specs.Readers.{EachTaken}
 use Rattle.section_stream.specs.Made.{StreamMade}
 use Rattle.pane.specs.Tally.{Tally}
 use Rattle.pane.specs.Same.{Same}
+use Rattle.pane_row.specs.Back.{RowsTell}
+use Rattle.pane_row.specs.Stand.{SlotsStand}
+use Rattle.pane_state.specs.Walk.{SameWalk}
+use Rattle.pane_word.specs.Words.{Named}
+use Rattle.record_cells.specs.Filled.{CellsTell}
+use Rattle.claim_promises.specs.Border.{Border}
 use Rattle.claim_promises.specs.Demand1.{Demand1}
 use Rattle.claim_promises.specs.RefusedBy.{EachRefusedBy}
 use Rattle.claim_promises.specs.ExactlyWhen.{ExactlyWhen}
@@ -156,6 +162,16 @@ pub record Demands : Type 2 where
   pub paged : Tally
   pub sections-paged : SectionTally
   pub five : Same
+  -- what C gets of every other export, by the definition that the plain function's contract cites: crates/claim_promises/specs/Border.antt. A row gives the
+  -- values of the record or element that it was made of back, and so do a record's cells; a row's places stand as the layouts do; where a walk is said to end,
+  -- it ends; and the numbers of a pointer's kind and mode name them: crates/pane_row/specs/Back.antt, Stand.antt, crates/record_cells/specs/Filled.antt,
+  -- crates/pane_state/specs/Walk.antt, crates/pane_word/specs/Words.antt
+  pub border : Border
+  pub rows-tell : RowsTell
+  pub rows-stand : SlotsStand
+  pub cells-tell : CellsTell
+  pub same-walk : SameWalk
+  pub words-named : Named
   -- document 02, R-6: "Demand 3 holds of the section with 4 for header_size, 4096 for the minimum and 4096 plus the records for the maximum":
   -- crates/section_finder/specs/Demand.antt, by the theorems of any run, crates/stream_finder/specs/Runs.antt; the records are those of a whole walk:
   -- crates/section_item/specs/Sections.antt

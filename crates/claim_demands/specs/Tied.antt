@@ -91,26 +91,138 @@ use Rattle.field_text.proofs.string_at as field-text-string-at-source
 use Rattle.field_text.proofs.string_at.Symbol as field-text-string-at-code
 use Rattle.field_text.proofs.string_of as field-text-string-of-source
 use Rattle.field_text.proofs.string_of.Symbol as field-text-string-of-code
-use Rattle.pane.proofs.pdb_drop as pane-pdb-drop-source
-use Rattle.pane.proofs.pdb_drop.Symbol as pane-pdb-drop-code
 use Rattle.pane.proofs.pdb_find as pane-pdb-find-source
 use Rattle.pane.proofs.pdb_find.Symbol as pane-pdb-find-code
-use Rattle.pane.proofs.pdb_fit as pane-pdb-fit-source
-use Rattle.pane.proofs.pdb_fit.Symbol as pane-pdb-fit-code
 use Rattle.pane.proofs.pdb_header as pane-pdb-header-source
 use Rattle.pane.proofs.pdb_header.Symbol as pane-pdb-header-code
-use Rattle.pane.proofs.pdb_load as pane-pdb-load-source
-use Rattle.pane.proofs.pdb_load.Symbol as pane-pdb-load-code
 use Rattle.pane.proofs.pdb_next as pane-pdb-next-source
 use Rattle.pane.proofs.pdb_next.Symbol as pane-pdb-next-code
 use Rattle.pane.proofs.pdb_primitive as pane-pdb-primitive-source
 use Rattle.pane.proofs.pdb_primitive.Symbol as pane-pdb-primitive-code
-use Rattle.pane.proofs.pdb_report as pane-pdb-report-source
-use Rattle.pane.proofs.pdb_report.Symbol as pane-pdb-report-code
-use Rattle.pane.proofs.pdb_save as pane-pdb-save-source
-use Rattle.pane.proofs.pdb_save.Symbol as pane-pdb-save-code
 use Rattle.pane.proofs.pdb_update as pane-pdb-update-source
 use Rattle.pane.proofs.pdb_update.Symbol as pane-pdb-update-code
+use Rattle.pane_declare.proofs.pdb_declare as pane-declare-pdb-declare-source
+use Rattle.pane_declare.proofs.pdb_declare.Symbol as pane-declare-pdb-declare-code
+use Rattle.pane_drop.proofs.pdb_drop as pane-drop-pdb-drop-source
+use Rattle.pane_drop.proofs.pdb_drop.Symbol as pane-drop-pdb-drop-code
+use Rattle.pane_fit.proofs.pdb_fit as pane-fit-pdb-fit-source
+use Rattle.pane_fit.proofs.pdb_fit.Symbol as pane-fit-pdb-fit-code
+use Rattle.pane_index.proofs.pdb_create as pane-index-pdb-create-source
+use Rattle.pane_index.proofs.pdb_create.Symbol as pane-index-pdb-create-code
+use Rattle.pane_index.proofs.pdb_index as pane-index-pdb-index-source
+use Rattle.pane_index.proofs.pdb_index.Symbol as pane-index-pdb-index-code
+use Rattle.pane_index.proofs.pdb_kind as pane-index-pdb-kind-source
+use Rattle.pane_index.proofs.pdb_kind.Symbol as pane-index-pdb-kind-code
+use Rattle.pane_index.proofs.pdb_load as pane-index-pdb-load-source
+use Rattle.pane_index.proofs.pdb_load.Symbol as pane-index-pdb-load-code
+use Rattle.pane_index.proofs.pdb_load_short as pane-index-pdb-load-short-source
+use Rattle.pane_index.proofs.pdb_load_short.Symbol as pane-index-pdb-load-short-code
+use Rattle.pane_index.proofs.pdb_max_index as pane-index-pdb-max-index-source
+use Rattle.pane_index.proofs.pdb_max_index.Symbol as pane-index-pdb-max-index-code
+use Rattle.pane_index.proofs.pdb_save as pane-index-pdb-save-source
+use Rattle.pane_index.proofs.pdb_save.Symbol as pane-index-pdb-save-code
+use Rattle.pane_index.proofs.pdb_save_short as pane-index-pdb-save-short-source
+use Rattle.pane_index.proofs.pdb_save_short.Symbol as pane-index-pdb-save-short-code
+use Rattle.pane_index.proofs.pdb_view as pane-index-pdb-view-source
+use Rattle.pane_index.proofs.pdb_view.Symbol as pane-index-pdb-view-code
+use Rattle.pane_out.proofs.first as pane-out-first-source
+use Rattle.pane_out.proofs.first.Symbol as pane-out-first-code
+use Rattle.pane_out.proofs.flag as pane-out-flag-source
+use Rattle.pane_out.proofs.flag.Symbol as pane-out-flag-code
+use Rattle.pane_out.proofs.is_set as pane-out-is-set-source
+use Rattle.pane_out.proofs.is_set.Symbol as pane-out-is-set-code
+use Rattle.pane_out.proofs.second as pane-out-second-source
+use Rattle.pane_out.proofs.second.Symbol as pane-out-second-code
+use Rattle.pane_parse.proofs.pdb_parse as pane-parse-pdb-parse-source
+use Rattle.pane_parse.proofs.pdb_parse.Symbol as pane-parse-pdb-parse-code
+use Rattle.pane_parse.proofs.pdb_section_read as pane-parse-pdb-section-read-source
+use Rattle.pane_parse.proofs.pdb_section_read.Symbol as pane-parse-pdb-section-read-code
+use Rattle.pane_record.proofs.pdb_id as pane-record-pdb-id-source
+use Rattle.pane_record.proofs.pdb_id.Symbol as pane-record-pdb-id-code
+use Rattle.pane_record.proofs.pdb_list as pane-record-pdb-list-source
+use Rattle.pane_record.proofs.pdb_list.Symbol as pane-record-pdb-list-code
+use Rattle.pane_record.proofs.pdb_step as pane-record-pdb-step-source
+use Rattle.pane_record.proofs.pdb_step.Symbol as pane-record-pdb-step-code
+use Rattle.pane_record.proofs.pdb_type as pane-record-pdb-type-source
+use Rattle.pane_record.proofs.pdb_type.Symbol as pane-record-pdb-type-code
+use Rattle.pane_report.proofs.pdb_report as pane-report-pdb-report-source
+use Rattle.pane_report.proofs.pdb_report.Symbol as pane-report-pdb-report-code
+use Rattle.pane_row.proofs.cursor_row as pane-row-cursor-row-source
+use Rattle.pane_row.proofs.cursor_row.Symbol as pane-row-cursor-row-code
+use Rattle.pane_row.proofs.entry_row as pane-row-entry-row-source
+use Rattle.pane_row.proofs.entry_row.Symbol as pane-row-entry-row-code
+use Rattle.pane_row.proofs.id_row as pane-row-id-row-source
+use Rattle.pane_row.proofs.id_row.Symbol as pane-row-id-row-code
+use Rattle.pane_row.proofs.index_row as pane-row-index-row-source
+use Rattle.pane_row.proofs.index_row.Symbol as pane-row-index-row-code
+use Rattle.pane_row.proofs.member_row as pane-row-member-row-source
+use Rattle.pane_row.proofs.member_row.Symbol as pane-row-member-row-code
+use Rattle.pane_row.proofs.type_row as pane-row-type-row-source
+use Rattle.pane_row.proofs.type_row.Symbol as pane-row-type-row-code
+use Rattle.pane_section.proofs.pdb_section_count as pane-section-pdb-section-count-source
+use Rattle.pane_section.proofs.pdb_section_count.Symbol as pane-section-pdb-section-count-code
+use Rattle.pane_section.proofs.pdb_section_create as pane-section-pdb-section-create-source
+use Rattle.pane_section.proofs.pdb_section_create.Symbol as pane-section-pdb-section-create-code
+use Rattle.pane_section.proofs.pdb_section_index as pane-section-pdb-section-index-source
+use Rattle.pane_section.proofs.pdb_section_index.Symbol as pane-section-pdb-section-index-code
+use Rattle.pane_section.proofs.pdb_section_list as pane-section-pdb-section-list-source
+use Rattle.pane_section.proofs.pdb_section_list.Symbol as pane-section-pdb-section-list-code
+use Rattle.pane_section.proofs.pdb_section_start as pane-section-pdb-section-start-source
+use Rattle.pane_section.proofs.pdb_section_start.Symbol as pane-section-pdb-section-start-code
+use Rattle.pane_section.proofs.pdb_section_stream as pane-section-pdb-section-stream-source
+use Rattle.pane_section.proofs.pdb_section_stream.Symbol as pane-section-pdb-section-stream-code
+use Rattle.pane_state.proofs.entry_of as pane-state-entry-of-source
+use Rattle.pane_state.proofs.entry_of.Symbol as pane-state-entry-of-code
+use Rattle.pane_state.proofs.walk_out as pane-state-walk-out-source
+use Rattle.pane_state.proofs.walk_out.Symbol as pane-state-walk-out-code
+use Rattle.pane_word.proofs.pdb_field_attributes as pane-word-pdb-field-attributes-source
+use Rattle.pane_word.proofs.pdb_field_attributes.Symbol as pane-word-pdb-field-attributes-code
+use Rattle.pane_word.proofs.pdb_function_attributes as pane-word-pdb-function-attributes-source
+use Rattle.pane_word.proofs.pdb_function_attributes.Symbol as pane-word-pdb-function-attributes-code
+use Rattle.pane_word.proofs.pdb_is_cross_module as pane-word-pdb-is-cross-module-source
+use Rattle.pane_word.proofs.pdb_is_cross_module.Symbol as pane-word-pdb-is-cross-module-code
+use Rattle.pane_word.proofs.pdb_number as pane-word-pdb-number-source
+use Rattle.pane_word.proofs.pdb_number.Symbol as pane-word-pdb-number-code
+use Rattle.pane_word.proofs.pdb_optional_id as pane-word-pdb-optional-id-source
+use Rattle.pane_word.proofs.pdb_optional_id.Symbol as pane-word-pdb-optional-id-code
+use Rattle.pane_word.proofs.pdb_optional_type as pane-word-pdb-optional-type-source
+use Rattle.pane_word.proofs.pdb_optional_type.Symbol as pane-word-pdb-optional-type-code
+use Rattle.pane_word.proofs.pdb_padding as pane-word-pdb-padding-source
+use Rattle.pane_word.proofs.pdb_padding.Symbol as pane-word-pdb-padding-code
+use Rattle.pane_word.proofs.pdb_pointer_attributes as pane-word-pdb-pointer-attributes-source
+use Rattle.pane_word.proofs.pdb_pointer_attributes.Symbol as pane-word-pdb-pointer-attributes-code
+use Rattle.pane_word.proofs.pdb_properties as pane-word-pdb-properties-source
+use Rattle.pane_word.proofs.pdb_properties.Symbol as pane-word-pdb-properties-code
+use Rattle.pane_word.proofs.pdb_size as pane-word-pdb-size-source
+use Rattle.pane_word.proofs.pdb_size.Symbol as pane-word-pdb-size-code
+use Rattle.pane_word.proofs.pdb_string as pane-word-pdb-string-source
+use Rattle.pane_word.proofs.pdb_string.Symbol as pane-word-pdb-string-code
+use Rattle.pane_write.proofs.pdb_cells as pane-write-pdb-cells-source
+use Rattle.pane_write.proofs.pdb_cells.Symbol as pane-write-pdb-cells-code
+use Rattle.pane_write.proofs.pdb_layout as pane-write-pdb-layout-source
+use Rattle.pane_write.proofs.pdb_layout.Symbol as pane-write-pdb-layout-code
+use Rattle.pane_write.proofs.pdb_write_fields as pane-write-pdb-write-fields-source
+use Rattle.pane_write.proofs.pdb_write_fields.Symbol as pane-write-pdb-write-fields-code
+use Rattle.pane_write.proofs.pdb_write_header as pane-write-pdb-write-header-source
+use Rattle.pane_write.proofs.pdb_write_header.Symbol as pane-write-pdb-write-header-code
+use Rattle.pane_write.proofs.pdb_write_id as pane-write-pdb-write-id-source
+use Rattle.pane_write.proofs.pdb_write_id.Symbol as pane-write-pdb-write-id-code
+use Rattle.pane_write.proofs.pdb_write_methods as pane-write-pdb-write-methods-source
+use Rattle.pane_write.proofs.pdb_write_methods.Symbol as pane-write-pdb-write-methods-code
+use Rattle.pane_write.proofs.pdb_write_type as pane-write-pdb-write-type-source
+use Rattle.pane_write.proofs.pdb_write_type.Symbol as pane-write-pdb-write-type-code
+use Rattle.record_cells.proofs.id_cells as record-cells-id-cells-source
+use Rattle.record_cells.proofs.id_cells.Symbol as record-cells-id-cells-code
+use Rattle.record_cells.proofs.layout.id_layout as record-cells-layout-id-layout-source
+use Rattle.record_cells.proofs.layout.id_layout.Symbol as record-cells-layout-id-layout-code
+use Rattle.record_cells.proofs.layout.member_layout as record-cells-layout-member-layout-source
+use Rattle.record_cells.proofs.layout.member_layout.Symbol as record-cells-layout-member-layout-code
+use Rattle.record_cells.proofs.layout.method_layout as record-cells-layout-method-layout-source
+use Rattle.record_cells.proofs.layout.method_layout.Symbol as record-cells-layout-method-layout-code
+use Rattle.record_cells.proofs.layout.type_layout as record-cells-layout-type-layout-source
+use Rattle.record_cells.proofs.layout.type_layout.Symbol as record-cells-layout-type-layout-code
+use Rattle.record_cells.proofs.type_cells as record-cells-type-cells-source
+use Rattle.record_cells.proofs.type_cells.Symbol as record-cells-type-cells-code
 use Rattle.record_data.proofs.TypeData.name as record-data-type-data-name-source
 use Rattle.record_data.proofs.TypeData.name.Symbol as record-data-type-data-name-code
 use Rattle.record_data.proofs.type_data as record-data-type-data-source
@@ -317,6 +429,10 @@ use Rattle.word_attributes.proofs.TypeProperties.sealed as word-attributes-type
 use Rattle.word_attributes.proofs.TypeProperties.sealed.Symbol as word-attributes-type-properties-sealed-code
 use Rattle.word_primitive.proofs.primitive as word-primitive-primitive-source
 use Rattle.word_primitive.proofs.primitive.Symbol as word-primitive-primitive-code
+use Rattle.write_cells.proofs.write_id as write-cells-write-id-source
+use Rattle.write_cells.proofs.write_id.Symbol as write-cells-write-id-code
+use Rattle.write_cells.proofs.write_type as write-cells-write-type-source
+use Rattle.write_cells.proofs.write_type.Symbol as write-cells-write-type-code
 use Rattle.write_fit.proofs.gap as write-fit-gap-source
 use Rattle.write_fit.proofs.gap.Symbol as write-fit-gap-code
 use Rattle.write_fit.proofs.half as write-fit-half-source
@@ -457,16 +573,128 @@ pub record Tied : Type 2 where
   pub pane-pdb-find : Tie pane-pdb-find-source.ended (λ M. pane-pdb-find-source.clauses) pane-pdb-find-code.routine (λ κs a r e. contract.pane-pdb-find (now (a .0)) (now (a .1 .0)) (a .1 .1 .0) (a .1 .1 .1 .0) (a .1 .1 .1 .1 .0) (a .1 .1 .1 .1 .1 .0) (a .1 .1 .1 .1 .1 .1 .0) r (now (e .1 .1 .1 .1 .1 .1 .1 .0)))
   -- pane::pdb_primitive
   pub pane-pdb-primitive : Tie pane-pdb-primitive-source.ended (λ M. pane-pdb-primitive-source.clauses) pane-pdb-primitive-code.routine (λ κs a r e. contract.pane-pdb-primitive (a .0) r (now (e .1 .0)))
-  -- pane::pdb_load
-  pub pane-pdb-load : Tie pane-pdb-load-source.ended (λ M. pane-pdb-load-source.clauses) pane-pdb-load-code.routine (λ κs a r e. contract.pane-pdb-load (now (a .0)) (now (a .1 .0)) (now (a .1 .1 .0)) r (now (e .1 .1 .0)) (now (e .1 .1 .1 .0)))
-  -- pane::pdb_save
-  pub pane-pdb-save : Tie pane-pdb-save-source.ended (λ M. pane-pdb-save-source.clauses) pane-pdb-save-code.routine (λ κs a r e. contract.pane-pdb-save (now (a .0)) (now (a .1 .0)) (a .1 .1 .0) (a .1 .1 .1 .0) (a .1 .1 .1 .1 .0) (a .1 .1 .1 .1 .1 .0) (now (a .1 .1 .1 .1 .1 .1 .0)) r (now (e .1 .1 .1 .1 .1 .1 .0)) (now (e .1 .1 .1 .1 .1 .1 .1 .0)))
-  -- pane::pdb_fit
-  pub pane-pdb-fit : Tie pane-pdb-fit-source.ended (λ M. pane-pdb-fit-source.clauses) pane-pdb-fit-code.routine (λ κs a r e. contract.pane-pdb-fit (now (a .0)) r (now (e .1 .0)))
-  -- pane::pdb_drop
-  pub pane-pdb-drop : Tie pane-pdb-drop-source.ended (λ M. pane-pdb-drop-source.clauses) pane-pdb-drop-code.routine (λ κs a r e. contract.pane-pdb-drop (now (a .0)) (now (a .1 .0)) (now (a .1 .1 .0)) (now (a .1 .1 .1 .0)) r (now (e .1 .1 .0)) (now (e .1 .1 .1 .0)) (now (e .1 .1 .1 .1 .0)))
-  -- pane::pdb_report
-  pub pane-pdb-report : Tie pane-pdb-report-source.ended (λ M. pane-pdb-report-source.clauses) pane-pdb-report-code.routine (λ κs a r e. contract.pane-pdb-report (now (a .0)) (a .1 .0) (a .1 .1 .0) (a .1 .1 .1 .0) (a .1 .1 .1 .1 .0) (a .1 .1 .1 .1 .1 .0) (a .1 .1 .1 .1 .1 .1 .0) (a .1 .1 .1 .1 .1 .1 .1 .0) (a .1 .1 .1 .1 .1 .1 .1 .1 .0) (a .1 .1 .1 .1 .1 .1 .1 .1 .1 .0) (now (a .1 .1 .1 .1 .1 .1 .1 .1 .1 .1 .0)) r (now (e .1 .1 .1 .1 .1 .1 .1 .1 .1 .1 .0)) (now (e .1 .1 .1 .1 .1 .1 .1 .1 .1 .1 .1 .0)))
+  -- pane_declare::pdb_declare
+  pub pane-declare-pdb-declare : Tie pane-declare-pdb-declare-source.ended (λ M. pane-declare-pdb-declare-source.clauses) pane-declare-pdb-declare-code.routine (λ κs a r e. contract.pane-declare-pdb-declare (now (a .0)) (now (a .1 .0)) (a .1 .1 .0) (a .1 .1 .1 .0) (a .1 .1 .1 .1 .0) (a .1 .1 .1 .1 .1 .0) (a .1 .1 .1 .1 .1 .1 .0) (now (a .1 .1 .1 .1 .1 .1 .1 .0)) r (now (e .1 .1 .1 .1 .1 .1 .1 .0)) (now (e .1 .1 .1 .1 .1 .1 .1 .1 .0)))
+  -- pane_drop::pdb_drop
+  pub pane-drop-pdb-drop : Tie pane-drop-pdb-drop-source.ended (λ M. pane-drop-pdb-drop-source.clauses) pane-drop-pdb-drop-code.routine (λ κs a r e. contract.pane-drop-pdb-drop (now (a .0)) (now (a .1 .0)) (now (a .1 .1 .0)) (now (a .1 .1 .1 .0)) r (now (e .1 .1 .0)) (now (e .1 .1 .1 .0)) (now (e .1 .1 .1 .1 .0)))
+  -- pane_fit::pdb_fit
+  pub pane-fit-pdb-fit : Tie pane-fit-pdb-fit-source.ended (λ M. pane-fit-pdb-fit-source.clauses) pane-fit-pdb-fit-code.routine (λ κs a r e. contract.pane-fit-pdb-fit (now (a .0)) r (now (e .1 .0)))
+  -- pane_index::pdb_create
+  pub pane-index-pdb-create : Tie pane-index-pdb-create-source.ended (λ M. pane-index-pdb-create-source.clauses) pane-index-pdb-create-code.routine (λ κs a r e. contract.pane-index-pdb-create (now (a .0)) (now (a .1 .0)) (a .1 .1 .0) r (now (e .1 .0)) (now (e .1 .1 .1 .0)))
+  -- pane_index::pdb_index
+  pub pane-index-pdb-index : Tie pane-index-pdb-index-source.ended (λ M. pane-index-pdb-index-source.clauses) pane-index-pdb-index-code.routine (λ κs a r e. contract.pane-index-pdb-index (now (a .0)) (now (a .1 .0)) (a .1 .1 .0) r (now (e .1 .0)) (now (e .1 .1 .1 .0)))
+  -- pane_index::pdb_max_index
+  pub pane-index-pdb-max-index : Tie pane-index-pdb-max-index-source.ended (λ M. pane-index-pdb-max-index-source.clauses) pane-index-pdb-max-index-code.routine (λ κs a r e. contract.pane-index-pdb-max-index (a .0) (a .1 .0) (a .1 .1 .0) (a .1 .1 .1 .0) r)
+  -- pane_index::pdb_view
+  pub pane-index-pdb-view : Tie pane-index-pdb-view-source.ended (λ M. pane-index-pdb-view-source.clauses) pane-index-pdb-view-code.routine (λ κs a r e. contract.pane-index-pdb-view (now (a .0)) (now (a .1 .0)) (a .1 .1 .0) (a .1 .1 .1 .0) (a .1 .1 .1 .1 .0) (a .1 .1 .1 .1 .1 .0) (a .1 .1 .1 .1 .1 .1 .0) r (now (e .1 .1 .1 .1 .1 .1 .1 .0)))
+  -- pane_index::pdb_kind
+  pub pane-index-pdb-kind : Tie pane-index-pdb-kind-source.ended (λ M. pane-index-pdb-kind-source.clauses) pane-index-pdb-kind-code.routine (λ κs a r e. contract.pane-index-pdb-kind (now (a .0)) (now (a .1 .0)) (a .1 .1 .0) (a .1 .1 .1 .0) (a .1 .1 .1 .1 .0) (a .1 .1 .1 .1 .1 .0) (a .1 .1 .1 .1 .1 .1 .0) r (now (e .1 .1 .1 .1 .1 .1 .1 .0)))
+  -- pane_index::pdb_load
+  pub pane-index-pdb-load : Tie pane-index-pdb-load-source.ended (λ M. pane-index-pdb-load-source.clauses) pane-index-pdb-load-code.routine (λ κs a r e. contract.pane-index-pdb-load (now (a .0)) (now (a .1 .0)) (now (a .1 .1 .0)) r (now (e .1 .1 .0)) (now (e .1 .1 .1 .0)))
+  -- pane_index::pdb_load_short
+  pub pane-index-pdb-load-short : Tie pane-index-pdb-load-short-source.ended (λ M. pane-index-pdb-load-short-source.clauses) pane-index-pdb-load-short-code.routine (λ κs a r e. contract.pane-index-pdb-load-short (now (a .0)) (now (a .1 .0)) (now (a .1 .1 .0)) r (now (e .1 .1 .0)) (now (e .1 .1 .1 .0)))
+  -- pane_index::pdb_save
+  pub pane-index-pdb-save : Tie pane-index-pdb-save-source.ended (λ M. pane-index-pdb-save-source.clauses) pane-index-pdb-save-code.routine (λ κs a r e. contract.pane-index-pdb-save (now (a .0)) (now (a .1 .0)) (a .1 .1 .0) (a .1 .1 .1 .0) (a .1 .1 .1 .1 .0) (a .1 .1 .1 .1 .1 .0) (now (a .1 .1 .1 .1 .1 .1 .0)) r (now (e .1 .1 .1 .1 .1 .1 .0)) (now (e .1 .1 .1 .1 .1 .1 .1 .0)))
+  -- pane_index::pdb_save_short
+  pub pane-index-pdb-save-short : Tie pane-index-pdb-save-short-source.ended (λ M. pane-index-pdb-save-short-source.clauses) pane-index-pdb-save-short-code.routine (λ κs a r e. contract.pane-index-pdb-save-short (now (a .0)) (now (a .1 .0)) (a .1 .1 .0) (a .1 .1 .1 .0) (a .1 .1 .1 .1 .0) (a .1 .1 .1 .1 .1 .0) (now (a .1 .1 .1 .1 .1 .1 .0)) r (now (e .1 .1 .1 .1 .1 .1 .0)) (now (e .1 .1 .1 .1 .1 .1 .1 .0)))
+  -- pane_out::first
+  pub pane-out-first : Tie pane-out-first-source.ended (λ M. pane-out-first-source.clauses) pane-out-first-code.routine (λ κs a r e. contract.pane-out-first (a .0) r)
+  -- pane_out::second
+  pub pane-out-second : Tie pane-out-second-source.ended (λ M. pane-out-second-source.clauses) pane-out-second-code.routine (λ κs a r e. contract.pane-out-second (a .0) r)
+  -- pane_out::is_set
+  pub pane-out-is-set : Tie pane-out-is-set-source.ended (λ M. pane-out-is-set-source.clauses) pane-out-is-set-code.routine (λ κs a r e. contract.pane-out-is-set (a .0) r)
+  -- pane_out::flag
+  pub pane-out-flag : Tie pane-out-flag-source.ended (λ M. pane-out-flag-source.clauses) pane-out-flag-code.routine (λ κs a r e. contract.pane-out-flag (a .0) r)
+  -- pane_parse::pdb_parse
+  pub pane-parse-pdb-parse : Tie pane-parse-pdb-parse-source.ended (λ M. pane-parse-pdb-parse-source.clauses) pane-parse-pdb-parse-code.routine (λ κs a r e. contract.pane-parse-pdb-parse (now (a .0)) (now (a .1 .0)) (a .1 .1 .0) (a .1 .1 .1 .0) (a .1 .1 .1 .1 .0) (a .1 .1 .1 .1 .1 .0) (a .1 .1 .1 .1 .1 .1 .0) r (now (e .1 .1 .1 .1 .1 .1 .1 .0)))
+  -- pane_parse::pdb_section_read
+  pub pane-parse-pdb-section-read : Tie pane-parse-pdb-section-read-source.ended (λ M. pane-parse-pdb-section-read-source.clauses) pane-parse-pdb-section-read-code.routine (λ κs a r e. contract.pane-parse-pdb-section-read (now (a .0)) (a .1 .0) (a .1 .1 .0) (a .1 .1 .1 .0) r (now (e .1 .1 .1 .1 .0)))
+  -- pane_record::pdb_type
+  pub pane-record-pdb-type : Tie pane-record-pdb-type-source.ended (λ M. pane-record-pdb-type-source.clauses) pane-record-pdb-type-code.routine (λ κs a r e. contract.pane-record-pdb-type (now (a .0)) r (now (e .1 .0)))
+  -- pane_record::pdb_id
+  pub pane-record-pdb-id : Tie pane-record-pdb-id-source.ended (λ M. pane-record-pdb-id-source.clauses) pane-record-pdb-id-code.routine (λ κs a r e. contract.pane-record-pdb-id (now (a .0)) r (now (e .1 .0)))
+  -- pane_record::pdb_list
+  pub pane-record-pdb-list : Tie pane-record-pdb-list-source.ended (λ M. pane-record-pdb-list-source.clauses) pane-record-pdb-list-code.routine (λ κs a r e. contract.pane-record-pdb-list (now (a .0)) (a .1 .0) r (now (e .1 .1 .0)))
+  -- pane_record::pdb_step
+  pub pane-record-pdb-step : Tie pane-record-pdb-step-source.ended (λ M. pane-record-pdb-step-source.clauses) pane-record-pdb-step-code.routine (λ κs a r e. contract.pane-record-pdb-step (now (a .0)) (a .1 .0) (a .1 .1 .0) (a .1 .1 .1 .0) (a .1 .1 .1 .1 .0) r (now (e .1 .1 .1 .1 .1 .0)))
+  -- pane_report::pdb_report
+  pub pane-report-pdb-report : Tie pane-report-pdb-report-source.ended (λ M. pane-report-pdb-report-source.clauses) pane-report-pdb-report-code.routine (λ κs a r e. contract.pane-report-pdb-report (now (a .0)) (a .1 .0) (a .1 .1 .0) (a .1 .1 .1 .0) (a .1 .1 .1 .1 .0) (a .1 .1 .1 .1 .1 .0) (a .1 .1 .1 .1 .1 .1 .0) (a .1 .1 .1 .1 .1 .1 .1 .0) (a .1 .1 .1 .1 .1 .1 .1 .1 .0) (a .1 .1 .1 .1 .1 .1 .1 .1 .1 .0) (now (a .1 .1 .1 .1 .1 .1 .1 .1 .1 .1 .0)) r (now (e .1 .1 .1 .1 .1 .1 .1 .1 .1 .1 .0)) (now (e .1 .1 .1 .1 .1 .1 .1 .1 .1 .1 .1 .0)))
+  -- pane_row::type_row
+  pub pane-row-type-row : Tie pane-row-type-row-source.ended (λ M. pane-row-type-row-source.clauses) pane-row-type-row-code.routine (λ κs a r e. contract.pane-row-type-row (a .0) r)
+  -- pane_row::id_row
+  pub pane-row-id-row : Tie pane-row-id-row-source.ended (λ M. pane-row-id-row-source.clauses) pane-row-id-row-code.routine (λ κs a r e. contract.pane-row-id-row (a .0) r)
+  -- pane_row::cursor_row
+  pub pane-row-cursor-row : Tie pane-row-cursor-row-source.ended (λ M. pane-row-cursor-row-source.clauses) pane-row-cursor-row-code.routine (λ κs a r e. contract.pane-row-cursor-row (a .0) r)
+  -- pane_row::member_row
+  pub pane-row-member-row : Tie pane-row-member-row-source.ended (λ M. pane-row-member-row-source.clauses) pane-row-member-row-code.routine (λ κs a r e. contract.pane-row-member-row (a .0) (a .1 .0) (a .1 .1 .0) (a .1 .1 .1 .0) r)
+  -- pane_row::entry_row
+  pub pane-row-entry-row : Tie pane-row-entry-row-source.ended (λ M. pane-row-entry-row-source.clauses) pane-row-entry-row-code.routine (λ κs a r e. contract.pane-row-entry-row (a .0) (a .1 .0) (a .1 .1 .0) (a .1 .1 .1 .0) r)
+  -- pane_row::index_row
+  pub pane-row-index-row : Tie pane-row-index-row-source.ended (λ M. pane-row-index-row-source.clauses) pane-row-index-row-code.routine (λ κs a r e. contract.pane-row-index-row (a .0) (a .1 .0) (a .1 .1 .0) (a .1 .1 .1 .0) r)
+  -- pane_section::pdb_section_start
+  pub pane-section-pdb-section-start : Tie pane-section-pdb-section-start-source.ended (λ M. pane-section-pdb-section-start-source.clauses) pane-section-pdb-section-start-code.routine (λ κs a r e. contract.pane-section-pdb-section-start (now (a .0)) r (now (e .1 .0)))
+  -- pane_section::pdb_section_count
+  pub pane-section-pdb-section-count : Tie pane-section-pdb-section-count-source.ended (λ M. pane-section-pdb-section-count-source.clauses) pane-section-pdb-section-count-code.routine (λ κs a r e. contract.pane-section-pdb-section-count (now (a .0)) r (now (e .1 .0)))
+  -- pane_section::pdb_section_create
+  pub pane-section-pdb-section-create : Tie pane-section-pdb-section-create-source.ended (λ M. pane-section-pdb-section-create-source.clauses) pane-section-pdb-section-create-code.routine (λ κs a r e. contract.pane-section-pdb-section-create (now (a .0)) (now (a .1 .0)) (a .1 .1 .0) r (now (e .1 .0)) (now (e .1 .1 .1 .0)))
+  -- pane_section::pdb_section_index
+  pub pane-section-pdb-section-index : Tie pane-section-pdb-section-index-source.ended (λ M. pane-section-pdb-section-index-source.clauses) pane-section-pdb-section-index-code.routine (λ κs a r e. contract.pane-section-pdb-section-index (now (a .0)) (now (a .1 .0)) (a .1 .1 .0) r (now (e .1 .0)) (now (e .1 .1 .1 .0)))
+  -- pane_section::pdb_section_stream
+  pub pane-section-pdb-section-stream : Tie pane-section-pdb-section-stream-source.ended (λ M. pane-section-pdb-section-stream-source.clauses) pane-section-pdb-section-stream-code.routine (λ κs a r e. contract.pane-section-pdb-section-stream (now (a .0)) (now (a .1 .0)) r (now (e .1 .0)) (now (e .1 .1 .0)))
+  -- pane_section::pdb_section_list
+  pub pane-section-pdb-section-list : Tie pane-section-pdb-section-list-source.ended (λ M. pane-section-pdb-section-list-source.clauses) pane-section-pdb-section-list-code.routine (λ κs a r e. contract.pane-section-pdb-section-list (now (a .0)) r (now (e .1 .0)))
+  -- pane_state::walk_out
+  pub pane-state-walk-out : Tie pane-state-walk-out-source.ended (λ M. pane-state-walk-out-source.clauses) pane-state-walk-out-code.routine (λ κs a r e. contract.pane-state-walk-out (a .0) r)
+  -- pane_state::entry_of
+  pub pane-state-entry-of : Tie pane-state-entry-of-source.ended (λ M. pane-state-entry-of-source.clauses) pane-state-entry-of-code.routine (λ κs a r e. contract.pane-state-entry-of (a .0) (a .1 .0) (a .1 .1 .0) (a .1 .1 .1 .0) (a .1 .1 .1 .1 .0) r)
+  -- pane_word::pdb_string
+  pub pane-word-pdb-string : Tie pane-word-pdb-string-source.ended (λ M. pane-word-pdb-string-source.clauses) pane-word-pdb-string-code.routine (λ κs a r e. contract.pane-word-pdb-string (now (a .0)) (a .1 .0) (a .1 .1 .0) r (now (e .1 .1 .1 .0)))
+  -- pane_word::pdb_padding
+  pub pane-word-pdb-padding : Tie pane-word-pdb-padding-source.ended (λ M. pane-word-pdb-padding-source.clauses) pane-word-pdb-padding-code.routine (λ κs a r e. contract.pane-word-pdb-padding (now (a .0)) (a .1 .0) r (now (e .1 .1 .0)))
+  -- pane_word::pdb_size
+  pub pane-word-pdb-size : Tie pane-word-pdb-size-source.ended (λ M. pane-word-pdb-size-source.clauses) pane-word-pdb-size-code.routine (λ κs a r e. contract.pane-word-pdb-size (now (a .0)) (a .1 .0) r (now (e .1 .1 .0)))
+  -- pane_word::pdb_number
+  pub pane-word-pdb-number : Tie pane-word-pdb-number-source.ended (λ M. pane-word-pdb-number-source.clauses) pane-word-pdb-number-code.routine (λ κs a r e. contract.pane-word-pdb-number (now (a .0)) (a .1 .0) r (now (e .1 .1 .0)))
+  -- pane_word::pdb_optional_type
+  pub pane-word-pdb-optional-type : Tie pane-word-pdb-optional-type-source.ended (λ M. pane-word-pdb-optional-type-source.clauses) pane-word-pdb-optional-type-code.routine (λ κs a r e. contract.pane-word-pdb-optional-type (a .0) r)
+  -- pane_word::pdb_optional_id
+  pub pane-word-pdb-optional-id : Tie pane-word-pdb-optional-id-source.ended (λ M. pane-word-pdb-optional-id-source.clauses) pane-word-pdb-optional-id-code.routine (λ κs a r e. contract.pane-word-pdb-optional-id (a .0) r)
+  -- pane_word::pdb_is_cross_module
+  pub pane-word-pdb-is-cross-module : Tie pane-word-pdb-is-cross-module-source.ended (λ M. pane-word-pdb-is-cross-module-source.clauses) pane-word-pdb-is-cross-module-code.routine (λ κs a r e. contract.pane-word-pdb-is-cross-module (a .0) r)
+  -- pane_word::pdb_properties
+  pub pane-word-pdb-properties : Tie pane-word-pdb-properties-source.ended (λ M. pane-word-pdb-properties-source.clauses) pane-word-pdb-properties-code.routine (λ κs a r e. contract.pane-word-pdb-properties (a .0) r (now (e .1 .0)))
+  -- pane_word::pdb_field_attributes
+  pub pane-word-pdb-field-attributes : Tie pane-word-pdb-field-attributes-source.ended (λ M. pane-word-pdb-field-attributes-source.clauses) pane-word-pdb-field-attributes-code.routine (λ κs a r e. contract.pane-word-pdb-field-attributes (a .0) r (now (e .1 .0)))
+  -- pane_word::pdb_function_attributes
+  pub pane-word-pdb-function-attributes : Tie pane-word-pdb-function-attributes-source.ended (λ M. pane-word-pdb-function-attributes-source.clauses) pane-word-pdb-function-attributes-code.routine (λ κs a r e. contract.pane-word-pdb-function-attributes (a .0) r (now (e .1 .0)))
+  -- pane_word::pdb_pointer_attributes
+  pub pane-word-pdb-pointer-attributes : Tie pane-word-pdb-pointer-attributes-source.ended (λ M. pane-word-pdb-pointer-attributes-source.clauses) pane-word-pdb-pointer-attributes-code.routine (λ κs a r e. contract.pane-word-pdb-pointer-attributes (a .0) r (now (e .1 .0)))
+  -- pane_write::pdb_write_type
+  pub pane-write-pdb-write-type : Tie pane-write-pdb-write-type-source.ended (λ M. pane-write-pdb-write-type-source.clauses) pane-write-pdb-write-type-code.routine (λ κs a r e. contract.pane-write-pdb-write-type (now (a .0)) (a .1 .0) (now (a .1 .1 .0)) (now (a .1 .1 .1 .0)) (a .1 .1 .1 .1 .0) r (now (e .1 .1 .1 .0)) (now (e .1 .1 .1 .1 .1 .0)))
+  -- pane_write::pdb_write_id
+  pub pane-write-pdb-write-id : Tie pane-write-pdb-write-id-source.ended (λ M. pane-write-pdb-write-id-source.clauses) pane-write-pdb-write-id-code.routine (λ κs a r e. contract.pane-write-pdb-write-id (now (a .0)) (a .1 .0) (now (a .1 .1 .0)) (now (a .1 .1 .1 .0)) (a .1 .1 .1 .1 .0) r (now (e .1 .1 .1 .0)) (now (e .1 .1 .1 .1 .1 .0)))
+  -- pane_write::pdb_write_fields
+  pub pane-write-pdb-write-fields : Tie pane-write-pdb-write-fields-source.ended (λ M. pane-write-pdb-write-fields-source.clauses) pane-write-pdb-write-fields-code.routine (λ κs a r e. contract.pane-write-pdb-write-fields (now (a .0)) (now (a .1 .0)) (now (a .1 .1 .0)) (a .1 .1 .1 .0) r (now (e .1 .1 .0)) (now (e .1 .1 .1 .1 .0)))
+  -- pane_write::pdb_write_methods
+  pub pane-write-pdb-write-methods : Tie pane-write-pdb-write-methods-source.ended (λ M. pane-write-pdb-write-methods-source.clauses) pane-write-pdb-write-methods-code.routine (λ κs a r e. contract.pane-write-pdb-write-methods (now (a .0)) (now (a .1 .0)) (now (a .1 .1 .0)) (a .1 .1 .1 .0) r (now (e .1 .1 .0)) (now (e .1 .1 .1 .1 .0)))
+  -- pane_write::pdb_write_header
+  pub pane-write-pdb-write-header : Tie pane-write-pdb-write-header-source.ended (λ M. pane-write-pdb-write-header-source.clauses) pane-write-pdb-write-header-code.routine (λ κs a r e. contract.pane-write-pdb-write-header (now (a .0)) (a .1 .0) (a .1 .1 .0) (now (a .1 .1 .1 .0)) (a .1 .1 .1 .1 .0) r (now (e .1 .1 .1 .0)) (now (e .1 .1 .1 .1 .1 .0)))
+  -- pane_write::pdb_cells
+  pub pane-write-pdb-cells : Tie pane-write-pdb-cells-source.ended (λ M. pane-write-pdb-cells-source.clauses) pane-write-pdb-cells-code.routine (λ κs a r e. contract.pane-write-pdb-cells (now (a .0)) (a .1 .0) (now (a .1 .1 .0)) r (now (e .1 .1 .0)) (now (e .1 .1 .1 .0)))
+  -- pane_write::pdb_layout
+  pub pane-write-pdb-layout : Tie pane-write-pdb-layout-source.ended (λ M. pane-write-pdb-layout-source.clauses) pane-write-pdb-layout-code.routine (λ κs a r e. contract.pane-write-pdb-layout (a .0) (a .1 .0) r)
+  -- record_cells::type_cells
+  pub record-cells-type-cells : Tie record-cells-type-cells-source.ended (λ M. record-cells-type-cells-source.clauses) record-cells-type-cells-code.routine (λ κs a r e. contract.record-cells-type-cells (now (a .0)) (a .1 .0) (a .1 .1 .0) (now (a .1 .1 .1 .0)) r (now (e .1 .1 .1 .0)))
+  -- record_cells::id_cells
+  pub record-cells-id-cells : Tie record-cells-id-cells-source.ended (λ M. record-cells-id-cells-source.clauses) record-cells-id-cells-code.routine (λ κs a r e. contract.record-cells-id-cells (now (a .0)) (a .1 .0) (a .1 .1 .0) (now (a .1 .1 .1 .0)) r (now (e .1 .1 .1 .0)))
+  -- record_cells::layout::type_layout
+  pub record-cells-layout-type-layout : Tie record-cells-layout-type-layout-source.ended (λ M. record-cells-layout-type-layout-source.clauses) record-cells-layout-type-layout-code.routine (λ κs a r e. contract.record-cells-layout-type-layout (a .0) r)
+  -- record_cells::layout::member_layout
+  pub record-cells-layout-member-layout : Tie record-cells-layout-member-layout-source.ended (λ M. record-cells-layout-member-layout-source.clauses) record-cells-layout-member-layout-code.routine (λ κs a r e. contract.record-cells-layout-member-layout (a .0) r)
+  -- record_cells::layout::method_layout
+  pub record-cells-layout-method-layout : Tie record-cells-layout-method-layout-source.ended (λ M. record-cells-layout-method-layout-source.clauses) record-cells-layout-method-layout-code.routine (λ κs a r e. contract.record-cells-layout-method-layout r)
+  -- record_cells::layout::id_layout
+  pub record-cells-layout-id-layout : Tie record-cells-layout-id-layout-source.ended (λ M. record-cells-layout-id-layout-source.clauses) record-cells-layout-id-layout-code.routine (λ κs a r e. contract.record-cells-layout-id-layout (a .0) r)
   -- record_data::TypeData::name
   pub record-data-type-data-name : Tie record-data-type-data-name-source.ended (λ M. record-data-type-data-name-source.clauses) record-data-type-data-name-code.routine (λ κs a r e. contract.record-data-type-data-name (a .0) r)
   -- record_data::type_data
@@ -673,6 +901,10 @@ pub record Tied : Type 2 where
   pub word-attributes-pointer-attributes-is-mocom : Tie word-attributes-pointer-attributes-is-mocom-source.ended (λ M. word-attributes-pointer-attributes-is-mocom-source.clauses) word-attributes-pointer-attributes-is-mocom-code.routine (λ κs a r e. contract.word-attributes-pointer-attributes-is-mocom (a .0) r)
   -- word_primitive::primitive
   pub word-primitive-primitive : Tie word-primitive-primitive-source.ended (λ M. word-primitive-primitive-source.clauses) word-primitive-primitive-code.routine (λ κs a r e. contract.word-primitive-primitive (a .0) r)
+  -- write_cells::write_type
+  pub write-cells-write-type : Tie write-cells-write-type-source.ended (λ M. write-cells-write-type-source.clauses) write-cells-write-type-code.routine (λ κs a r e. contract.write-cells-write-type (now (a .0)) (a .1 .0) (a .1 .1 .0) (now (a .1 .1 .1 .0)) (a .1 .1 .1 .1 .0) r (now (e .1 .1 .1 .0)))
+  -- write_cells::write_id
+  pub write-cells-write-id : Tie write-cells-write-id-source.ended (λ M. write-cells-write-id-source.clauses) write-cells-write-id-code.routine (λ κs a r e. contract.write-cells-write-id (now (a .0)) (a .1 .0) (a .1 .1 .0) (now (a .1 .1 .1 .0)) (a .1 .1 .1 .1 .0) r (now (e .1 .1 .1 .0)))
   -- write_fit::half
   pub write-fit-half : Tie write-fit-half-source.ended (λ M. write-fit-half-source.clauses) write-fit-half-code.routine (λ κs a r e. contract.write-fit-half (a .0) r)
   -- write_fit::word
