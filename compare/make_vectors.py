@@ -1,10 +1,10 @@
 #!/usr/bin/env python3
-"""Writes crates/replay/stdin and crates/replay/stdout: a fixed list of commands of PROTOCOL.md and the answers that `rt check` holds the program
-`replay` to. The same seed gives the same files.
+"""Writes tests/vectors/replay.in and replay.out: a fixed list of commands of PROTOCOL.md and the answers that ./test holds the program `replay` to. The same
+seed gives the same files.
 
     make_vectors.py ORACLE REPLAY [--seed N]
         ORACLE   the crate, built by build.sh (its release build)
-        REPLAY   the port's program, built by `rt check replay`
+        REPLAY   the port's program, target/replay, built by tools/replay
 
 Where an expected line comes from:
 
@@ -20,7 +20,7 @@ Where an expected line comes from:
 - 01's examples and 02's words: their lines, written out below. They must be what the rules above give too.
 
 No expected line is taken from REPLAY. It is run at the end, and must answer every line. The exit status is 1, and nothing is written, if an answer
-of the crate is not explained, if an example fails, if REPLAY answers otherwise or has no call of some public function, or if the list lacks one of:
+of the crate is not explained, if an example fails, if REPLAY answers otherwise or has no call of some exported function, or if the list lacks one of:
 a command of PROTOCOL.md; a number 0 to 22, 25 or 26; every shift 0 to 7; a leaf of 01; every prefix of a good record of every leaf; every leaf written, and refused
 by 17 and by 19; 18; a record of the crate's tests; the largest counts; a table exactly full and one short; bytes that are none, in every way, and as many bytes as there may be.
 """
@@ -273,12 +273,6 @@ def count_line(s):
     return f"0 {high - low}" + (" empty" if high == low else "")
 
 
-def item_line(stream, index, length):
-    """An item's index, stream and length, the same of its entry, and those of the marker, which "has length 2"."""
-    of = f"{index}{stream} {length}" + (" empty" if length == 0 else "")
-    return f"{of} ; {of} ; {index}{stream} 2"
-
-
 NAMED_TYPES = ("1504", "1505", "1519", "1609", "1506", "1507")
 NAMED_MEMBERS = ("1502", "150d", "150e", "150f", "1510")
 
@@ -338,8 +332,6 @@ def by_rule(words, primitive):
         return count_line(blob(n[0]))
     if kind == "cross":
         return "ti." if int(n[0]) >= 2 ** 31 else "."
-    if kind == "item":
-        return item_line(n[0], int(n[1]), int(n[3]))
     if kind in ("wunsigned", "wsigned"):
         return layouts.number_line(blob(n[0]), kind == "wsigned", True)[0]
     if kind == "wtype":
@@ -349,7 +341,7 @@ def by_rule(words, primitive):
     return None
 
 
-PORT_ONLY = ("next", "create", "update", "findin", "maxindex", "view", "marker", "element", "idelement", "count", "cross", "item",
+PORT_ONLY = ("next", "create", "update", "findin", "maxindex", "view", "marker", "element", "idelement", "count", "cross",
              "membername", "idat", "createby", "updateby", "findinby", "maxindexby", "findby", "wunsigned", "wsigned", "wtype", "welement", "save", "load",
              "writeheader", "write", "rewrite", "rewriteid", *sections.COMMANDS, "declare")
 
@@ -360,15 +352,15 @@ PORT_ONLY = ("next", "create", "update", "findin", "maxindex", "view", "marker",
 BYTES_AT = {**dict.fromkeys(("itemtype", "itemid", "string", "element", "idelement", "idat", "membername", "createby", "findinby", "findby", "welement",
                             "seccreate", "sectpi", "declare"), (2,)),
             "view": (1, 2), "load": (1, 2), "save": (3,),
-            **dict.fromkeys(("prim", "word", "opttype", "optid", "update", "maxindex", "updateby", "maxindexby", "marker", "cross", "item", "writeheader",
+            **dict.fromkeys(("prim", "word", "opttype", "optid", "update", "maxindex", "updateby", "maxindexby", "marker", "cross", "writeheader",
                             "write"), ())}
 MOST_BYTES = 65536
 
 
 def no_bytes(words):
-    """"Where it is missing, or has another letter than 0 to 9 and a to f, an odd number of digits, or more than 65,536 bytes.\""""
+    """"Where it is missing, or has another letter than 0 to 9 and a to f, or an odd number of digits.\""""
     given = [words[at] if at < len(words) else "" for at in BYTES_AT.get(words[0], (1,))]
-    return any(w != "-" and (not re.fullmatch("([0-9a-f]{2})+", w) or len(w) > 2 * MOST_BYTES) for w in given)
+    return any(w != "-" and not re.fullmatch("([0-9a-f]{2})+", w) for w in given)
 
 
 # ---- the crate's lines ----
@@ -523,8 +515,7 @@ NO_COMMANDS = ["frobnicate", "antidisestablishmentarianism 12"]
 NO_BYTES = [f"{kind} {word}" for kind in ("header", "kind", "type") for word in
             ("zz", "0g", "011", "0", "01z", "0B", "0110AA", "--", "-00", "00-", "@e.tpi", "01,02", "")]
 NO_BYTES += ["rewrite 0", "rewrite 0G", "rewrite", "rewriteid 051", "rewriteid =00", "rewriteid", "save 99 3 0 4096 4098 1 56", "load 0 - 7", "load - zz 7", "createby 3 0 7", "findby 3 0g 0 0", "findinby 3 zz 4096 4120 0 - 4096", "find zz 0 0,1", "find 0 3 4096", "next 001 0 0", "create 0 7", "findin zz 4096 4120 0 - 4096", "view 0 01 t 0 0", "view 01 0 t 0 0",
-             "view zz zz i 0 0", "view 01", "string 4611 4", "element 0 031", "itemtype 4096 0X10", "membername 0 0", "count 5",
-             "padding " + "00" * (MOST_BYTES + 1)]
+             "view zz zz i 0 0", "view 01", "string 4611 4", "element 0 031", "itemtype 4096 0X10", "membername 0 0", "count 5"]
 MOST = "padding " + "f1" * MOST_BYTES
 EXAMPLES = [
     (f"walk {E.hex()}", ["4096 1001 58+8", "4097 1002 68+10", "done 4098 78"]),
@@ -717,9 +708,6 @@ def small_commands():
         yield f"count {hexed(s)}"
     for n in (0, 4096, 2 ** 31 - 1, 2 ** 31, TOP):
         yield f"cross {n}"
-    for stream in "ti":
-        for n, place, length in ((0, 0, 0), (4096, 56, 8), (TOP, 2 ** 64 - 1, 2 ** 64 - 1)):
-            yield f"item {stream} {n} {place} {length}"
     for record in GOOD_TYPES.values():
         yield f"name {hexed(packed(record))}"
         yield f"name {hexed(packed(record)[:-1])}"
@@ -1004,49 +992,34 @@ def numbers_in(words, lines):
         elif words[0] in ("find", "findids", "findby", "secfind", "prim"):
             if parts[0].isdigit() and len(parts) > 1:
                 yield int(parts[1])
-        elif words[0] not in ("word", "opttype", "optid", "maxindex", "maxindexby", "cross", "item"):
+        elif words[0] not in ("word", "opttype", "optid", "maxindex", "maxindexby", "cross"):
             yield int(parts[0])
         yield from (int(n) for n in re.findall(r" ; end (\d+)", line))
         yield from (12 for _ in re.findall(r"=r12", line))
 
 
 def protocol_commands():
-    """The commands of PROTOCOL.md that the port takes."""
+    """The commands of PROTOCOL.md that the port takes, but for those over whole streams, whose vectors fitting.py writes."""
     with open(os.path.join(HERE, "PROTOCOL.md"), encoding="utf-8") as f:
         text = f.read()
     found = set()
     for title in ("## Commands that both take", "## Commands that only the port takes"):
-        for line in text.split(title)[1].split("\n## ")[0].split("\n"):
+        for line in text.split(title)[1].split("\n## ")[0].split("These are over whole streams")[0].split("\n"):
             if line.startswith("| `"):
                 found.update(c.split()[0] for c in re.findall(r"`([^`]+)`", line.split(" | ")[0]))
     return found
 
 
-def public_functions():
-    """The public functions of the libraries, by the names that `rt mir` has."""
-    crates = os.path.join(HERE, "..", "crates")
-    for crate in sorted(os.listdir(crates)):
-        source = os.path.join(crates, crate, "src")
-        if not os.path.exists(os.path.join(source, "lib.rt")):
-            continue
-        for name in sorted(os.listdir(source)):
-            module, methods_of = [] if name == "lib.rt" else [name[:-3]], []
-            with open(os.path.join(source, name), encoding="utf-8") as f:
-                for line in f:
-                    if line.startswith("impl"):
-                        methods_of = re.findall(r"^impl(?:<'a>)? (\w+)", line)
-                    elif line.startswith("}"):
-                        methods_of = []
-                    for function in re.findall(r"^\s*pub fn (\w+)", line):
-                        yield "::".join([crate] + module + methods_of + [function])
-
-
 def never_called():
-    """The public functions that the program `replay` has no call of."""
-    mir = subprocess.run(["rt", "mir", "replay"], cwd=HERE, check=True, capture_output=True, encoding="utf-8").stdout
-    called = set(re.findall(r'fn-def "([^"]*)"', mir))
-    # A method goes by its type's crate: `stream_finder::ItemFinder::find` stands in lent.rt.
-    return [f for f in public_functions() if f not in called and "::".join([f.split("::")[0]] + f.split("::")[2:]) not in called]
+    """The exported functions of c/pdb.h that the program `replay` has no call of."""
+    with open(os.path.join(HERE, "..", "c", "pdb.h"), encoding="utf-8") as f:
+        exported = re.findall(r"^uint\d+_t (pdb_\w+)\(", f.read(), re.M)
+    folder = os.path.join(HERE, "..", "tests", "replay")
+    text = ""
+    for name in os.listdir(folder):
+        with open(os.path.join(folder, name), encoding="utf-8") as f:
+            text += f.read()
+    return [f for f in exported if not re.search(rf"\b{f}\(", text)]
 
 
 def lacking(vectors):
@@ -1155,10 +1128,10 @@ def main():
     if problems:
         print("\n".join(problems[:40]) + f"\n{len(problems)} problems; nothing is written")
         return 1
-    home = os.path.join(HERE, "..", "crates", "replay")
-    with open(os.path.join(home, "stdin"), "w", encoding="ascii") as f:
+    home = os.path.join(HERE, "..", "tests", "vectors")
+    with open(os.path.join(home, "replay.in"), "w", encoding="ascii") as f:
         f.writelines(f"{c}\n" for c, _ in vectors)
-    with open(os.path.join(home, "stdout"), "w", encoding="ascii") as f:
+    with open(os.path.join(home, "replay.out"), "w", encoding="ascii") as f:
         f.writelines(f"{line}\n" for _, lines in vectors for line in lines)
     asked = sum(c in lines_of for c, _ in vectors)
     count = sum(len(lines) for _, lines in vectors)

@@ -192,7 +192,7 @@ def stream_line(room, s):
         return str(e.args[0])
 
 
-COMMANDS = ("secwalk", "secparse", "secfind", "seccreate", "sectpi")
+COMMANDS = ("secwalk", "secparse", "seccount", "secfind", "seccreate", "sectpi")
 
 
 def answer(words):
@@ -201,6 +201,11 @@ def answer(words):
     blob = lambda word: b"" if word == "-" else bytes.fromhex(word)
     if kind in ("secwalk", "secparse"):
         return walk_lines(blob(n[0]), kind == "secparse")
+    if kind == "seccount":
+        try:
+            return [f"0 {count(blob(n[0]))}"]
+        except Refused as why:
+            return [str(why.args[0])]
     if kind == "secfind":
         return find_lines(blob(n[0]), int(n[1]), [int(i) for i in n[2].split(",")])
     if kind == "seccreate":
@@ -275,6 +280,7 @@ def commands():
     for s in full():
         yield f"secwalk {text(s)}"
         yield f"secparse {text(s)}"
+        yield f"seccount {text(s)}"
         for n in (0, 1, 7, 8, 65535, 65536, 65537):
             yield f"secfind {text(s)} {n} 0,4095,4096,4097,4098,4099,4103,4104,4105,4112,4113,{TOP}"
         for shift in (0, 3, 6, 7, 255):
@@ -284,6 +290,7 @@ def commands():
             yield f"sectpi {room} {text(s)}"
     for s in others():
         yield f"secparse {text(s)}"
+        yield f"seccount {text(s)}"
         if len(s) < 100:
             yield f"sectpi 70000 {text(s)}"
             yield f"seccreate 3 {text(s)} 9"

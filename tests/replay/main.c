@@ -9,7 +9,7 @@
     X(header) X(walk) X(parse) X(parseids) X(find) X(findids) X(findby) X(type) X(id) X(itemtype) X(itemid) X(kind) X(name) X(prim) X(word) \
     X(opttype) X(optid) X(string) X(padding) X(unsigned) X(signed) X(next) X(create) X(update) X(findin) X(maxindex) X(createby) X(updateby) \
     X(findinby) X(maxindexby) X(wunsigned) X(wsigned) X(wtype) X(welement) X(save) X(load) X(savewide) X(loadwide) X(writeheader) X(write) \
-    X(rewrite) X(rewriteid) X(secwalk) X(secparse) X(secfind) X(seccreate) X(sectpi) X(declare) X(view) X(marker) X(element) X(idelement) \
+    X(rewrite) X(rewriteid) X(secwalk) X(secparse) X(seccount) X(secfind) X(seccreate) X(sectpi) X(declare) X(view) X(marker) X(element) X(idelement) \
     X(idat) X(membername) X(count) X(cross) X(fit) X(drop) X(report) X(reportfrom)
 
 static const struct {

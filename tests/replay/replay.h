@@ -100,7 +100,7 @@ void section_data(const uint8_t *section, size_t size, uint32_t index, size_t pl
 typedef void Command(Words *w);
 
 Command on_header, on_walk, on_parse, on_parseids, on_next, on_create, on_createby, on_update, on_updateby, on_findin, on_findinby, on_maxindex, on_maxindexby,
-    on_find, on_findids, on_findby, on_view, on_marker, on_kind, on_count, on_secwalk, on_secparse, on_secfind, on_seccreate, on_sectpi, on_declare;
+    on_find, on_findids, on_findby, on_view, on_marker, on_kind, on_count, on_secwalk, on_secparse, on_seccount, on_secfind, on_seccreate, on_sectpi, on_declare;
 Command on_type, on_id, on_itemtype, on_itemid, on_wtype, on_name, on_element, on_welement, on_idelement, on_idat, on_membername;
 Command on_prim, on_word, on_opttype, on_optid, on_cross, on_string, on_padding, on_unsigned, on_signed, on_wunsigned, on_wsigned;
 Command on_writeheader, on_write, on_rewrite, on_rewriteid;

@@ -150,6 +150,20 @@ void on_secparse(Words *w)
     on_section(w, SECTION);
 }
 
+void on_seccount(Words *w)
+{
+    Bytes b = next_bytes(w);
+    OUT(out, PDB_SECTION_COUNT_OUT);
+    if (bad(b))
+        return;
+    uint32_t number = pdb_section_count(b.at, b.length, out);
+    if (number == 0)
+        field("0 ", out[PDB_SECTION_COUNT_RECORDS]);
+    else
+        refusal(number, out);
+    put("\n");
+}
+
 void on_next(Words *w)
 {
     Bytes b = next_bytes(w);
