@@ -203,6 +203,14 @@ enum {
 };
 uint32_t pdb_id(const uint8_t *s, size_t s_len, uint64_t out[PDB_ID_OUT]);
 
+/* An entry of the two streams, as pdb_view takes it, by the reader of the stream that it names. PDB_PARSE_WHICH is 0 for a type and 1 for an id, and from
+ * PDB_PARSE_LEAF on stand the fields of pdb_type or of pdb_id: out + 1 is what PDB_TYPE_ and PDB_ID_ name. It is 2 for a type index below 4096, a primitive,
+ * whatever its bytes: out + 1 is what PDB_PRIMITIVE_ names. Refused are a stream that is too long (16, of either), bytes that pass the end (1), what
+ * the reader refuses, and a marker that is no primitive. */
+enum { PDB_PARSE_WHICH = 2, PDB_PARSE_LEAF, PDB_PARSE_OUT = 16 };
+uint32_t pdb_parse(const uint8_t *tpi, size_t tpi_len, const uint8_t *ipi, size_t ipi_len, uint32_t ids, uint32_t is_record, uint32_t index, size_t place,
+                   size_t length, uint64_t out[PDB_PARSE_OUT]);
+
 /* The list of a record at its first element: what pdb_step takes. With `ids` 0 that of a type record (0x1201, 0x1203, 0x1206), else that of an id record
  * (0x1603, 0x1604); 10 for any other leaf. */
 enum { PDB_LIST_LEAF = 2, PDB_LIST_AT, PDB_LIST_LEFT, PDB_LIST_PADDED, PDB_LIST_OUT };
@@ -268,6 +276,9 @@ uint32_t pdb_number(const uint8_t *s, size_t s_len, size_t at, uint64_t out[PDB_
 /* Is a type there, where an optional type field has this number, and an id, where an optional id field has it? A type is none at 0 and 0xffff, an id at 0. */
 uint32_t pdb_optional_type(uint32_t index);
 uint32_t pdb_optional_id(uint32_t index);
+
+/* Does the number of a type or of an id name one of another module? */
+uint32_t pdb_is_cross_module(uint32_t index);
 
 /* Attribute words, a field each. No word is refused: the result is 0. */
 
@@ -367,10 +378,9 @@ uint32_t pdb_section_index(const uint8_t *s, size_t s_len, uint32_t *table, size
 enum { PDB_SECTION_STREAM_BYTES = 2, PDB_SECTION_STREAM_OUT };
 uint32_t pdb_section_stream(const uint8_t *s, size_t s_len, uint8_t *buffer, size_t buffer_len, uint64_t out[PDB_SECTION_STREAM_OUT]);
 
-/* A record of a section, by the reader that takes its leaf: PDB_SECTION_READ_WHICH is 0 for a type, 1 for an id, and from PDB_SECTION_READ_LEAF on stand the
- * fields of pdb_type or of pdb_id: out + 1 is what PDB_TYPE_ and PDB_ID_ name. It is 2 for an index below 4096, a primitive, whose two numbers stand there. */
-enum { PDB_SECTION_READ_WHICH = 2, PDB_SECTION_READ_LEAF, PDB_SECTION_READ_OUT = 16 };
-uint32_t pdb_section_read(const uint8_t *s, size_t s_len, uint32_t index, size_t place, size_t length, uint64_t out[PDB_SECTION_READ_OUT]);
+/* A record of a section, by the reader that takes its leaf: PDB_PARSE_ names the places of `out`. Refused is what that reader refuses, and bytes that pass
+ * the section's end (1). */
+uint32_t pdb_section_read(const uint8_t *s, size_t s_len, uint32_t index, size_t place, size_t length, uint64_t out[PDB_PARSE_OUT]);
 
 /* pdb_list of a section's record, by the reader that takes its leaf: PDB_LIST_ names the places of `out`. */
 uint32_t pdb_section_list(const uint8_t *s, size_t s_len, uint64_t out[PDB_LIST_OUT]);
