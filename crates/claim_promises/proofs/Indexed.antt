@@ -1,28 +1,34 @@
 -- A stream indexed whole: its walk is one of R-11's, and it meets the premises of demand 3. Assumes nothing.
 use Prim.Native.Nat.{ℕ, zero, suc, _+_, _-_, _/_, _^_, _≤_, _<_}
 use mathlib.Core.Path.{_≡_, refl, sym, ap, subst, _∙_}
-use mathlib.Core.List.{List}
+use mathlib.Core.List.{List, [], _∷_}
 use native.Mathlib.Omega.{arith}
 use lib.ListN.{length, take}
 use lib.Dec.{ltb}
 use borrow.Author.Tests.{ltb-false}
 use Rattle.answer.specs.Answer.{Answer, answered}
+use Rattle.field.specs.Fields.{littleAt}
 use Rattle.field.specs.Indices.{indexIn}
 use Rattle.field.specs.declared.index.Stream.{Stream}
+use Rattle.field.specs.declared.index.Stream.the-variants.{Types}
 use Rattle.field_put.specs.Bytes.{put, Octets}
-use Rattle.stream_header.specs.Header.{headerOf}
+use Rattle.stream_header.specs.Header.{headerOf, fieldsOf}
+use Rattle.stream_header.specs.Examples.{streamE}
 use Rattle.stream_header.specs.declared.Header.{Header}
 use Rattle.stream_item.specs.Iterator.{iterOf, yielded, nextOf}
 use Rattle.stream_item.specs.declared.iter.ItemIter.{ItemIter}
 use Rattle.stream_item.proofs.NextLaws.{Yields, yields, passed}
-use Rattle.stream_finder.specs.Finder.{State, state, runOf, holding, begunIn, updateOf, after, findOf}
+use Rattle.stream_item.proofs.Examples.{cursor}
+use Rattle.stream_finder.specs.Finder.{State, state, runOf, begunIn, begunBy, createBy, updateOf, after}
 use Rattle.stream_finder.specs.declared.ItemFinder.{ItemFinder}
 use Rattle.stream_finder.specs.Demand.{Premises, looked, Demand3By, Demand3Every, NotIndexedBy, NotIndexedEvery}
 use Rattle.stream_finder.specs.Shared.{Roamed, begun, called, Updated, untouched, by, Serves, SharedBy, Shared}
 use Rattle.stream_finder.specs.Runs.{onward, startIn}
 use Rattle.stream_finder.proofs.DemandProof.{created-in, fresh-iter, demand3-every, not-indexed-every}
 use Rattle.stream_finder.proofs.SharedProof.{shared}
-use Rattle.stream_index.specs.Walk.{Turns, none, more, WholeBy, IndexesBy}
+use Rattle.stream_finder.proofs.Examples.{finderTo}
+use Rattle.stream_index.specs.Walk.{turnOf, Turns, none, more, WholeBy, IndexesBy}
+use Rattle.stream_index.specs.declared.End.the-variants as end
 use Rattle.stream_index.specs.declared.Tour.{Tour}
 use Rattle.stream_index.specs.declared.IndexAnswer.the-variants as walk
 use Rattle.stream_index.proofs.WalkLaws.{Moves, turn-back}
@@ -103,3 +109,21 @@ module _ (shift : ℕ) (tag : Stream) (s t : List ℕ) (h : Header) (r : Tour) (
 pub streams-indexed : StreamsIndexed
 unfolding StreamsIndexed
 streams-indexed shift tag s t h r t′ e w = indexed shift tag s t h r t′ e w
+
+-- ---- stream E meets the premise: two records are walked, and the finder holds one place
+abbrev tourE : Tour
+tourE = record { finder = finderTo 4098 1; cursor = cursor 78 4098; end = end.Done }
+
+walkedE : IndexesBy 3 Types streamE (0 ∷ []) (walk.Answered tourE) (56 ∷ [])
+unfolding createBy begunBy headerOf iterOf turnOf nextOf updateOf littleAt
+walkedE = record {
+  fresh = state (finderTo 4098 1) (56 ∷ []);
+  created = refl;
+  first = cursor 56 4096;
+  begun = refl;
+  walks = record { turns = 2; led = more (more none refl) refl; ended = refl };
+}
+
+pub indexedE : Indexed 3 Types streamE (fieldsOf streamE) (0 ∷ []) tourE (56 ∷ [])
+unfolding headerOf littleAt
+indexedE = indexed 3 Types streamE (0 ∷ []) (fieldsOf streamE) tourE (56 ∷ []) refl walkedE

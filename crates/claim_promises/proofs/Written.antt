@@ -1,27 +1,46 @@
--- The premises of `StreamWalks` are met: a header, the two records of document 01's stream E and a field list, written, walk to done. Assumes nothing.
+-- The premises of `StreamWalks` are met: a header, the two records of document 01's stream E and a field list, written, walk to done. So are those of
+-- `OneBuffer`, by the same written into one buffer, and those of `fields-again`, by the members that the list reads as. Assumes nothing.
 use Prim.Native.Nat.{ℕ}
 use mathlib.Core.Path.{_≡_, refl}
 use mathlib.Core.List.{List, [], _∷_, _++_, map}
 use mathlib.Core.Option.{some}
 use native.Mathlib.Omega.{arith}
+use mathlib.Core.Bool.{false}
+use lib.ListN.{replicate, take}
 use lib.IntN.{pos, negsuc}
 use Rattle.answer.specs.Answer.{answered}
-use Rattle.answer.specs.Tables.{find}
+use Rattle.answer.specs.Tables.{find, among}
 use Rattle.field.specs.Bytes.{bytes}
-use Rattle.field_number.specs.Forms.{shortest, carried}
+use Rattle.field.specs.Fields.{littleAt, fixedAt, signedAt}
+use Rattle.field_put.specs.Bytes.{put}
+use Rattle.field_text.specs.Texts.{toZero, stringAt, pad, paddingAfter}
+use Rattle.field_number.specs.Numbers.{prefixes, numericAt}
+use Rattle.field_number.specs.declared.Number.the-variants as a-number
+use Rattle.field_number.specs.Forms.{shortest, carried, formOf, numeralBy}
 use Rattle.word_attributes.specs.Pointers.{kindOf, modeOf, toMemberOf, pointerKinds, pointerModes}
 use Rattle.stream_header.specs.declared.Header.{Header}
 use Rattle.stream_item.specs.Iterator.{iterOf}
 use Rattle.field.specs.declared.index.Stream.the-variants.{Types}
-use Rattle.record_layout.specs.Fields.{number, numeral, absent, many}
-use Rattle.record_layout.specs.Layouts.{typeLeaves, memberLeaves}
+use Rattle.record_layout.specs.Fields.{number, numeral, absent, many, readFieldBy, readFieldsBy}
+use Rattle.record_layout.specs.Layouts.{typeLeaves, memberLeaves, readLeaf, readRecord}
+use Rattle.record_member.specs.Said.{memberValues}
+use Rattle.record_member.specs.declared.Member.{Member}
+use Rattle.record_member.specs.declared.Member.the-variants as a
+use Rattle.record_list.specs.Lists.{memberElement, startTypes, startOf, memberStep, nextMember, stepOf, elementBy, elementOf}
 use Rattle.write_layout.specs.Runs.{noZero, pads, zeros}
-use Rattle.write_layout.specs.Fields.{ToWrite, fixedBytes, numericBytes, stringBytes, writeField, writeFields}
+use Rattle.write_layout.specs.Buffer.{Written, lay}
+use Rattle.write_layout.specs.Fields.{ToWrite, Encoded, fixedBytes, numericBytes, stringBytes, writeField, writeFields}
 use Rattle.write_layout.specs.Records.{writeLeaf, missing, filled, recordBytes, writeRecord}
 use Rattle.write_layout.specs.Lists.{filledMember, filledEach, memberBytes, ends, membersBytes, fieldListBytes}
 use Rattle.write_header.specs.Headers.{headerFields, headerBytes, Fits32, Narrow}
 use Rattle.write_header.specs.Streams.{WrittenAs, by-table, field-list, AllWritten, inOrder, payloadOf, start, Walks}
 use Rattle.write_header.proofs.StreamWalks.{stream-walks}
+use Rattle.write_row.specs.Rows.{memberRows, memberRow}
+use Rattle.write_list.specs.ListsBack.{ElementsAre, payloadIn}
+use Rattle.write_list.proofs.ListBack.{lists-read-back}
+use Rattle.claim_promises.specs.OneBuffer as buffer
+use Rattle.claim_promises.specs.OneBuffer.{laidAll, AllWriting, OneBuffer}
+use Rattle.claim_promises.proofs.OneBuffer.{one-buffer}
 
 -- E's header, maximum and gprec_size fitted to the three records, and a negative offset
 abbrev headerE : Header
@@ -93,12 +112,60 @@ pointer-written : WrittenAs pointerE
 unfolding writeRecord recordBytes writeLeaf filled missing pads fixedBytes writeFields writeField find typeLeaves bytes kindOf modeOf toMemberOf pointerKinds pointerModes
 pointer-written = by-table typeLeaves (number 0x1002 ∷ number 4096 ∷ number 65548 ∷ absent ∷ []) refl
 
-fields-written : WrittenAs fieldsE
+fields-are : fieldListBytes elementsE ≡ answered fieldsE
 unfolding fieldListBytes recordBytes membersBytes memberBytes filledEach filledMember ends writeLeaf filled missing pads fixedBytes writeFields writeField find memberLeaves bytes numericBytes shortest carried stringBytes noZero
-fields-written = field-list elementsE refl
+fields-are = refl
+
+fields-written : WrittenAs fieldsE
+fields-written = field-list elementsE fields-are
 
 -- its three records are its items, and then it is done
 pub written-walks : (iterOf Types (headerFields headerE ++ inOrder recordsE) ≡ answered (start Types headerE))
     × Walks (headerFields headerE ++ inOrder recordsE) (start Types headerE) (map payloadOf recordsE)
 unfolding AllWritten headerFields inOrder bytes zeros
 written-walks = stream-walks Types headerE (headerFields headerE) recordsE accepted narrow (modifier-written, (pointer-written, (fields-written, tt))) (omega arith) (omega arith)
+
+-- into a buffer of 110 bytes, one after the other: 104 are the stream, and 6 are as they were
+abbrev writesE : List Encoded
+writesE =
+    writeRecord typeLeaves (number 0x1001 ∷ number 116 ∷ number 1 ∷ [])
+    ∷ writeRecord typeLeaves (number 0x1002 ∷ number 4096 ∷ number 65548 ∷ absent ∷ [])
+    ∷ fieldListBytes elementsE
+    ∷ []
+
+abbrev bufferE : Written
+bufferE = record { buffer = (headerFields headerE ++ inOrder recordsE) ++ replicate 6 7; next = 104 }
+
+laidE : laidAll (headerBytes headerE ∷ writesE) (replicate 110 7) 0 ≡ answered bufferE
+unfolding laidAll lay put headerBytes headerFields inOrder zeros fieldListBytes writeRecord recordBytes membersBytes memberBytes filledEach filledMember ends writeLeaf filled missing pads fixedBytes writeFields writeField find typeLeaves memberLeaves bytes numericBytes shortest carried stringBytes noZero kindOf modeOf toMemberOf pointerKinds pointerModes
+laidE = refl
+
+pub one-buffer-of : buffer.InOneBuffer headerE writesE (replicate 110 7) bufferE
+unfolding OneBuffer
+one-buffer-of = one-buffer headerE writesE (replicate 110 7) bufferE laidE
+
+all-writing : AllWriting writesE
+unfolding AllWriting
+all-writing = (buffer.by-table typeLeaves _, (buffer.by-table typeLeaves _, (buffer.field-list elementsE, tt)))
+
+pub buffer-walks : (iterOf Types (take 104 (bufferE .buffer)) ≡ answered (start Types headerE))
+    × Walks (take 104 (bufferE .buffer)) (start Types headerE) (map payloadOf (one-buffer-of .records))
+buffer-walks = one-buffer-of .walks Types narrow all-writing (omega arith) (omega arith)
+
+-- its field list reads as two members, and these, made rows, are written as the same bytes
+abbrev membersE : List Member
+membersE =
+    a.Enumerate (record {
+      attributes = record { 0 = 3 };
+      value = record { value = a-number.Negative 0; width = 3; shorter = false };
+      name = record { place = 9; length = 1 };
+    })
+    ∷ a.Continuation (record { 0 = 4096 })
+    ∷ []
+
+readE : ElementsAre (λ m. memberElement (memberValues m)) (elementOf Types (payloadIn fieldsE)) membersE
+unfolding ElementsAre elementOf startOf startTypes elementBy stepOf nextMember memberStep readRecord readLeaf find memberLeaves readFieldsBy readFieldBy fixedAt littleAt numeralBy numericAt prefixes signedAt formOf shortest stringAt toZero paddingAfter pad among bytes
+readE = (refl, (refl, refl))
+
+pub again-E : fieldListBytes (memberRows (payloadIn fieldsE) (map memberRow membersE)) ≡ answered fieldsE
+again-E = lists-read-back .fields-again elementsE fieldsE membersE fields-are readE
