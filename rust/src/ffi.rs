@@ -1,11 +1,167 @@
-//! The five functions of libpane.a, each behind a safe function: a reference is a pointer that is non-null and aligned, a slice's count is its length,
-//! and what is lent by `&mut` overlaps nothing and has no other writer. That is all that c/pdb.h asks of a caller.
+//! The functions of libpdb_types.a, each behind a safe function. This is the one file with `unsafe`.
+//!
+//! c/pdb.h asks four things of a caller, and nothing else of bytes or numbers. (1) Pointers are non-null and aligned: a reference's and a slice's are, also of
+//! an empty slice. (2) They point to as many elements as their count says: a slice's own length, or an array's of the size that the header names, which a test
+//! below holds to that header. (3) None overlap but what is only read, and (4) nothing else writes them meanwhile: what is written is lent by `&mut`, or is a
+//! local of these functions. So every block below rests on the types of its arguments alone.
+//!
+//! In turn every call writes the whole of `out`, whether it answers or refuses. That is why `out` need not be filled before it.
+//!
+//! Some of these functions are called by tests alone, which hold this crate's own lines to the library.
+#![allow(unsafe_code)]
+#![cfg_attr(not(test), allow(dead_code))]
 use crate::error::{Error, Result};
+use std::mem::MaybeUninit;
+
+/// Places of rows, as the header's enumerations count them.
+pub(crate) mod row {
+    macro_rules! places {
+        ($($name:ident = $number:literal,)*) => {
+            $(pub(crate) const $name: usize = $number;)*
+
+            /// The names and numbers above, for the test that holds them to the header.
+            #[cfg(test)]
+            pub(super) const ALL: &[(&str, usize)] = &[$((stringify!($name), $number)),*];
+        };
+    }
+
+    places! {
+        HEADER_VERSION = 2,
+        HEADER_SIZE = 3,
+        HEADER_MINIMUM = 4,
+        HEADER_MAXIMUM = 5,
+        HEADER_GPREC_SIZE = 6,
+        HEADER_HASH_STREAM = 7,
+        HEADER_HASH_PAD_STREAM = 8,
+        HEADER_HASH_KEY_SIZE = 9,
+        HEADER_HASH_BUCKET_SIZE = 10,
+        HEADER_HASH_VALUES_OFFSET = 11,
+        HEADER_TI_OFF_OFFSET = 13,
+        HEADER_HASH_ADJ_OFFSET = 15,
+        HEADER_OUT = 18,
+        NEXT_IS_ITEM = 2,
+        NEXT_INDEX = 3,
+        NEXT_PLACE = 4,
+        NEXT_LENGTH = 5,
+        NEXT_AT = 6,
+        NEXT_NEXT_INDEX = 7,
+        NEXT_OUT = 8,
+        UPDATE_HELD = 2,
+        UPDATE_OUT = 3,
+        FIND_IS_RECORD = 2,
+        FIND_PLACE = 3,
+        FIND_LENGTH = 4,
+        FIND_PASSED = 5,
+        FIND_OUT = 6,
+        PRIMITIVE_KIND = 2,
+        PRIMITIVE_INDIRECTION = 3,
+        PRIMITIVE_OUT = 4,
+        CREATE_MINIMUM = 2,
+        CREATE_MAXIMUM = 3,
+        CREATE_HELD = 4,
+        CREATE_OUT = 6,
+        INDEX_MINIMUM = 2,
+        INDEX_MAXIMUM = 3,
+        INDEX_HELD = 4,
+        INDEX_END = 8,
+        INDEX_END_DETAIL_0 = 9,
+        INDEX_END_DETAIL_1 = 10,
+        INDEX_OUT = 11,
+        SAVE_BYTES = 2,
+        SAVE_OUT = 3,
+        LOAD_MINIMUM = 2,
+        LOAD_MAXIMUM = 3,
+        LOAD_HELD = 4,
+        LOAD_SHIFT = 5,
+        LOAD_OUT = 6,
+        TYPE_LEAF = 2,
+        TYPE_COUNT = 3,
+        TYPE_WORD = 4,
+        TYPE_TYPE = 5,
+        TYPE_LIST = 6,
+        TYPE_OTHER = 7,
+        TYPE_LAST = 8,
+        TYPE_SIZE = 9,
+        TYPE_FORM = 10,
+        TYPE_NAME = 11,
+        TYPE_NAME_LENGTH = 12,
+        TYPE_UNIQUE = 13,
+        TYPE_UNIQUE_LENGTH = 14,
+        TYPE_OUT = 15,
+        ID_LEAF = 2,
+        ID_TYPE = 4,
+        ID_PARENT = 5,
+        ID_ID = 6,
+        ID_FILE = 7,
+        ID_LINE = 8,
+        ID_MODULE = 9,
+        ID_NAME = 10,
+        ID_NAME_LENGTH = 11,
+        ID_OUT = 12,
+        PARSE_WHICH = 2,
+        PARSE_LEAF = 3,
+        PARSE_OUT = 16,
+        LIST_AT = 3,
+        LIST_LEFT = 4,
+        LIST_PADDED = 5,
+        LIST_OUT = 6,
+        STEP_AT = 2,
+        STEP_LEFT = 3,
+        STEP_PADDED = 4,
+        STEP_LEAF = 5,
+        STEP_WORD = 6,
+        STEP_TYPE = 7,
+        STEP_OTHER = 8,
+        STEP_VALUE = 9,
+        STEP_MORE = 10,
+        STEP_FORM = 11,
+        STEP_MORE_FORM = 12,
+        STEP_NAME = 13,
+        STEP_NAME_LENGTH = 14,
+        STEP_OUT = 15,
+        PROPERTIES_OUT = 16,
+        FIELD_OUT = 8,
+        FUNCTION_OUT = 6,
+        POINTER_KIND_REFUSED = 2,
+        POINTER_KIND = 3,
+        POINTER_MODE_REFUSED = 4,
+        POINTER_MODE = 5,
+        POINTER_SIZE_REFUSED = 6,
+        POINTER_SIZE = 7,
+        POINTER_OUT = 16,
+        DECLARE_BYTES = 2,
+        DECLARE_OUT = 3,
+        SECTION_START_AT = 2,
+        SECTION_START_INDEX = 3,
+        SECTION_START_OUT = 4,
+        SECTION_COUNT_RECORDS = 2,
+        SECTION_COUNT_OUT = 3,
+        SECTION_STREAM_BYTES = 2,
+        SECTION_STREAM_OUT = 3,
+        FIT_YES = 2,
+        FIT_RECORD = 3,
+        FIT_RULE = 4,
+        FIT_OUT = 5,
+        DROP_BYTES = 2,
+        DROP_OUT = 3,
+        REPORT_TAKEN = 2,
+        REPORT_ROWS = 10,
+        REPORT_OUT = 11,
+        REPORT_TABLE = 192,
+        CELLS = 27,
+        CELLS_LEAF = 2,
+        CELLS_OUT = 3,
+        WRITE_NEXT = 2,
+        WRITE_OUT = 3,
+        ROW = 8,
+    }
+}
+use row::*;
 
 extern "C" {
-    fn pdb_header(s: *const u8, s_len: usize, out: *mut [u64; 18]) -> u32;
-    fn pdb_next(s: *const u8, s_len: usize, at: usize, index: u32, out: *mut [u64; 8]) -> u32;
-    fn pdb_update(table: *mut u32, table_len: usize, minimum: u32, maximum: u32, held: usize, shift: u32, at: usize, index: u32, out: *mut [u64; 3]) -> u32;
+    fn pdb_header(s: *const u8, s_len: usize, out: *mut u64) -> u32;
+    fn pdb_next(s: *const u8, s_len: usize, at: usize, index: u32, out: *mut u64) -> u32;
+    fn pdb_update(table: *mut u32, table_len: usize, minimum: u32, maximum: u32, held: usize, shift: u32, at: usize, index: u32, out: *mut u64) -> u32;
     fn pdb_find(
         s: *const u8,
         s_len: usize,
@@ -16,13 +172,111 @@ extern "C" {
         held: usize,
         shift: u32,
         index: u32,
-        out: *mut [u64; 6],
+        out: *mut u64,
     ) -> u32;
-    fn pdb_primitive(index: u32, out: *mut [u64; 4]) -> u32;
+    fn pdb_primitive(index: u32, out: *mut u64) -> u32;
+    fn pdb_create(s: *const u8, s_len: usize, table: *mut u32, table_len: usize, shift: u32, out: *mut u64) -> u32;
+    fn pdb_index(s: *const u8, s_len: usize, table: *mut u32, table_len: usize, shift: u32, out: *mut u64) -> u32;
+    fn pdb_max_index(minimum: u32, maximum: u32, held: usize, shift: u32) -> u32;
+    fn pdb_save(
+        s: *const u8,
+        s_len: usize,
+        table: *const u32,
+        table_len: usize,
+        minimum: u32,
+        maximum: u32,
+        held: usize,
+        shift: u32,
+        buffer: *mut u8,
+        buffer_len: usize,
+        out: *mut u64,
+    ) -> u32;
+    fn pdb_load(s: *const u8, s_len: usize, file: *const u8, file_len: usize, table: *mut u32, table_len: usize, out: *mut u64) -> u32;
+    fn pdb_type(s: *const u8, s_len: usize, out: *mut u64) -> u32;
+    fn pdb_id(s: *const u8, s_len: usize, out: *mut u64) -> u32;
+    fn pdb_list(s: *const u8, s_len: usize, ids: u32, out: *mut u64) -> u32;
+    fn pdb_step(s: *const u8, s_len: usize, leaf: u16, at: usize, left: u32, padded: u32, out: *mut u64) -> u32;
+    fn pdb_is_cross_module(index: u32) -> u32;
+    fn pdb_properties(word: u16, out: *mut u64) -> u32;
+    fn pdb_field_attributes(word: u16, out: *mut u64) -> u32;
+    fn pdb_function_attributes(word: u16, out: *mut u64) -> u32;
+    fn pdb_pointer_attributes(word: u32, out: *mut u64) -> u32;
+    fn pdb_declare(
+        s: *const u8,
+        s_len: usize,
+        table: *const u32,
+        table_len: usize,
+        minimum: u32,
+        maximum: u32,
+        held: usize,
+        shift: u32,
+        index: u32,
+        buffer: *mut u8,
+        buffer_len: usize,
+        out: *mut u64,
+    ) -> u32;
+    fn pdb_section_start(s: *const u8, s_len: usize, out: *mut u64) -> u32;
+    fn pdb_section_count(s: *const u8, s_len: usize, out: *mut u64) -> u32;
+    fn pdb_section_create(s: *const u8, s_len: usize, table: *mut u32, table_len: usize, shift: u32, out: *mut u64) -> u32;
+    fn pdb_section_index(s: *const u8, s_len: usize, table: *mut u32, table_len: usize, shift: u32, out: *mut u64) -> u32;
+    fn pdb_section_stream(s: *const u8, s_len: usize, buffer: *mut u8, buffer_len: usize, out: *mut u64) -> u32;
+    fn pdb_section_read(s: *const u8, s_len: usize, index: u32, place: usize, length: usize, out: *mut u64) -> u32;
+    fn pdb_fit(s: *const u8, s_len: usize, out: *mut u64) -> u32;
+    fn pdb_drop(
+        s: *const u8,
+        s_len: usize,
+        roots: *const u32,
+        roots_len: usize,
+        table: *mut u32,
+        table_len: usize,
+        buffer: *mut u8,
+        buffer_len: usize,
+        out: *mut u64,
+    ) -> u32;
+    fn pdb_report(
+        s: *const u8,
+        s_len: usize,
+        taken: u64,
+        refused: u64,
+        headers: u64,
+        records: u64,
+        bytes: u64,
+        largest: u64,
+        stream: u64,
+        index: u32,
+        rows: u64,
+        table: *mut u64,
+        out: *mut u64,
+    ) -> u32;
+    fn pdb_layout(which: u32, leaf: u16) -> u64;
+    fn pdb_cells(s: *const u8, s_len: usize, ids: u32, cells: *mut u64, out: *mut u64) -> u32;
+    fn pdb_write_type(text: *const u8, text_len: usize, leaf: u16, cells: *const u64, buffer: *mut u8, buffer_len: usize, at: usize, out: *mut u64) -> u32;
+    fn pdb_write_id(text: *const u8, text_len: usize, leaf: u16, cells: *const u64, buffer: *mut u8, buffer_len: usize, at: usize, out: *mut u64) -> u32;
+    fn pdb_write_fields(
+        text: *const u8,
+        text_len: usize,
+        rows: *const [u64; ROW],
+        rows_len: usize,
+        buffer: *mut u8,
+        buffer_len: usize,
+        at: usize,
+        out: *mut u64,
+    ) -> u32;
+    fn pdb_write_methods(
+        text: *const u8,
+        text_len: usize,
+        rows: *const [u64; ROW],
+        rows_len: usize,
+        buffer: *mut u8,
+        buffer_len: usize,
+        at: usize,
+        out: *mut u64,
+    ) -> u32;
+    fn pdb_write_header(fields: *const u32, hash_stream: u16, hash_pad_stream: u16, buffer: *mut u8, buffer_len: usize, at: usize, out: *mut u64) -> u32;
 }
 
-/// A finder's numbers, which the caller keeps beside its table.
-#[derive(Debug, Clone, Copy)]
+/// A finder's numbers, which stand beside its table.
+#[derive(Debug, Clone, Copy, PartialEq, Eq)]
 pub(crate) struct Numbers {
     pub minimum: u32,
     pub maximum: u32,
@@ -30,62 +284,439 @@ pub(crate) struct Numbers {
     pub shift: u32,
 }
 
-/// The fields behind `out`, or the refusal.
-fn answered<const N: usize>(number: u32, out: [u64; N]) -> Result<[u64; N]> {
+/// Makes a call and gives its row to `then`, in place: a row is as long as fifteen numbers, and is read where it was written.
+#[inline(always)]
+fn ask<const N: usize, T>(call: impl FnOnce(*mut u64) -> u32, then: impl FnOnce(&[u64; N]) -> T) -> Result<T> {
+    let mut out = MaybeUninit::<[u64; N]>::uninit();
+    let number = call(out.as_mut_ptr().cast());
+    // SAFETY: N is the length that the header gives this call's `out`, and every call writes the whole of it.
+    let out = unsafe { out.assume_init_ref() };
     match number {
-        0 => Ok(out),
-        n => Err(Error::named(n, out[0] as u32, out[1] as u32)),
+        0 => Ok(then(out)),
+        n => Err(Error::named(n, out[0], out[1])),
     }
 }
 
 #[inline]
-pub(crate) fn header(s: &[u8]) -> Result<[u64; 18]> {
-    let mut out = [0; 18];
-    let number = unsafe { pdb_header(s.as_ptr(), s.len(), &mut out) };
-    answered(number, out)
+pub(crate) fn header<T>(s: &[u8], then: impl FnOnce(&[u64; HEADER_OUT]) -> T) -> Result<T> {
+    // SAFETY: a slice with its own length, and a row of its own; see the top of this file.
+    ask(|out| unsafe { pdb_header(s.as_ptr(), s.len(), out) }, then)
 }
 
 #[inline]
-pub(crate) fn next(s: &[u8], at: usize, index: u32) -> Result<[u64; 8]> {
-    let mut out = [0; 8];
-    let number = unsafe { pdb_next(s.as_ptr(), s.len(), at, index, &mut out) };
-    answered(number, out)
+pub(crate) fn next<T>(s: &[u8], at: usize, index: u32, then: impl FnOnce(&[u64; NEXT_OUT]) -> T) -> Result<T> {
+    // SAFETY: a slice with its own length, and a row of its own; see the top of this file.
+    ask(|out| unsafe { pdb_next(s.as_ptr(), s.len(), at, index, out) }, then)
 }
 
 #[inline]
-pub(crate) fn update(table: &mut [u32], f: Numbers, at: usize, index: u32) -> Result<[u64; 3]> {
-    let mut out = [0; 3];
-    let number = unsafe { pdb_update(table.as_mut_ptr(), table.len(), f.minimum, f.maximum, f.held, f.shift, at, index, &mut out) };
-    answered(number, out)
+pub(crate) fn update<T>(table: &mut [u32], f: Numbers, at: usize, index: u32, then: impl FnOnce(&[u64; UPDATE_OUT]) -> T) -> Result<T> {
+    // SAFETY: a slice with its own length, lent by `&mut`, and a row of its own; see the top of this file.
+    ask(
+        |out| unsafe { pdb_update(table.as_mut_ptr(), table.len(), f.minimum, f.maximum, f.held, f.shift, at, index, out) },
+        then,
+    )
 }
 
 #[inline]
-pub(crate) fn find(s: &[u8], table: &[u32], f: Numbers, index: u32) -> Result<[u64; 6]> {
-    let mut out = [0; 6];
-    let number = unsafe {
-        pdb_find(
-            s.as_ptr(),
-            s.len(),
-            table.as_ptr(),
-            table.len(),
-            f.minimum,
-            f.maximum,
-            f.held,
-            f.shift,
-            index,
-            &mut out,
-        )
-    };
-    // 1 from `find` has the links passed: told apart here, since its detail may be 0
-    if number == 1 {
-        return Err(Error::EndedAfter(out[0] as u32));
+pub(crate) fn find<T>(s: &[u8], table: &[u32], f: Numbers, index: u32, then: impl FnOnce(&[u64; FIND_OUT]) -> T) -> Result<T> {
+    let mut passed = 0;
+    let answer = ask(
+        |out| {
+            // SAFETY: slices with their own lengths, only read, and a row of its own; see the top of this file.
+            let number = unsafe {
+                pdb_find(
+                    s.as_ptr(),
+                    s.len(),
+                    table.as_ptr(),
+                    table.len(),
+                    f.minimum,
+                    f.maximum,
+                    f.held,
+                    f.shift,
+                    index,
+                    out,
+                )
+            };
+            if number == 1 {
+                // SAFETY: the call has written all of the row, and its first number is the links passed.
+                passed = unsafe { out.read() };
+            }
+            number
+        },
+        then,
+    );
+    match answer {
+        // 1 from `find` has the links passed: told apart here, since of all other calls it has no detail
+        Err(Error::Ended) => Err(Error::EndedAfter(passed as u32)),
+        answer => answer,
     }
-    answered(number, out)
 }
 
 #[inline]
-pub(crate) fn primitive(index: u32) -> Result<[u64; 4]> {
-    let mut out = [0; 4];
-    let number = unsafe { pdb_primitive(index, &mut out) };
-    answered(number, out)
+pub(crate) fn primitive<T>(index: u32, then: impl FnOnce(&[u64; PRIMITIVE_OUT]) -> T) -> Result<T> {
+    // SAFETY: a row of its own; see the top of this file.
+    ask(|out| unsafe { pdb_primitive(index, out) }, then)
+}
+
+pub(crate) fn create(s: &[u8], table: &mut [u32], shift: u32) -> Result<[u64; CREATE_OUT]> {
+    // SAFETY: slices with their own lengths, the written one lent by `&mut`, and a row of its own; see the top of this file.
+    ask(
+        |out| unsafe { pdb_create(s.as_ptr(), s.len(), table.as_mut_ptr(), table.len(), shift, out) },
+        |o| *o,
+    )
+}
+
+pub(crate) fn index(s: &[u8], table: &mut [u32], shift: u32) -> Result<[u64; INDEX_OUT]> {
+    // SAFETY: slices with their own lengths, the written one lent by `&mut`, and a row of its own; see the top of this file.
+    ask(
+        |out| unsafe { pdb_index(s.as_ptr(), s.len(), table.as_mut_ptr(), table.len(), shift, out) },
+        |o| *o,
+    )
+}
+
+#[inline]
+pub(crate) fn max_index(f: Numbers) -> u32 {
+    // SAFETY: numbers alone, of which nothing is asked.
+    unsafe { pdb_max_index(f.minimum, f.maximum, f.held, f.shift) }
+}
+
+pub(crate) fn save(s: &[u8], table: &[u32], f: Numbers, buffer: &mut [u8]) -> Result<usize> {
+    // SAFETY: slices with their own lengths, the written one lent by `&mut`, and a row of its own; see the top of this file.
+    ask(
+        |out| unsafe {
+            pdb_save(
+                s.as_ptr(),
+                s.len(),
+                table.as_ptr(),
+                table.len(),
+                f.minimum,
+                f.maximum,
+                f.held,
+                f.shift,
+                buffer.as_mut_ptr(),
+                buffer.len(),
+                out,
+            )
+        },
+        |o: &[u64; SAVE_OUT]| o[SAVE_BYTES] as usize,
+    )
+}
+
+pub(crate) fn load(s: &[u8], file: &[u8], table: &mut [u32]) -> Result<Numbers> {
+    // SAFETY: slices with their own lengths, the written one lent by `&mut`, and a row of its own; see the top of this file.
+    ask(
+        |out| unsafe { pdb_load(s.as_ptr(), s.len(), file.as_ptr(), file.len(), table.as_mut_ptr(), table.len(), out) },
+        |o: &[u64; LOAD_OUT]| Numbers {
+            minimum: o[LOAD_MINIMUM] as u32,
+            maximum: o[LOAD_MAXIMUM] as u32,
+            held: o[LOAD_HELD] as usize,
+            shift: o[LOAD_SHIFT] as u32,
+        },
+    )
+}
+
+#[inline]
+pub(crate) fn type_<T>(s: &[u8], then: impl FnOnce(&[u64; TYPE_OUT]) -> T) -> Result<T> {
+    // SAFETY: a slice with its own length, and a row of its own; see the top of this file.
+    ask(|out| unsafe { pdb_type(s.as_ptr(), s.len(), out) }, then)
+}
+
+#[inline]
+pub(crate) fn id<T>(s: &[u8], then: impl FnOnce(&[u64; ID_OUT]) -> T) -> Result<T> {
+    // SAFETY: a slice with its own length, and a row of its own; see the top of this file.
+    ask(|out| unsafe { pdb_id(s.as_ptr(), s.len(), out) }, then)
+}
+
+#[inline]
+pub(crate) fn list<T>(s: &[u8], ids: bool, then: impl FnOnce(&[u64; LIST_OUT]) -> T) -> Result<T> {
+    // SAFETY: a slice with its own length, and a row of its own; see the top of this file.
+    ask(|out| unsafe { pdb_list(s.as_ptr(), s.len(), ids.into(), out) }, then)
+}
+
+/// Where a list's next element is: what `pdb_list` and `pdb_step` give, and `pdb_step` takes.
+#[derive(Debug, Clone, Copy, PartialEq, Eq)]
+pub(crate) struct Cursor {
+    pub at: usize,
+    pub left: u32,
+    pub padded: u32,
+}
+
+#[inline]
+pub(crate) fn step<T>(s: &[u8], leaf: u16, cursor: Cursor, then: impl FnOnce(&[u64; STEP_OUT]) -> T) -> Result<T> {
+    // SAFETY: a slice with its own length, and a row of its own; see the top of this file.
+    ask(
+        |out| unsafe { pdb_step(s.as_ptr(), s.len(), leaf, cursor.at, cursor.left, cursor.padded, out) },
+        then,
+    )
+}
+
+pub(crate) fn is_cross_module(index: u32) -> bool {
+    // SAFETY: a number alone, of which nothing is asked.
+    unsafe { pdb_is_cross_module(index) != 0 }
+}
+
+/// A row of a word: no word is refused, so that the row is given as it stands.
+#[inline(always)]
+fn word<const N: usize>(call: impl FnOnce(*mut u64) -> u32) -> [u64; N] {
+    ask(call, |o: &[u64; N]| *o).unwrap_or([0; N])
+}
+
+pub(crate) fn properties(n: u16) -> [u64; PROPERTIES_OUT] {
+    // SAFETY: a row of its own; see the top of this file.
+    word(|out| unsafe { pdb_properties(n, out) })
+}
+
+pub(crate) fn field_attributes(n: u16) -> [u64; FIELD_OUT] {
+    // SAFETY: a row of its own; see the top of this file.
+    word(|out| unsafe { pdb_field_attributes(n, out) })
+}
+
+pub(crate) fn function_attributes(n: u16) -> [u64; FUNCTION_OUT] {
+    // SAFETY: a row of its own; see the top of this file.
+    word(|out| unsafe { pdb_function_attributes(n, out) })
+}
+
+pub(crate) fn pointer_attributes(n: u32) -> [u64; POINTER_OUT] {
+    // SAFETY: a row of its own; see the top of this file.
+    word(|out| unsafe { pdb_pointer_attributes(n, out) })
+}
+
+pub(crate) fn declare(s: &[u8], table: &[u32], f: Numbers, index: u32, buffer: &mut [u8]) -> Result<usize> {
+    // SAFETY: slices with their own lengths, the written one lent by `&mut`, and a row of its own; see the top of this file.
+    ask(
+        |out| unsafe {
+            pdb_declare(
+                s.as_ptr(),
+                s.len(),
+                table.as_ptr(),
+                table.len(),
+                f.minimum,
+                f.maximum,
+                f.held,
+                f.shift,
+                index,
+                buffer.as_mut_ptr(),
+                buffer.len(),
+                out,
+            )
+        },
+        |o: &[u64; DECLARE_OUT]| o[DECLARE_BYTES] as usize,
+    )
+}
+
+pub(crate) fn section_start(s: &[u8]) -> Result<(usize, u32)> {
+    // SAFETY: a slice with its own length, and a row of its own; see the top of this file.
+    ask(
+        |out| unsafe { pdb_section_start(s.as_ptr(), s.len(), out) },
+        |o: &[u64; SECTION_START_OUT]| (o[SECTION_START_AT] as usize, o[SECTION_START_INDEX] as u32),
+    )
+}
+
+pub(crate) fn section_count(s: &[u8]) -> Result<u64> {
+    // SAFETY: a slice with its own length, and a row of its own; see the top of this file.
+    ask(
+        |out| unsafe { pdb_section_count(s.as_ptr(), s.len(), out) },
+        |o: &[u64; SECTION_COUNT_OUT]| o[SECTION_COUNT_RECORDS],
+    )
+}
+
+pub(crate) fn section_create(s: &[u8], table: &mut [u32], shift: u32) -> Result<[u64; CREATE_OUT]> {
+    // SAFETY: slices with their own lengths, the written one lent by `&mut`, and a row of its own; see the top of this file.
+    ask(
+        |out| unsafe { pdb_section_create(s.as_ptr(), s.len(), table.as_mut_ptr(), table.len(), shift, out) },
+        |o| *o,
+    )
+}
+
+pub(crate) fn section_index(s: &[u8], table: &mut [u32], shift: u32) -> Result<[u64; INDEX_OUT]> {
+    // SAFETY: slices with their own lengths, the written one lent by `&mut`, and a row of its own; see the top of this file.
+    ask(
+        |out| unsafe { pdb_section_index(s.as_ptr(), s.len(), table.as_mut_ptr(), table.len(), shift, out) },
+        |o| *o,
+    )
+}
+
+pub(crate) fn section_stream(s: &[u8], buffer: &mut [u8]) -> Result<usize> {
+    // SAFETY: slices with their own lengths, the written one lent by `&mut`, and a row of its own; see the top of this file.
+    ask(
+        |out| unsafe { pdb_section_stream(s.as_ptr(), s.len(), buffer.as_mut_ptr(), buffer.len(), out) },
+        |o: &[u64; SECTION_STREAM_OUT]| o[SECTION_STREAM_BYTES] as usize,
+    )
+}
+
+#[inline]
+pub(crate) fn section_read<T>(s: &[u8], index: u32, place: usize, length: usize, then: impl FnOnce(&[u64; PARSE_OUT]) -> T) -> Result<T> {
+    // SAFETY: a slice with its own length, and a row of its own; see the top of this file.
+    ask(|out| unsafe { pdb_section_read(s.as_ptr(), s.len(), index, place, length, out) }, then)
+}
+
+pub(crate) fn fit(s: &[u8]) -> Result<[u64; FIT_OUT]> {
+    // SAFETY: a slice with its own length, and a row of its own; see the top of this file.
+    ask(|out| unsafe { pdb_fit(s.as_ptr(), s.len(), out) }, |o| *o)
+}
+
+pub(crate) fn drop(s: &[u8], roots: &[u32], table: &mut [u32], buffer: &mut [u8]) -> Result<usize> {
+    // SAFETY: slices with their own lengths, the written ones lent by `&mut`, and a row of its own; see the top of this file.
+    ask(
+        |out| unsafe {
+            pdb_drop(
+                s.as_ptr(),
+                s.len(),
+                roots.as_ptr(),
+                roots.len(),
+                table.as_mut_ptr(),
+                table.len(),
+                buffer.as_mut_ptr(),
+                buffer.len(),
+                out,
+            )
+        },
+        |o: &[u64; DROP_OUT]| o[DROP_BYTES] as usize,
+    )
+}
+
+/// A report's numbers, as `pdb_report` has them behind `out[REPORT_TAKEN]`.
+pub(crate) type ReportNumbers = [u64; REPORT_OUT - REPORT_TAKEN];
+
+pub(crate) fn report(s: &[u8], n: &ReportNumbers, table: &mut [u64; REPORT_TABLE]) -> Result<ReportNumbers> {
+    // SAFETY: a slice with its own length, a table of the length that the header names, lent by `&mut`, and a row of its own; see the top of this file.
+    ask(
+        |out| unsafe {
+            pdb_report(
+                s.as_ptr(),
+                s.len(),
+                n[0],
+                n[1],
+                n[2],
+                n[3],
+                n[4],
+                n[5],
+                n[6],
+                n[7] as u32,
+                n[8],
+                table.as_mut_ptr(),
+                out,
+            )
+        },
+        |o: &[u64; REPORT_OUT]| std::array::from_fn(|k| o[REPORT_TAKEN + k]),
+    )
+}
+
+pub(crate) fn layout(which: u32, leaf: u16) -> u64 {
+    // SAFETY: numbers alone, of which nothing is asked.
+    unsafe { pdb_layout(which, leaf) }
+}
+
+pub(crate) fn cells(s: &[u8], ids: bool, cells: &mut [u64; CELLS]) -> Result<u16> {
+    // SAFETY: a slice with its own length, cells of the length that the header names, lent by `&mut`, and a row of its own; see the top of this file.
+    ask(
+        |out| unsafe { pdb_cells(s.as_ptr(), s.len(), ids.into(), cells.as_mut_ptr(), out) },
+        |o: &[u64; CELLS_OUT]| o[CELLS_LEAF] as u16,
+    )
+}
+
+/// The place behind what was written.
+#[inline]
+fn written(o: &[u64; WRITE_OUT]) -> usize {
+    o[WRITE_NEXT] as usize
+}
+
+pub(crate) fn write_record(text: &[u8], ids: bool, leaf: u16, cells: &[u64; CELLS], buffer: &mut [u8], at: usize) -> Result<usize> {
+    let write = if ids { pdb_write_id } else { pdb_write_type };
+    // SAFETY: slices with their own lengths, the written one lent by `&mut`, cells of the length that the header names, and a row of its own; see the top of
+    // this file. Both functions have the same duties.
+    ask(
+        |out| unsafe { write(text.as_ptr(), text.len(), leaf, cells.as_ptr(), buffer.as_mut_ptr(), buffer.len(), at, out) },
+        written,
+    )
+}
+
+pub(crate) fn write_rows(text: &[u8], methods: bool, rows: &[[u64; ROW]], buffer: &mut [u8], at: usize) -> Result<usize> {
+    let write = if methods { pdb_write_methods } else { pdb_write_fields };
+    // SAFETY: slices with their own lengths, the written one lent by `&mut`, and a row of its own; see the top of this file. Both functions have the same
+    // duties.
+    ask(
+        |out| unsafe { write(text.as_ptr(), text.len(), rows.as_ptr(), rows.len(), buffer.as_mut_ptr(), buffer.len(), at, out) },
+        written,
+    )
+}
+
+pub(crate) fn write_header(fields: &[u32; 13], hash_stream: u16, hash_pad_stream: u16, buffer: &mut [u8], at: usize) -> Result<usize> {
+    // SAFETY: a slice with its own length, lent by `&mut`, thirteen fields, and a row of its own; see the top of this file.
+    ask(
+        |out| unsafe { pdb_write_header(fields.as_ptr(), hash_stream, hash_pad_stream, buffer.as_mut_ptr(), buffer.len(), at, out) },
+        written,
+    )
+}
+
+#[cfg(test)]
+mod tests {
+    use std::collections::HashMap;
+
+    /// The constants of the header's enumerations, counted as C counts them.
+    fn constants() -> HashMap<String, usize> {
+        let header = include_str!("../../c/pdb.h");
+        let mut found = HashMap::new();
+        for part in header.split("enum {").skip(1) {
+            let (body, _) = part.split_once('}').expect("an end");
+            let mut next = 0;
+            for word in body.split(',').map(str::trim).filter(|word| !word.is_empty()) {
+                let (name, number) = match word.split_once('=') {
+                    Some((name, number)) => (name.trim(), number.trim().parse().expect(word)),
+                    None => (word, next),
+                };
+                found.insert(name.to_string(), number);
+                next = number + 1;
+            }
+        }
+        found
+    }
+
+    #[test]
+    fn places_are_the_headers() {
+        let constants = constants();
+        for (name, number) in super::row::ALL {
+            assert_eq!(constants.get(&format!("PDB_{name}")), Some(number), "{name}");
+        }
+    }
+
+    /// Each declaration of this file has as many arguments as the header's, and each function of the header is declared here or named as left out.
+    #[test]
+    fn functions_are_the_headers() {
+        let left_out = [
+            "pdb_view",
+            "pdb_kind",
+            "pdb_parse",
+            "pdb_save_short",
+            "pdb_load_short",
+            "pdb_string",
+            "pdb_padding",
+        ];
+        let more = ["pdb_size", "pdb_number", "pdb_optional_type", "pdb_optional_id", "pdb_section_list"];
+        let count = |text: &str, name: &str, start: &str| {
+            let (_, from) = text.split_once(&format!("{start}{name}("))?;
+            let (arguments, _) = from.split_once(')')?;
+            Some(arguments.split(',').filter(|argument| !argument.trim().is_empty()).count())
+        };
+        // the parentheses of an array's pointer would end a list of arguments too early
+        let header = &include_str!("../../c/pdb.h").replace("(*rows)", "*rows");
+        let here = include_str!("ffi.rs");
+        let mut functions = 0;
+        for line in header
+            .lines()
+            .filter(|line| line.starts_with("uint32_t pdb_") || line.starts_with("uint64_t pdb_"))
+        {
+            let name = line.split([' ', '(']).nth(1).expect("a name");
+            functions += 1;
+            let wanted = count(header, name, " ");
+            let got = count(here, name, "    fn ");
+            if left_out.contains(&name) || more.contains(&name) {
+                assert_eq!(got, None, "{name}");
+            } else {
+                assert_eq!(got, wanted, "{name}");
+            }
+        }
+        assert_eq!(functions, 48);
+    }
 }

@@ -1,5 +1,5 @@
 //! The samples of the repository, and small streams that are refused. What is wanted is worked out here from the bytes, a second time.
-use pane::{primitive, Error, Header, IdInformation, Indirection, Item, ItemIndex, ItemInformation, PrimitiveKind, TypeIndex, TypeInformation};
+use pdb_types::{primitive, Error, Header, IdInformation, Indirection, Item, ItemIndex, ItemInformation, PrimitiveKind, TypeIndex, TypeInformation};
 use std::path::PathBuf;
 
 fn sample(name: &str) -> Vec<u8> {
@@ -175,7 +175,7 @@ fn primitives() {
 #[test]
 fn errors_by_name_and_number() {
     let e: Box<dyn std::error::Error> = Box::new(Error::NotIndexed(0x1004, 0x1003));
-    assert_eq!(e.to_string(), "not indexed: index 0x1004, the highest indexed is 0x1003");
+    assert_eq!(e.to_string(), "refused 9, not indexed: 4100, 4099");
     assert_eq!(Error::EndedAfter(0).number(), 1);
     assert_eq!(Error::Shift.number(), 26);
 }
