@@ -156,6 +156,18 @@ impl Variant {
         }
     }
 
+    /// The number that its low bytes are, two's complement, at most 8 of them. Compilers write a negative enumerator in unsigned form too: 0xffffffff for -1 of an
+    /// `int`. Who knows that the enumeration is kept in a signed type asks by its size.
+    ///
+    /// ```
+    /// assert_eq!(pdb_types::Variant::Natural(0xffff_ffff).sign_extended(4), -1);
+    /// ```
+    #[inline]
+    pub fn sign_extended(self, bytes: u8) -> i64 {
+        let unused = 64 - 8 * u32::from(bytes.clamp(1, 8));
+        ((self.bits() << unused) as i64) >> unused
+    }
+
     /// The number.
     #[inline]
     pub fn as_i128(self) -> i128 {

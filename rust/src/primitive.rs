@@ -158,6 +158,44 @@ numbered! {
     }
 }
 
+impl PrimitiveKind {
+    /// How many bytes it has, as its name says; none of `NoType` and `Void`. This is the crate's own table: the records say nothing of it.
+    pub const fn size(self) -> Option<u8> {
+        use PrimitiveKind::*;
+        Some(match self {
+            NoType | Void => return None,
+            Char | UChar | RChar | I8 | U8 | Bool8 => 1,
+            WChar | RChar16 | Short | UShort | I16 | U16 | Bool16 | F16 => 2,
+            RChar32 | Long | ULong | I32 | U32 | Bool32 | F32 | F32PP | HRESULT => 4,
+            F48 => 6,
+            Quad | UQuad | I64 | U64 | Bool64 | F64 | Complex32 => 8,
+            F80 => 10,
+            Octa | UOcta | I128 | U128 | F128 | Complex64 => 16,
+            Complex80 => 20,
+            Complex128 => 32,
+        })
+    }
+
+    /// Whether it is an integer that can be negative, a `char` among them.
+    pub const fn is_signed(self) -> bool {
+        use PrimitiveKind::*;
+        matches!(self, Char | RChar | I8 | Short | I16 | Long | I32 | Quad | I64 | Octa | I128 | HRESULT)
+    }
+}
+
+impl Indirection {
+    /// How many bytes such a pointer has.
+    pub const fn size(self) -> u8 {
+        match self {
+            Indirection::Near16 => 2,
+            Indirection::Far16 | Indirection::Huge16 | Indirection::Near32 => 4,
+            Indirection::Far32 => 6,
+            Indirection::Near64 => 8,
+            Indirection::Near128 => 16,
+        }
+    }
+}
+
 /// A primitive type like `void` or `char *`.
 #[derive(Debug, Clone, Copy, PartialEq, Eq, Hash)]
 pub struct PrimitiveType {
@@ -165,6 +203,16 @@ pub struct PrimitiveType {
     pub kind: PrimitiveKind,
     /// How it is pointed to, if it is.
     pub indirection: Option<Indirection>,
+}
+
+impl PrimitiveType {
+    /// How many bytes it has: those of its pointer, or of its kind. None of `NoType` and `Void`.
+    pub const fn size(self) -> Option<u8> {
+        match self.indirection {
+            Some(pointer) => Some(pointer.size()),
+            None => self.kind.size(),
+        }
+    }
 }
 
 /// The primitive type of an index; refused as not found where it names none.

@@ -32,8 +32,8 @@ pub enum Fit {
     Yes,
     /// It is not.
     No {
-        /// The lowest record at fault, from 0.
-        record: u64,
+        /// The index of the lowest record at fault; 0 where the rule is [`Rule::Count`], which is of no record.
+        record: u32,
         /// The first rule that it breaks.
         rule: Rule,
     },
@@ -64,7 +64,7 @@ impl TypeInformation<'_> {
         let o = ffi::fit(self.bytes())?;
         Ok(match o[row::FIT_YES] {
             0 => Fit::No {
-                record: o[row::FIT_RECORD],
+                record: o[row::FIT_RECORD] as u32,
                 // the library gives 1 to 5
                 rule: Rule::from_number(o[row::FIT_RULE] as u8).unwrap_or(Rule::Count),
             },
@@ -157,12 +157,12 @@ impl Report {
         self.numbers[1]
     }
 
-    /// The records that the headers count, all together.
+    /// The bytes of the headers of the streams that were not refused.
     pub fn headers(&self) -> u64 {
         self.numbers[2]
     }
 
-    /// The records that were walked.
+    /// The records of these streams.
     pub fn records(&self) -> u64 {
         self.numbers[3]
     }
@@ -177,7 +177,7 @@ impl Report {
         self.numbers[5]
     }
 
-    /// The number of the stream that has it.
+    /// The number of the first stream that has it, from 0, refused ones counted.
     pub fn largest_stream(&self) -> u64 {
         self.numbers[6]
     }
