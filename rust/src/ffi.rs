@@ -194,6 +194,18 @@ extern "C" {
     fn pdb_load(s: *const u8, s_len: usize, file: *const u8, file_len: usize, table: *mut u32, table_len: usize, out: *mut u64) -> u32;
     fn pdb_type(s: *const u8, s_len: usize, out: *mut u64) -> u32;
     fn pdb_id(s: *const u8, s_len: usize, out: *mut u64) -> u32;
+    fn pdb_parse(
+        tpi: *const u8,
+        tpi_len: usize,
+        ipi: *const u8,
+        ipi_len: usize,
+        ids: u32,
+        is_record: u32,
+        index: u32,
+        place: usize,
+        length: usize,
+        out: *mut u64,
+    ) -> u32;
     fn pdb_list(s: *const u8, s_len: usize, ids: u32, out: *mut u64) -> u32;
     fn pdb_step(s: *const u8, s_len: usize, leaf: u16, at: usize, left: u32, padded: u32, out: *mut u64) -> u32;
     fn pdb_is_cross_module(index: u32) -> u32;
@@ -426,6 +438,29 @@ pub(crate) fn type_<T>(s: &[u8], then: impl FnOnce(&[u64; TYPE_OUT]) -> T) -> Re
 pub(crate) fn id<T>(s: &[u8], then: impl FnOnce(&[u64; ID_OUT]) -> T) -> Result<T> {
     // SAFETY: a slice with its own length, and a row of its own; see the top of this file.
     ask(|out| unsafe { pdb_id(s.as_ptr(), s.len(), out) }, then)
+}
+
+/// An entry of a type stream; a place that is none is a marker's.
+pub(crate) fn parse(tpi: &[u8], index: u32, place: Option<usize>, length: usize) -> Result<[u64; PARSE_OUT]> {
+    let none = [];
+    // SAFETY: slices with their own lengths, only read, and a row of its own; see the top of this file.
+    ask(
+        |out| unsafe {
+            pdb_parse(
+                tpi.as_ptr(),
+                tpi.len(),
+                none.as_ptr(),
+                0,
+                0,
+                place.is_some().into(),
+                index,
+                place.unwrap_or(0),
+                length,
+                out,
+            )
+        },
+        |o| *o,
+    )
 }
 
 #[inline]
@@ -673,6 +708,49 @@ mod tests {
         found
     }
 
+    /// What `parse` of a record does by its bytes alone is what the library does by the whole stream: records, markers, and places and lengths that pass the end.
+    #[test]
+    fn records_by_their_bytes_are_the_streams() {
+        let streams: [&[u8]; 2] = [include_bytes!("../../samples/hand.tpi"), include_bytes!("../../samples/rich-x64.tpi")];
+        for s in streams {
+            let finder = crate::TypeInformation::parse(s).unwrap().indexed().unwrap();
+            for index in (0..0x1200).chain([0x2000, u32::MAX]) {
+                let Ok(item) = finder.find(crate::TypeIndex(index)) else { continue };
+                let whole = super::parse(s, index, item.place(), item.len());
+                let alone = item.parse();
+                match (whole, alone) {
+                    (Ok(o), Ok(crate::TypeData::Primitive(p))) => {
+                        assert_eq!(
+                            [o[2], o[4 - 1], o[4]],
+                            [2, p.kind.number().into(), p.indirection.map_or(0, |i| i.number().into())]
+                        );
+                    }
+                    (Ok(o), Ok(data)) => {
+                        assert_eq!((o[super::row::PARSE_WHICH], o[super::row::PARSE_LEAF]), (0, item.raw_kind().unwrap().into()));
+                        let row = std::array::from_fn(|k| o[k + 1]);
+                        assert_eq!(crate::TypeData::of_row(item.bytes(), &row), data);
+                    }
+                    (whole, alone) => assert_eq!(whole.err(), alone.err()),
+                }
+            }
+            // a marker from 0x1000 on, which a stream with a higher minimum has
+            let marker = crate::Type::new(crate::TypeIndex(0x1000), &[0xff, 0xff]);
+            assert_eq!(super::parse(s, 0x1000, None, 2).err(), marker.parse().err());
+        }
+    }
+
+    /// The same of sections.
+    #[test]
+    fn section_records_by_their_bytes_are_the_sections() {
+        let s: &[u8] = include_bytes!("../../samples/rich-x64.debugT");
+        for item in crate::Section::parse(s).unwrap() {
+            let item = item.unwrap();
+            let whole = super::section_read(s, item.index().0, item.place().unwrap(), item.len(), |o| *o);
+            let alone = super::section_read(item.bytes(), item.index().0, 0, item.len(), |o| *o);
+            assert_eq!(whole, alone);
+        }
+    }
+
     #[test]
     fn places_are_the_headers() {
         let constants = constants();
@@ -687,13 +765,16 @@ mod tests {
         let left_out = [
             "pdb_view",
             "pdb_kind",
-            "pdb_parse",
             "pdb_save_short",
             "pdb_load_short",
             "pdb_string",
             "pdb_padding",
+            "pdb_size",
+            "pdb_number",
+            "pdb_optional_type",
+            "pdb_optional_id",
+            "pdb_section_list",
         ];
-        let more = ["pdb_size", "pdb_number", "pdb_optional_type", "pdb_optional_id", "pdb_section_list"];
         let count = |text: &str, name: &str, start: &str| {
             let (_, from) = text.split_once(&format!("{start}{name}("))?;
             let (arguments, _) = from.split_once(')')?;
@@ -711,7 +792,7 @@ mod tests {
             functions += 1;
             let wanted = count(header, name, " ");
             let got = count(here, name, "    fn ");
-            if left_out.contains(&name) || more.contains(&name) {
+            if left_out.contains(&name) {
                 assert_eq!(got, None, "{name}");
             } else {
                 assert_eq!(got, wanted, "{name}");
