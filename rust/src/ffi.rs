@@ -300,9 +300,13 @@ pub(crate) struct Numbers {
 #[inline(always)]
 fn ask<const N: usize, T>(call: impl FnOnce(*mut u64) -> u32, then: impl FnOnce(&[u64; N]) -> T) -> Result<T> {
     let mut out = MaybeUninit::<[u64; N]>::uninit();
+    #[cfg(test)]
+    out.write([tests::UNWRITTEN; N]);
     let number = call(out.as_mut_ptr().cast());
     // SAFETY: N is the length that the header gives this call's `out`, and every call writes the whole of it.
     let out = unsafe { out.assume_init_ref() };
+    #[cfg(test)]
+    assert!(!out.contains(&tests::UNWRITTEN), "a place of the row was not written");
     match number {
         0 => Ok(then(out)),
         n => Err(Error::named(n, out[0], out[1])),
@@ -687,7 +691,92 @@ pub(crate) fn write_header(fields: &[u32; 13], hash_stream: u16, hash_pad_stream
 
 #[cfg(test)]
 mod tests {
+    use super::*;
     use std::collections::HashMap;
+
+    /// A number that no call gives for these inputs: where it still stands in a row, the row was not written whole.
+    pub(super) const UNWRITTEN: u64 = 0x5a17_ed00_dead_beef;
+
+    /// Every function once or more, answered and refused: `ask` looks whether the row is written.
+    #[test]
+    fn every_row_is_written() {
+        let tpi: &[u8] = include_bytes!("../../samples/rich-x64.tpi");
+        let ipi: &[u8] = include_bytes!("../../samples/rich-x64.ipi");
+        let section: &[u8] = include_bytes!("../../samples/rich-x64.debugT");
+        let f = Numbers {
+            minimum: 0x1000,
+            maximum: 0x10e8,
+            held: 1,
+            shift: 3,
+        };
+        let cut = &tpi[..100];
+        for s in [&[][..], &tpi[..1], &tpi[..55], cut, tpi, ipi, section, &[0xff; 80], &[0; 80]] {
+            let (mut table, mut buffer) = (vec![56; 64], vec![0; s.len() + 64]);
+            let _ = header(s, |_| ());
+            for at in [0, 4, 56, s.len(), usize::MAX] {
+                for index in [0, 0x1000, u32::MAX] {
+                    let _ = next(s, at, index, |_| ());
+                    let _ = update(&mut table, f, at, index, |_| ());
+                    let _ = find(s, &table, f, index, |_| ());
+                    let _ = declare(s, &table, f, index, &mut buffer);
+                    let _ = parse(s, index, Some(at), 20);
+                    let _ = parse(s, index, None, 2);
+                    let _ = section_read(s, index, at, 20, |_| ());
+                }
+            }
+            for shift in [0, 3, 7] {
+                for room in [0, 64] {
+                    let _ = create(s, &mut table[..room], shift);
+                    let _ = index(s, &mut table[..room], shift);
+                    let _ = section_create(s, &mut table[..room], shift);
+                    let _ = section_index(s, &mut table[..room], shift);
+                    let _ = save(s, &table, Numbers { shift, ..f }, &mut buffer[..room]);
+                    let _ = load(s, &buffer[..room], &mut table);
+                    let _ = section_stream(s, &mut buffer[..room]);
+                    let _ = super::drop(s, &[0x1000], &mut table[..room], &mut buffer);
+                }
+            }
+            let _ = (section_start(s), section_count(s), section_stream(s, &mut buffer), fit(s));
+            let _ = report(s, &[0; 9], &mut [0; REPORT_TABLE]);
+            let _ = report(s, &[u64::MAX; 9], &mut [0; REPORT_TABLE]);
+        }
+        let finder = crate::TypeInformation::parse(tpi).unwrap().indexed().unwrap();
+        assert!(finder.save().is_ok() && super::drop(tpi, &[0x1000], &mut [0; 232], &mut vec![0; tpi.len()]).is_ok());
+        // records and elements, whole and cut after each byte
+        let types = crate::TypeInformation::parse(tpi).unwrap();
+        let ids = crate::IdInformation::parse(ipi).unwrap();
+        let records = types
+            .iter()
+            .map(|item| item.unwrap().bytes())
+            .chain(ids.iter().map(|item| item.unwrap().bytes()));
+        for record in records {
+            for bytes in (0..=record.len().min(60)).map(|n| &record[..n]).chain([record]) {
+                let _ = (type_(bytes, |_| ()), id(bytes, |_| ()), list(bytes, false, |_| ()), list(bytes, true, |_| ()));
+                let leaf = record.first().map_or(0, |_| u16::from_le_bytes([record[0], record[1]]));
+                for at in 0..bytes.len().min(20) {
+                    let _ = step(bytes, leaf, Cursor { at, left: 1, padded: 0 }, |_| ());
+                    let _ = step(bytes, leaf, Cursor { at, left: 0, padded: 1 }, |_| ());
+                }
+                for is_id in [false, true] {
+                    let mut row = [0; CELLS];
+                    if let Ok(leaf) = cells(bytes, is_id, &mut row) {
+                        for room in [0, 100_000] {
+                            let _ = write_record(bytes, is_id, leaf, &row, &mut vec![0; room], 0);
+                        }
+                    }
+                    let _ = write_record(bytes, is_id, leaf, &[9; CELLS], &mut [0; 9], 0);
+                    let _ = write_rows(bytes, is_id, &[[0; ROW]], &mut [0; 9], 0);
+                    let _ = write_rows(bytes, is_id, &[], &mut [0; 9], 0);
+                }
+            }
+        }
+        for size in [0, 56, 4000] {
+            let _ = write_header(&[size; 13], 0, 0, &mut [0; 56], 0);
+        }
+        for n in [0, 0x74, 0x7c, 0x1000] {
+            let _ = primitive(n, |_| ());
+        }
+    }
 
     /// The constants of the header's enumerations, counted as C counts them.
     fn constants() -> HashMap<String, usize> {
