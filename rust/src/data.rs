@@ -228,13 +228,12 @@ pub enum TypeData<'s> {
 }
 
 impl<'s> TypeData<'s> {
-    /// The name of a class, a union, an enumeration; an array's is empty as a rule, and is given as the record has it.
+    /// The name of a class, a union, an enumeration, as crate pdb gives it. An array's, which is empty as a rule, is a field of its own.
     pub fn name(&self) -> Option<RawString<'s>> {
         match self {
             TypeData::Class(class) => Some(class.name),
             TypeData::Union(union) => Some(union.name),
             TypeData::Enumeration(enumeration) => Some(enumeration.name),
-            TypeData::Array(array) => Some(array.name),
             _ => None,
         }
     }
@@ -595,12 +594,11 @@ pub enum Member<'s> {
 }
 
 impl<'s> Member<'s> {
-    /// Its name, if it has one.
+    /// Its name, if it has one, as crate pdb gives it: a single method's, which that gives none of, is a field of its own.
     pub fn name(&self) -> Option<RawString<'s>> {
         Some(match self {
             Member::Member(m) => m.name,
             Member::StaticMember(m) => m.name,
-            Member::Method(m) => m.name,
             Member::OverloadedMethod(m) => m.name,
             Member::Nested(m) => m.name,
             Member::Enumerate(m) => m.name,

@@ -194,6 +194,18 @@ extern "C" {
     fn pdb_load(s: *const u8, s_len: usize, file: *const u8, file_len: usize, table: *mut u32, table_len: usize, out: *mut u64) -> u32;
     fn pdb_type(s: *const u8, s_len: usize, out: *mut u64) -> u32;
     fn pdb_id(s: *const u8, s_len: usize, out: *mut u64) -> u32;
+    fn pdb_parse(
+        tpi: *const u8,
+        tpi_len: usize,
+        ipi: *const u8,
+        ipi_len: usize,
+        ids: u32,
+        is_record: u32,
+        index: u32,
+        place: usize,
+        length: usize,
+        out: *mut u64,
+    ) -> u32;
     fn pdb_list(s: *const u8, s_len: usize, ids: u32, out: *mut u64) -> u32;
     fn pdb_step(s: *const u8, s_len: usize, leaf: u16, at: usize, left: u32, padded: u32, out: *mut u64) -> u32;
     fn pdb_is_cross_module(index: u32) -> u32;
@@ -288,9 +300,13 @@ pub(crate) struct Numbers {
 #[inline(always)]
 fn ask<const N: usize, T>(call: impl FnOnce(*mut u64) -> u32, then: impl FnOnce(&[u64; N]) -> T) -> Result<T> {
     let mut out = MaybeUninit::<[u64; N]>::uninit();
+    #[cfg(test)]
+    out.write([tests::UNWRITTEN; N]);
     let number = call(out.as_mut_ptr().cast());
     // SAFETY: N is the length that the header gives this call's `out`, and every call writes the whole of it.
     let out = unsafe { out.assume_init_ref() };
+    #[cfg(test)]
+    assert!(!out.contains(&tests::UNWRITTEN), "a place of the row was not written");
     match number {
         0 => Ok(then(out)),
         n => Err(Error::named(n, out[0], out[1])),
@@ -426,6 +442,29 @@ pub(crate) fn type_<T>(s: &[u8], then: impl FnOnce(&[u64; TYPE_OUT]) -> T) -> Re
 pub(crate) fn id<T>(s: &[u8], then: impl FnOnce(&[u64; ID_OUT]) -> T) -> Result<T> {
     // SAFETY: a slice with its own length, and a row of its own; see the top of this file.
     ask(|out| unsafe { pdb_id(s.as_ptr(), s.len(), out) }, then)
+}
+
+/// An entry of a type stream; a place that is none is a marker's.
+pub(crate) fn parse(tpi: &[u8], index: u32, place: Option<usize>, length: usize) -> Result<[u64; PARSE_OUT]> {
+    let none = [];
+    // SAFETY: slices with their own lengths, only read, and a row of its own; see the top of this file.
+    ask(
+        |out| unsafe {
+            pdb_parse(
+                tpi.as_ptr(),
+                tpi.len(),
+                none.as_ptr(),
+                0,
+                0,
+                place.is_some().into(),
+                index,
+                place.unwrap_or(0),
+                length,
+                out,
+            )
+        },
+        |o| *o,
+    )
 }
 
 #[inline]
@@ -652,7 +691,92 @@ pub(crate) fn write_header(fields: &[u32; 13], hash_stream: u16, hash_pad_stream
 
 #[cfg(test)]
 mod tests {
+    use super::*;
     use std::collections::HashMap;
+
+    /// A number that no call gives for these inputs: where it still stands in a row, the row was not written whole.
+    pub(super) const UNWRITTEN: u64 = 0x5a17_ed00_dead_beef;
+
+    /// Every function once or more, answered and refused: `ask` looks whether the row is written.
+    #[test]
+    fn every_row_is_written() {
+        let tpi: &[u8] = include_bytes!("../../samples/rich-x64.tpi");
+        let ipi: &[u8] = include_bytes!("../../samples/rich-x64.ipi");
+        let section: &[u8] = include_bytes!("../../samples/rich-x64.debugT");
+        let f = Numbers {
+            minimum: 0x1000,
+            maximum: 0x10e8,
+            held: 1,
+            shift: 3,
+        };
+        let cut = &tpi[..100];
+        for s in [&[][..], &tpi[..1], &tpi[..55], cut, tpi, ipi, section, &[0xff; 80], &[0; 80]] {
+            let (mut table, mut buffer) = (vec![56; 64], vec![0; s.len() + 64]);
+            let _ = header(s, |_| ());
+            for at in [0, 4, 56, s.len(), usize::MAX] {
+                for index in [0, 0x1000, u32::MAX] {
+                    let _ = next(s, at, index, |_| ());
+                    let _ = update(&mut table, f, at, index, |_| ());
+                    let _ = find(s, &table, f, index, |_| ());
+                    let _ = declare(s, &table, f, index, &mut buffer);
+                    let _ = parse(s, index, Some(at), 20);
+                    let _ = parse(s, index, None, 2);
+                    let _ = section_read(s, index, at, 20, |_| ());
+                }
+            }
+            for shift in [0, 3, 7] {
+                for room in [0, 64] {
+                    let _ = create(s, &mut table[..room], shift);
+                    let _ = index(s, &mut table[..room], shift);
+                    let _ = section_create(s, &mut table[..room], shift);
+                    let _ = section_index(s, &mut table[..room], shift);
+                    let _ = save(s, &table, Numbers { shift, ..f }, &mut buffer[..room]);
+                    let _ = load(s, &buffer[..room], &mut table);
+                    let _ = section_stream(s, &mut buffer[..room]);
+                    let _ = super::drop(s, &[0x1000], &mut table[..room], &mut buffer);
+                }
+            }
+            let _ = (section_start(s), section_count(s), section_stream(s, &mut buffer), fit(s));
+            let _ = report(s, &[0; 9], &mut [0; REPORT_TABLE]);
+            let _ = report(s, &[u64::MAX; 9], &mut [0; REPORT_TABLE]);
+        }
+        let finder = crate::TypeInformation::parse(tpi).unwrap().indexed().unwrap();
+        assert!(finder.save().is_ok() && super::drop(tpi, &[0x1000], &mut [0; 232], &mut vec![0; tpi.len()]).is_ok());
+        // records and elements, whole and cut after each byte
+        let types = crate::TypeInformation::parse(tpi).unwrap();
+        let ids = crate::IdInformation::parse(ipi).unwrap();
+        let records = types
+            .iter()
+            .map(|item| item.unwrap().bytes())
+            .chain(ids.iter().map(|item| item.unwrap().bytes()));
+        for record in records {
+            for bytes in (0..=record.len().min(60)).map(|n| &record[..n]).chain([record]) {
+                let _ = (type_(bytes, |_| ()), id(bytes, |_| ()), list(bytes, false, |_| ()), list(bytes, true, |_| ()));
+                let leaf = record.first().map_or(0, |_| u16::from_le_bytes([record[0], record[1]]));
+                for at in 0..bytes.len().min(20) {
+                    let _ = step(bytes, leaf, Cursor { at, left: 1, padded: 0 }, |_| ());
+                    let _ = step(bytes, leaf, Cursor { at, left: 0, padded: 1 }, |_| ());
+                }
+                for is_id in [false, true] {
+                    let mut row = [0; CELLS];
+                    if let Ok(leaf) = cells(bytes, is_id, &mut row) {
+                        for room in [0, 100_000] {
+                            let _ = write_record(bytes, is_id, leaf, &row, &mut vec![0; room], 0);
+                        }
+                    }
+                    let _ = write_record(bytes, is_id, leaf, &[9; CELLS], &mut [0; 9], 0);
+                    let _ = write_rows(bytes, is_id, &[[0; ROW]], &mut [0; 9], 0);
+                    let _ = write_rows(bytes, is_id, &[], &mut [0; 9], 0);
+                }
+            }
+        }
+        for size in [0, 56, 4000] {
+            let _ = write_header(&[size; 13], 0, 0, &mut [0; 56], 0);
+        }
+        for n in [0, 0x74, 0x7c, 0x1000] {
+            let _ = primitive(n, |_| ());
+        }
+    }
 
     /// The constants of the header's enumerations, counted as C counts them.
     fn constants() -> HashMap<String, usize> {
@@ -673,6 +797,49 @@ mod tests {
         found
     }
 
+    /// What `parse` of a record does by its bytes alone is what the library does by the whole stream: records, markers, and places and lengths that pass the end.
+    #[test]
+    fn records_by_their_bytes_are_the_streams() {
+        let streams: [&[u8]; 2] = [include_bytes!("../../samples/hand.tpi"), include_bytes!("../../samples/rich-x64.tpi")];
+        for s in streams {
+            let finder = crate::TypeInformation::parse(s).unwrap().indexed().unwrap();
+            for index in (0..0x1200).chain([0x2000, u32::MAX]) {
+                let Ok(item) = finder.find(crate::TypeIndex(index)) else { continue };
+                let whole = super::parse(s, index, item.place(), item.len());
+                let alone = item.parse();
+                match (whole, alone) {
+                    (Ok(o), Ok(crate::TypeData::Primitive(p))) => {
+                        assert_eq!(
+                            [o[2], o[4 - 1], o[4]],
+                            [2, p.kind.number().into(), p.indirection.map_or(0, |i| i.number().into())]
+                        );
+                    }
+                    (Ok(o), Ok(data)) => {
+                        assert_eq!((o[super::row::PARSE_WHICH], o[super::row::PARSE_LEAF]), (0, item.raw_kind().unwrap().into()));
+                        let row = std::array::from_fn(|k| o[k + 1]);
+                        assert_eq!(crate::TypeData::of_row(item.bytes(), &row), data);
+                    }
+                    (whole, alone) => assert_eq!(whole.err(), alone.err()),
+                }
+            }
+            // a marker from 0x1000 on, which a stream with a higher minimum has
+            let marker = crate::Type::new(crate::TypeIndex(0x1000), &[0xff, 0xff]);
+            assert_eq!(super::parse(s, 0x1000, None, 2).err(), marker.parse().err());
+        }
+    }
+
+    /// The same of sections.
+    #[test]
+    fn section_records_by_their_bytes_are_the_sections() {
+        let s: &[u8] = include_bytes!("../../samples/rich-x64.debugT");
+        for item in crate::Section::parse(s).unwrap() {
+            let item = item.unwrap();
+            let whole = super::section_read(s, item.index().0, item.place().unwrap(), item.len(), |o| *o);
+            let alone = super::section_read(item.bytes(), item.index().0, 0, item.len(), |o| *o);
+            assert_eq!(whole, alone);
+        }
+    }
+
     #[test]
     fn places_are_the_headers() {
         let constants = constants();
@@ -687,13 +854,16 @@ mod tests {
         let left_out = [
             "pdb_view",
             "pdb_kind",
-            "pdb_parse",
             "pdb_save_short",
             "pdb_load_short",
             "pdb_string",
             "pdb_padding",
+            "pdb_size",
+            "pdb_number",
+            "pdb_optional_type",
+            "pdb_optional_id",
+            "pdb_section_list",
         ];
-        let more = ["pdb_size", "pdb_number", "pdb_optional_type", "pdb_optional_id", "pdb_section_list"];
         let count = |text: &str, name: &str, start: &str| {
             let (_, from) = text.split_once(&format!("{start}{name}("))?;
             let (arguments, _) = from.split_once(')')?;
@@ -711,7 +881,7 @@ mod tests {
             functions += 1;
             let wanted = count(header, name, " ");
             let got = count(here, name, "    fn ");
-            if left_out.contains(&name) || more.contains(&name) {
+            if left_out.contains(&name) {
                 assert_eq!(got, None, "{name}");
             } else {
                 assert_eq!(got, wanted, "{name}");

@@ -70,6 +70,11 @@ pub use whole::{Dropped, Fit, Report, ReportRow, Rule};
 pub use words::{FieldAttributes, FunctionAttributes, PointerAttributes, PointerKind, PointerMode, TypeProperties};
 pub use write::{cells, layout, Cell, Cells, Code, Layouts, Writer};
 
+/// The generators of the README are compiled too.
+#[cfg(doctest)]
+#[doc = include_str!("../README.md")]
+struct Readme;
+
 /// Information about the types of a program database: its TPI stream.
 pub type TypeInformation<'s> = ItemInformation<'s, TypeIndex>;
 /// An iterator over types.

@@ -90,7 +90,7 @@ macro_rules! list {
         }
 
         impl<'s> $iter<'s> {
-            /// Where the next element starts in the record, from its leaf on; at the end where the list ended.
+            /// Where the next element starts in the record, counted from its leaf, or the padding in front of it.
             #[inline]
             pub fn position(&self) -> usize {
                 self.cursor.at

@@ -303,6 +303,16 @@ impl<'s, I: ItemIndex> IntoIterator for &ItemInformation<'s, I> {
 const NO_PLACE: usize = usize::MAX;
 
 /// A record: its index, and its bytes without their length. [`Type`](crate::Type) and [`Id`](crate::Id) are its two kinds; each has a `parse` of its own.
+///
+/// ```
+/// use pdb_types::{Leaf, TypeIndex, TypeInformation};
+///
+/// let types = TypeInformation::parse(include_bytes!("../../samples/e.tpi"))?;
+/// let item = types.iter().next().unwrap()?;
+/// assert_eq!((item.index(), item.leaf()?, item.len(), item.place()), (TypeIndex(0x1000), Leaf::MODIFIER, 8, Some(58)));
+/// assert_eq!(item.bytes(), b"\x01\x10\x74\x00\x00\x00\x01\x00");
+/// # Ok::<(), pdb_types::Error>(())
+/// ```
 #[derive(Clone, Copy, PartialEq, Eq)]
 pub struct Item<'s, I> {
     pub(crate) index: I,

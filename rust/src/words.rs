@@ -172,6 +172,11 @@ impl FieldAttributes {
 
 word! {
     /// The word of a procedure or a member function.
+    ///
+    /// ```
+    /// let word = pdb_types::FunctionAttributes(0x020b);
+    /// assert_eq!((word.calling_convention(), word.is_constructor(), word.cxx_return_udt()), (11, true, false));
+    /// ```
     FunctionAttributes(u16)
 }
 

@@ -252,15 +252,18 @@ impl Writer {
             text: Vec::new(),
             rows: Vec::new(),
         };
-        writer.at = writer.write_header()?;
+        // what counts the records is not known yet
+        let first = Header {
+            maximum_index: header.minimum_index,
+            gprec_size: 0,
+            ..header
+        };
+        writer.at = writer.write_header(&first)?;
         Ok(writer)
     }
 
-    /// Writes the header as it is now; the place behind it.
-    fn write_header(&mut self) -> Result<usize> {
-        let header = &mut self.header;
-        header.maximum_index = header.minimum_index.checked_add(self.count).ok_or(Error::IndicesUsedUp)?;
-        header.gprec_size = self.at.saturating_sub(header.header_size as usize) as u32;
+    /// Writes a header in front of the records; the place behind it.
+    fn write_header(&mut self, header: &Header) -> Result<usize> {
         let fields = [
             header.version,
             header.header_size,
@@ -391,9 +394,27 @@ impl Writer {
         &self.buffer[..self.at]
     }
 
+    /// How many records are written.
+    pub fn count(&self) -> u32 {
+        self.count
+    }
+
     /// The stream, with a header that counts its records and their bytes.
-    pub fn finish(mut self) -> Result<Vec<u8>> {
-        self.write_header()?;
+    pub fn finish(self) -> Result<Vec<u8>> {
+        let header = Header {
+            maximum_index: self.header.minimum_index.checked_add(self.count).ok_or(Error::IndicesUsedUp)?,
+            gprec_size: self.at.saturating_sub(self.header.header_size as usize) as u32,
+            ..self.header
+        };
+        self.finish_with(&header)
+    }
+
+    /// The stream with this header as it stands, whatever it counts. Its size must be the one that the writer began with; else 17.
+    pub fn finish_with(mut self, header: &Header) -> Result<Vec<u8>> {
+        if header.header_size != self.header.header_size {
+            return Err(Error::WouldNotReadBack);
+        }
+        self.write_header(header)?;
         self.buffer.truncate(self.at);
         Ok(self.buffer)
     }

@@ -57,7 +57,12 @@ fn every_type_record_parses() {
                         *elements.entry(key).or_default() += 1;
                     }
                 }
-                TypeData::MethodList(list) => *elements.entry("entries").or_default() += list.into_iter().map(|m| m.expect("an entry")).count() as u32,
+                TypeData::MethodList(list) => {
+                    for method in list {
+                        method.expect("an entry");
+                        *elements.entry("entries").or_default() += 1;
+                    }
+                }
                 TypeData::ArgumentList(list) => *elements.entry("arguments").or_default() += list.arguments.len() as u32,
                 TypeData::Class(class) => assert_eq!(class.unique_name.is_some(), class.properties.has_unique_name()),
                 TypeData::Pointer(pointer) => assert!(pointer.attributes.pointer_kind().is_ok() && pointer.attributes.pointer_mode().is_ok()),
@@ -249,7 +254,11 @@ fn cells_have_a_cell_for_each_field() {
             assert_eq!(codes.len(), record.len(), "{}", record.leaf());
             let name = codes.iter().position(|&code| code == Code::String).map(|k| record[k]);
             if let (Some(Cell::Part { place, length }), Ok(data)) = (name, item.parse()) {
-                assert_eq!(data.name().map(|name| name.as_bytes()), Some(&item.bytes()[place..place + length]));
+                let name = match data {
+                    TypeData::Array(array) => Some(array.name),
+                    data => data.name(),
+                };
+                assert_eq!(name.map(|name| name.as_bytes()), Some(&item.bytes()[place..place + length]));
             }
         }
     }
