@@ -295,15 +295,6 @@ fn header(words: &[&[u8]]) -> Result<Header> {
     })
 }
 
-/// The bytes of a header as it stands in its line: the library's writer counts records and bytes, and here the line says how many there are.
-fn header_bytes(header: Header) -> Result<Vec<u8>> {
-    let mut bytes = Writer::new(header)?.finish()?;
-    for (at, n) in [(12, header.maximum_index), (16, header.gprec_size)] {
-        bytes[at..at + 4].copy_from_slice(&n.to_le_bytes());
-    }
-    Ok(bytes)
-}
-
 /// The words of a line without its comment.
 fn words_of(line: &[u8]) -> Vec<&[u8]> {
     let words = line.split(|c| *c == b' ' || *c == b'\t').filter(|word| !word.is_empty());
@@ -312,22 +303,26 @@ fn words_of(line: &[u8]) -> Vec<&[u8]> {
 
 /// The stream of a text, or of each bad line its number and what is wrong with it.
 fn composed(text: &[u8]) -> std::result::Result<Vec<u8>, Vec<(u64, Error)>> {
-    // records are written behind a header of their own, whose lowest index is the lowest there is: so no index of theirs is the last
-    let plain = Header {
-        version: 0,
+    // until a header is read there is a plain one, so that the lines behind a bad header are looked at too
+    let mut head = Header {
         header_size: 56,
         minimum_index: 4096,
         ..Header::default()
     };
-    let mut writer = Writer::new(plain).map_err(|e| vec![(0, e)])?;
-    let (mut head, mut begun, mut bad) = (Vec::new(), false, Vec::new());
+    let mut writer = Writer::new(head).map_err(|e| vec![(1, e)])?;
+    let (mut begun, mut bad) = (false, Vec::new());
     for (number, line) in (1..).zip(text.split(|c| *c == b'\n')) {
         let mut halves = line.splitn(2, |c| *c == b'\r');
         let words = words_of(halves.next().unwrap_or_default());
         let made = match (words.is_empty(), begun) {
             (true, _) => Ok(()),
             (false, true) => push(&mut writer, &words),
-            (false, false) => header(&words).and_then(header_bytes).map(|bytes| head = bytes),
+            // records are counted from the lowest index that there is: the header's own may be so high that it leaves room for none
+            (false, false) => header(&words).and_then(|read| {
+                head = read;
+                writer = Writer::new(Header { minimum_index: 4096, ..read })?;
+                Ok(())
+            }),
         };
         // a CR ends a line at its end alone
         let made = made.and(if halves.next().is_some_and(|behind| !behind.is_empty()) {
@@ -343,8 +338,11 @@ fn composed(text: &[u8]) -> std::result::Result<Vec<u8>, Vec<(u64, Error)>> {
     if !bad.is_empty() {
         return Err(bad);
     }
-    head.extend_from_slice(writer.bytes().get(56..).unwrap_or_default());
-    Ok(head)
+    if !begun {
+        return Ok(Vec::new());
+    }
+    // the header as it stands in its line, whatever it counts
+    writer.finish_with(&head).map_err(|e| vec![(1, e)])
 }
 
 pub fn run(call: &Call) -> std::result::Result<(), Failure> {

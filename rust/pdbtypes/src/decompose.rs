@@ -112,7 +112,12 @@ fn put_member(line: &mut String, member: &Member<'_>) {
         // what a later library brings has no text
         _ => write!(line, " / refused {}", Error::LeafUnknown(0).number()),
     };
-    if let Some(name) = member.name() {
+    // `name` has no name of a method, as crate pdb has none
+    let name = match member {
+        Member::Method(m) => Some(m.name),
+        member => member.name(),
+    };
+    if let Some(name) = name {
         hex(line, name.as_bytes());
     }
 }

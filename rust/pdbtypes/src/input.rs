@@ -92,8 +92,12 @@ impl Input {
 
     /// A file. A stream is taken out of a database, and a section out of an object file, by the tools that do so.
     pub fn open(word: &OsStr, ids: bool) -> Result<Input, Failure> {
-        let (name, mut bytes) = (name(word), bytes(word)?);
-        let mut kind = kind(&bytes);
+        Input::told(word, bytes(word)?, ids)
+    }
+
+    /// The same of bytes that were read.
+    pub fn told(word: &OsStr, mut bytes: Vec<u8>, ids: bool) -> Result<Input, Failure> {
+        let (name, mut kind) = (name(word), kind(&bytes));
         match kind {
             Kind::Database => bytes = extract::stream(word, &bytes, ids)?,
             Kind::Object => bytes = extract::section(word, &bytes)?,
