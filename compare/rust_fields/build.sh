@@ -4,7 +4,8 @@
 #   build.sh SOURCE OUT [LIBRARY]
 #
 # SOURCE   the folder of crate pdb's published source, as compare/build.sh wants it
-# OUT      gets fields (both crates, record by record), day_ours and day_pdb (a generator's day with one of them)
+# OUT      gets fields (both crates, record by record), day_ours and day_pdb (a generator's day with one of them), and where LLVM's library is installed
+#          (llvm-14-dev of Debian 12) day_llvm, the same day by it
 # LIBRARY  the folder of libpdb_types.a, lib/x86_64-linux of the repository if it is left out
 #
 # What compare/build.sh wants is wanted here too. It is called first.
@@ -36,3 +37,12 @@ for program in fields day_ours day_pdb; do
     --extern pdb="$d/libpdb.rlib" --extern pdb_types="$d/libpdb_types.rlib" "$here/$program.rs" -o "$out/$program"
 done
 echo "built $out/fields, $out/day_ours and $out/day_pdb"
+
+config=$(command -v llvm-config-14 || command -v llvm-config || true)
+if [ -z "$config" ] || ! command -v g++ >/dev/null; then
+  echo "not built: day_llvm, since there is no llvm-config or no g++"
+  exit 0
+fi
+g++ -O2 $("$config" --cxxflags) -fno-exceptions -fno-rtti "$here/day_llvm.cpp" \
+  $("$config" --link-static --ldflags --libs debuginfocodeview --system-libs) -o "$out/day_llvm"
+echo "built $out/day_llvm, LLVM $("$config" --version)"

@@ -2,7 +2,7 @@
 //!
 //! A file that ends in .ipi is an id stream, one that ends in .debugT a section, any other a type stream. Of each stream the header, the walk, the finder, and of
 //! each record every field and every element is compared. With `--damage` each stream is also tried with each byte set to 0x00, to 0xff and to its complement.
-//! `--paper docs/DIFFERENCES.md` tries the records of that paper's tables too, and wants each to be excused by the name of its line.
+//! `--chance COUNT` tries that many records of chance. `--paper docs/DIFFERENCES.md` tries the records of that paper's tables too, and wants each to be excused by the name of its line.
 //! A difference is excused by a line of docs/DIFFERENCES.md, by its name, where the rule below says what both sides must be there; any other is printed, and
 //! then the exit status is 1. The counts are printed.
 use pdb::access;
@@ -786,6 +786,11 @@ fn signed(s: &[u8], at: usize) -> bool {
     sizes(s, at).iter().any(|&p| matches!(word(s, p), Some(0x8001 | 0x8003 | 0x8009)))
 }
 
+/// Whether an array's size is 2^32 and more.
+fn large(s: &[u8]) -> bool {
+    word(s, 10) == Some(0x800a) && s.get(12..20).is_some_and(|b| u64::from_le_bytes(b.try_into().unwrap()) >= 1 << 32)
+}
+
 /// Why a leaf that the port does not take is read by the crate.
 fn foreign_leaf(leaf: u16, outside: bool) -> Option<&'static str> {
     if NEWER.contains(&leaf) {
@@ -853,17 +858,11 @@ fn type_excuses(bytes: &[u8], ours: &Answer<'_>, theirs: &Answer<'_>) -> Option<
         }
         0x1503 => {
             let at = 10 + width(bytes, 10);
-            let size = match ours {
-                Given(record) => match &record.fields[3].1 {
-                    Numbers(dimensions) => dimensions[0],
-                    _ => return None,
-                },
-                _ => 0,
-            };
             return match (ours, theirs) {
                 (Refused(11, 0), _) if negative_byte(bytes, 0) => Some(vec!["byte-number"]),
                 (_, Refused(11, 0)) if signed(bytes, 0) => Some(vec!["signed-size"]),
-                (Given(_), Other(why)) if size >= 1 << 32 && why.contains("u64 array sizes") => Some(vec!["array-size"]),
+                // the crate says so before it looks for the name, the port where the name is there
+                (Given(_) | Refused(1, 0), Other(why)) if large(bytes) && why.contains("u64 array sizes") => Some(vec!["array-size"]),
                 (Given(_) | Refused(1, 0), _) if bytes.get(at).is_some_and(|&b| b != 0) => Some(vec!["array-name"]),
                 (Given(_), Panic | Refused(1, 0)) if bytes.get(at) == Some(&0) => Some(vec!["array-after"]),
                 _ => None,
@@ -1192,6 +1191,90 @@ fn paper(tally: &mut Tally, text: &str) -> u64 {
     tried
 }
 
+/// Records of chance: a known leaf, or one next to it, and bytes of which many mean something: leaves, prefixes, padding, zeros. Lists have elements of such.
+fn chance(tally: &mut Tally, many: u64) {
+    let mut state = 0x9e37_79b9_7f4a_7c15u64;
+    let mut random = move |below: u64| {
+        state ^= state << 13;
+        state ^= state >> 7;
+        state ^= state << 17;
+        (state >> 11) % below
+    };
+    let leaves: Vec<u16> = [&TYPES[..], &MEMBERS, &NEWER, &LENGTH_BYTE, &[0x000a]].concat();
+    let ids = [0x1601u16, 0x1602, 0x1603, 0x1604, 0x1605, 0x1606, 0x1607];
+    let prefixes = [0x8000u16, 0x8001, 0x8002, 0x8003, 0x8004, 0x8009, 0x800a, 0x8005, 0x8010];
+    for _ in 0..many {
+        let is_id = random(8) == 0;
+        let known = if is_id { &ids[..] } else { &leaves };
+        let leaf = match random(20) {
+            0 => random(0x10000) as u16,
+            // lists are the longest chapter
+            1..=7 if !is_id => 0x1203,
+            _ => known[random(known.len() as u64) as usize],
+        };
+        let mut bytes = leaf.to_le_bytes().to_vec();
+        if leaf == 0x1203 && random(3) > 0 {
+            // elements as they are laid out, of any numbers; one byte of some is changed
+            for _ in 0..random(6) {
+                let leaf = MEMBERS[random(MEMBERS.len() as u64) as usize];
+                let mut number = || {
+                    let n = random(u64::MAX).to_le_bytes();
+                    match random(9) {
+                        0 => [&[0x00, 0x80][..], &n[..1]].concat(),
+                        1 => [&[1 + random(2) as u8, 0x80][..], &n[..2]].concat(),
+                        2 => [&[3 + random(2) as u8, 0x80][..], &n[..4]].concat(),
+                        3 => [&[9 + random(2) as u8, 0x80][..], &n[..]].concat(),
+                        _ => vec![n[0], n[1] & 0x7f],
+                    }
+                };
+                let mut numbers = [number(), number()];
+                numbers[1].truncate(if matches!(leaf, 0x1401 | 0x1402) { 10 } else { 0 });
+                let mut element = leaf.to_le_bytes().to_vec();
+                let word = random(32) as u16;
+                element.extend(word.to_le_bytes());
+                if leaf != 0x1502 {
+                    element.extend((random(0x2000) as u32).to_le_bytes());
+                }
+                match leaf {
+                    0x1400 | 0x150d | 0x1502 => element.extend(&numbers[0]),
+                    0x1401 | 0x1402 => {
+                        element.extend((random(0x2000) as u32).to_le_bytes());
+                        element.extend(numbers.concat());
+                    }
+                    0x1511 if matches!(word >> 2 & 7, 4 | 6) => element.extend([8, 0, 0, 0]),
+                    _ => {}
+                }
+                if matches!(leaf, 0x1502 | 0x150d..=0x1511) {
+                    element.extend(b"name\0");
+                }
+                element.extend([0xf3, 0xf2, 0xf1].into_iter().skip(random(4) as usize));
+                if random(12) == 0 {
+                    let at = random(element.len() as u64) as usize;
+                    element[at] = random(256) as u8;
+                }
+                bytes.extend(element);
+            }
+            bytes.truncate(bytes.len() - if random(12) == 0 { random(bytes.len() as u64 - 1) as usize } else { 0 });
+            tally.record(false, 0x1000, &bytes, &|| "by chance".to_string());
+            continue;
+        }
+        for _ in 0..random(30) {
+            match random(12) {
+                0 | 1 => bytes.extend(leaves[random(leaves.len() as u64) as usize].to_le_bytes()),
+                2 => bytes.extend(MEMBERS[random(MEMBERS.len() as u64) as usize].to_le_bytes()),
+                3 => bytes.extend(prefixes[random(prefixes.len() as u64) as usize].to_le_bytes()),
+                4 => bytes.extend([0xf3, 0xf2, 0xf1].into_iter().skip(random(3) as usize)),
+                5 => bytes.extend(b"name\0"),
+                6 => bytes.push(random(256) as u8),
+                7 | 8 => bytes.extend((random(0x2000) as u16).to_le_bytes()),
+                9 => bytes.extend([0; 4]),
+                _ => bytes.extend([random(8) as u8, 0]),
+            }
+        }
+        tally.record(is_id, 0x1000, &bytes, &|| "by chance".to_string());
+    }
+}
+
 /// Every word of 16 bits and every pointer word up to bit 19, by each method. Gives how many words were asked.
 fn words(tally: &mut Tally) -> u64 {
     let mut asked = 0;
@@ -1286,6 +1369,11 @@ fn main() {
     while let Some(path) = words_left.next() {
         if path == "--damage" {
             damage = true;
+            continue;
+        }
+        if path == "--chance" {
+            let many = words_left.next().and_then(|word| word.parse().ok()).expect("--chance COUNT");
+            chance(&mut tally, many);
             continue;
         }
         if path == "--paper" {

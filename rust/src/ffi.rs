@@ -9,6 +9,7 @@
 //!
 //! Some of these functions are called by tests alone, which hold this crate's own lines to the library.
 #![allow(unsafe_code)]
+#![warn(clippy::undocumented_unsafe_blocks)]
 #![cfg_attr(not(test), allow(dead_code))]
 use crate::error::{Error, Result};
 use std::mem::MaybeUninit;
@@ -296,51 +297,77 @@ pub(crate) struct Numbers {
     pub shift: u32,
 }
 
-/// Makes a call and gives its row to `then`, in place: a row is as long as fifteen numbers, and is read where it was written.
+/// Makes a call and gives its row to `then`, or its number and its row to `refused`, in place: a row is as long as fifteen numbers, and is read where it was
+/// written.
+///
+/// # Safety
+///
+/// `call` writes all N numbers of the row that it is given, which is so where it hands the row to a function whose `out` has N numbers in the header.
 #[inline(always)]
-fn ask<const N: usize, T>(call: impl FnOnce(*mut u64) -> u32, then: impl FnOnce(&[u64; N]) -> T) -> Result<T> {
+unsafe fn ask_or<const N: usize, T>(
+    call: impl FnOnce(*mut u64) -> u32,
+    then: impl FnOnce(&[u64; N]) -> T,
+    refused: impl FnOnce(u32, &[u64; N]) -> Error,
+) -> Result<T> {
     let mut out = MaybeUninit::<[u64; N]>::uninit();
     #[cfg(test)]
     out.write([tests::UNWRITTEN; N]);
     let number = call(out.as_mut_ptr().cast());
-    // SAFETY: N is the length that the header gives this call's `out`, and every call writes the whole of it.
+    // SAFETY: `call` has written all of it.
     let out = unsafe { out.assume_init_ref() };
     #[cfg(test)]
     assert!(!out.contains(&tests::UNWRITTEN), "a place of the row was not written");
     match number {
         0 => Ok(then(out)),
-        n => Err(Error::named(n, out[0], out[1])),
+        n => Err(refused(n, out)),
     }
+}
+
+/// The same, where the first two numbers of the row are the details of a refusal.
+///
+/// # Safety
+///
+/// As of `ask_or`.
+#[inline(always)]
+unsafe fn ask<const N: usize, T>(call: impl FnOnce(*mut u64) -> u32, then: impl FnOnce(&[u64; N]) -> T) -> Result<T> {
+    // SAFETY: as the caller promises.
+    unsafe { ask_or(call, then, |n, out| Error::named(n, out[0], out[1])) }
 }
 
 #[inline]
 pub(crate) fn header<T>(s: &[u8], then: impl FnOnce(&[u64; HEADER_OUT]) -> T) -> Result<T> {
     // SAFETY: a slice with its own length, and a row of its own; see the top of this file.
-    ask(|out| unsafe { pdb_header(s.as_ptr(), s.len(), out) }, then)
+    unsafe { ask(|out| pdb_header(s.as_ptr(), s.len(), out), then) }
 }
 
 #[inline]
 pub(crate) fn next<T>(s: &[u8], at: usize, index: u32, then: impl FnOnce(&[u64; NEXT_OUT]) -> T) -> Result<T> {
     // SAFETY: a slice with its own length, and a row of its own; see the top of this file.
-    ask(|out| unsafe { pdb_next(s.as_ptr(), s.len(), at, index, out) }, then)
+    unsafe { ask(|out| pdb_next(s.as_ptr(), s.len(), at, index, out), then) }
 }
 
 #[inline]
 pub(crate) fn update<T>(table: &mut [u32], f: Numbers, at: usize, index: u32, then: impl FnOnce(&[u64; UPDATE_OUT]) -> T) -> Result<T> {
     // SAFETY: a slice with its own length, lent by `&mut`, and a row of its own; see the top of this file.
-    ask(
-        |out| unsafe { pdb_update(table.as_mut_ptr(), table.len(), f.minimum, f.maximum, f.held, f.shift, at, index, out) },
-        then,
-    )
+    unsafe {
+        ask(
+            |out| pdb_update(table.as_mut_ptr(), table.len(), f.minimum, f.maximum, f.held, f.shift, at, index, out),
+            then,
+        )
+    }
 }
 
 #[inline]
 pub(crate) fn find<T>(s: &[u8], table: &[u32], f: Numbers, index: u32, then: impl FnOnce(&[u64; FIND_OUT]) -> T) -> Result<T> {
-    let mut passed = 0;
-    let answer = ask(
-        |out| {
-            // SAFETY: slices with their own lengths, only read, and a row of its own; see the top of this file.
-            let number = unsafe {
+    // 1 from `find` has the links passed: told apart here, since of all other calls it has no detail
+    let refused = |n: u32, out: &[u64; FIND_OUT]| match n {
+        1 => Error::EndedAfter(out[0] as u32),
+        n => Error::named(n, out[0], out[1]),
+    };
+    // SAFETY: slices with their own lengths, only read, and a row of its own; see the top of this file.
+    unsafe {
+        ask_or(
+            |out| {
                 pdb_find(
                     s.as_ptr(),
                     s.len(),
@@ -353,42 +380,27 @@ pub(crate) fn find<T>(s: &[u8], table: &[u32], f: Numbers, index: u32, then: imp
                     index,
                     out,
                 )
-            };
-            if number == 1 {
-                // SAFETY: the call has written all of the row, and its first number is the links passed.
-                passed = unsafe { out.read() };
-            }
-            number
-        },
-        then,
-    );
-    match answer {
-        // 1 from `find` has the links passed: told apart here, since of all other calls it has no detail
-        Err(Error::Ended) => Err(Error::EndedAfter(passed as u32)),
-        answer => answer,
+            },
+            then,
+            refused,
+        )
     }
 }
 
 #[inline]
 pub(crate) fn primitive<T>(index: u32, then: impl FnOnce(&[u64; PRIMITIVE_OUT]) -> T) -> Result<T> {
     // SAFETY: a row of its own; see the top of this file.
-    ask(|out| unsafe { pdb_primitive(index, out) }, then)
+    unsafe { ask(|out| pdb_primitive(index, out), then) }
 }
 
 pub(crate) fn create(s: &[u8], table: &mut [u32], shift: u32) -> Result<[u64; CREATE_OUT]> {
     // SAFETY: slices with their own lengths, the written one lent by `&mut`, and a row of its own; see the top of this file.
-    ask(
-        |out| unsafe { pdb_create(s.as_ptr(), s.len(), table.as_mut_ptr(), table.len(), shift, out) },
-        |o| *o,
-    )
+    unsafe { ask(|out| pdb_create(s.as_ptr(), s.len(), table.as_mut_ptr(), table.len(), shift, out), |o| *o) }
 }
 
 pub(crate) fn index(s: &[u8], table: &mut [u32], shift: u32) -> Result<[u64; INDEX_OUT]> {
     // SAFETY: slices with their own lengths, the written one lent by `&mut`, and a row of its own; see the top of this file.
-    ask(
-        |out| unsafe { pdb_index(s.as_ptr(), s.len(), table.as_mut_ptr(), table.len(), shift, out) },
-        |o| *o,
-    )
+    unsafe { ask(|out| pdb_index(s.as_ptr(), s.len(), table.as_mut_ptr(), table.len(), shift, out), |o| *o) }
 }
 
 #[inline]
@@ -399,78 +411,84 @@ pub(crate) fn max_index(f: Numbers) -> u32 {
 
 pub(crate) fn save(s: &[u8], table: &[u32], f: Numbers, buffer: &mut [u8]) -> Result<usize> {
     // SAFETY: slices with their own lengths, the written one lent by `&mut`, and a row of its own; see the top of this file.
-    ask(
-        |out| unsafe {
-            pdb_save(
-                s.as_ptr(),
-                s.len(),
-                table.as_ptr(),
-                table.len(),
-                f.minimum,
-                f.maximum,
-                f.held,
-                f.shift,
-                buffer.as_mut_ptr(),
-                buffer.len(),
-                out,
-            )
-        },
-        |o: &[u64; SAVE_OUT]| o[SAVE_BYTES] as usize,
-    )
+    unsafe {
+        ask(
+            |out| {
+                pdb_save(
+                    s.as_ptr(),
+                    s.len(),
+                    table.as_ptr(),
+                    table.len(),
+                    f.minimum,
+                    f.maximum,
+                    f.held,
+                    f.shift,
+                    buffer.as_mut_ptr(),
+                    buffer.len(),
+                    out,
+                )
+            },
+            |o: &[u64; SAVE_OUT]| o[SAVE_BYTES] as usize,
+        )
+    }
 }
 
 pub(crate) fn load(s: &[u8], file: &[u8], table: &mut [u32]) -> Result<Numbers> {
     // SAFETY: slices with their own lengths, the written one lent by `&mut`, and a row of its own; see the top of this file.
-    ask(
-        |out| unsafe { pdb_load(s.as_ptr(), s.len(), file.as_ptr(), file.len(), table.as_mut_ptr(), table.len(), out) },
-        |o: &[u64; LOAD_OUT]| Numbers {
-            minimum: o[LOAD_MINIMUM] as u32,
-            maximum: o[LOAD_MAXIMUM] as u32,
-            held: o[LOAD_HELD] as usize,
-            shift: o[LOAD_SHIFT] as u32,
-        },
-    )
+    unsafe {
+        ask(
+            |out| pdb_load(s.as_ptr(), s.len(), file.as_ptr(), file.len(), table.as_mut_ptr(), table.len(), out),
+            |o: &[u64; LOAD_OUT]| Numbers {
+                minimum: o[LOAD_MINIMUM] as u32,
+                maximum: o[LOAD_MAXIMUM] as u32,
+                held: o[LOAD_HELD] as usize,
+                shift: o[LOAD_SHIFT] as u32,
+            },
+        )
+    }
 }
 
 #[inline]
 pub(crate) fn type_<T>(s: &[u8], then: impl FnOnce(&[u64; TYPE_OUT]) -> T) -> Result<T> {
     // SAFETY: a slice with its own length, and a row of its own; see the top of this file.
-    ask(|out| unsafe { pdb_type(s.as_ptr(), s.len(), out) }, then)
+    unsafe { ask(|out| pdb_type(s.as_ptr(), s.len(), out), then) }
 }
 
 #[inline]
 pub(crate) fn id<T>(s: &[u8], then: impl FnOnce(&[u64; ID_OUT]) -> T) -> Result<T> {
     // SAFETY: a slice with its own length, and a row of its own; see the top of this file.
-    ask(|out| unsafe { pdb_id(s.as_ptr(), s.len(), out) }, then)
+    unsafe { ask(|out| pdb_id(s.as_ptr(), s.len(), out), then) }
 }
 
 /// An entry of a type stream; a place that is none is a marker's.
 pub(crate) fn parse(tpi: &[u8], index: u32, place: Option<usize>, length: usize) -> Result<[u64; PARSE_OUT]> {
     let none = [];
     // SAFETY: slices with their own lengths, only read, and a row of its own; see the top of this file.
-    ask(
-        |out| unsafe {
-            pdb_parse(
-                tpi.as_ptr(),
-                tpi.len(),
-                none.as_ptr(),
-                0,
-                0,
-                place.is_some().into(),
-                index,
-                place.unwrap_or(0),
-                length,
-                out,
-            )
-        },
-        |o| *o,
-    )
+    unsafe {
+        ask(
+            |out| {
+                pdb_parse(
+                    tpi.as_ptr(),
+                    tpi.len(),
+                    none.as_ptr(),
+                    0,
+                    0,
+                    place.is_some().into(),
+                    index,
+                    place.unwrap_or(0),
+                    length,
+                    out,
+                )
+            },
+            |o| *o,
+        )
+    }
 }
 
 #[inline]
 pub(crate) fn list<T>(s: &[u8], ids: bool, then: impl FnOnce(&[u64; LIST_OUT]) -> T) -> Result<T> {
     // SAFETY: a slice with its own length, and a row of its own; see the top of this file.
-    ask(|out| unsafe { pdb_list(s.as_ptr(), s.len(), ids.into(), out) }, then)
+    unsafe { ask(|out| pdb_list(s.as_ptr(), s.len(), ids.into(), out), then) }
 }
 
 /// Where a list's next element is: what `pdb_list` and `pdb_step` give, and `pdb_step` takes.
@@ -484,10 +502,7 @@ pub(crate) struct Cursor {
 #[inline]
 pub(crate) fn step<T>(s: &[u8], leaf: u16, cursor: Cursor, then: impl FnOnce(&[u64; STEP_OUT]) -> T) -> Result<T> {
     // SAFETY: a slice with its own length, and a row of its own; see the top of this file.
-    ask(
-        |out| unsafe { pdb_step(s.as_ptr(), s.len(), leaf, cursor.at, cursor.left, cursor.padded, out) },
-        then,
-    )
+    unsafe { ask(|out| pdb_step(s.as_ptr(), s.len(), leaf, cursor.at, cursor.left, cursor.padded, out), then) }
 }
 
 pub(crate) fn is_cross_module(index: u32) -> bool {
@@ -496,123 +511,142 @@ pub(crate) fn is_cross_module(index: u32) -> bool {
 }
 
 /// A row of a word: no word is refused, so that the row is given as it stands.
+///
+/// # Safety
+///
+/// As of `ask_or`.
 #[inline(always)]
-fn word<const N: usize>(call: impl FnOnce(*mut u64) -> u32) -> [u64; N] {
-    ask(call, |o: &[u64; N]| *o).unwrap_or([0; N])
+unsafe fn word<const N: usize>(call: impl FnOnce(*mut u64) -> u32) -> [u64; N] {
+    // SAFETY: as the caller promises.
+    unsafe { ask(call, |o: &[u64; N]| *o) }.unwrap_or([0; N])
 }
 
 pub(crate) fn properties(n: u16) -> [u64; PROPERTIES_OUT] {
     // SAFETY: a row of its own; see the top of this file.
-    word(|out| unsafe { pdb_properties(n, out) })
+    unsafe { word(|out| pdb_properties(n, out)) }
 }
 
 pub(crate) fn field_attributes(n: u16) -> [u64; FIELD_OUT] {
     // SAFETY: a row of its own; see the top of this file.
-    word(|out| unsafe { pdb_field_attributes(n, out) })
+    unsafe { word(|out| pdb_field_attributes(n, out)) }
 }
 
 pub(crate) fn function_attributes(n: u16) -> [u64; FUNCTION_OUT] {
     // SAFETY: a row of its own; see the top of this file.
-    word(|out| unsafe { pdb_function_attributes(n, out) })
+    unsafe { word(|out| pdb_function_attributes(n, out)) }
 }
 
 pub(crate) fn pointer_attributes(n: u32) -> [u64; POINTER_OUT] {
     // SAFETY: a row of its own; see the top of this file.
-    word(|out| unsafe { pdb_pointer_attributes(n, out) })
+    unsafe { word(|out| pdb_pointer_attributes(n, out)) }
 }
 
 pub(crate) fn declare(s: &[u8], table: &[u32], f: Numbers, index: u32, buffer: &mut [u8]) -> Result<usize> {
     // SAFETY: slices with their own lengths, the written one lent by `&mut`, and a row of its own; see the top of this file.
-    ask(
-        |out| unsafe {
-            pdb_declare(
-                s.as_ptr(),
-                s.len(),
-                table.as_ptr(),
-                table.len(),
-                f.minimum,
-                f.maximum,
-                f.held,
-                f.shift,
-                index,
-                buffer.as_mut_ptr(),
-                buffer.len(),
-                out,
-            )
-        },
-        |o: &[u64; DECLARE_OUT]| o[DECLARE_BYTES] as usize,
-    )
+    unsafe {
+        ask(
+            |out| {
+                pdb_declare(
+                    s.as_ptr(),
+                    s.len(),
+                    table.as_ptr(),
+                    table.len(),
+                    f.minimum,
+                    f.maximum,
+                    f.held,
+                    f.shift,
+                    index,
+                    buffer.as_mut_ptr(),
+                    buffer.len(),
+                    out,
+                )
+            },
+            |o: &[u64; DECLARE_OUT]| o[DECLARE_BYTES] as usize,
+        )
+    }
 }
 
 pub(crate) fn section_start(s: &[u8]) -> Result<(usize, u32)> {
     // SAFETY: a slice with its own length, and a row of its own; see the top of this file.
-    ask(
-        |out| unsafe { pdb_section_start(s.as_ptr(), s.len(), out) },
-        |o: &[u64; SECTION_START_OUT]| (o[SECTION_START_AT] as usize, o[SECTION_START_INDEX] as u32),
-    )
+    unsafe {
+        ask(
+            |out| pdb_section_start(s.as_ptr(), s.len(), out),
+            |o: &[u64; SECTION_START_OUT]| (o[SECTION_START_AT] as usize, o[SECTION_START_INDEX] as u32),
+        )
+    }
 }
 
 pub(crate) fn section_count(s: &[u8]) -> Result<u64> {
     // SAFETY: a slice with its own length, and a row of its own; see the top of this file.
-    ask(
-        |out| unsafe { pdb_section_count(s.as_ptr(), s.len(), out) },
-        |o: &[u64; SECTION_COUNT_OUT]| o[SECTION_COUNT_RECORDS],
-    )
+    unsafe {
+        ask(
+            |out| pdb_section_count(s.as_ptr(), s.len(), out),
+            |o: &[u64; SECTION_COUNT_OUT]| o[SECTION_COUNT_RECORDS],
+        )
+    }
 }
 
 pub(crate) fn section_create(s: &[u8], table: &mut [u32], shift: u32) -> Result<[u64; CREATE_OUT]> {
     // SAFETY: slices with their own lengths, the written one lent by `&mut`, and a row of its own; see the top of this file.
-    ask(
-        |out| unsafe { pdb_section_create(s.as_ptr(), s.len(), table.as_mut_ptr(), table.len(), shift, out) },
-        |o| *o,
-    )
+    unsafe {
+        ask(
+            |out| pdb_section_create(s.as_ptr(), s.len(), table.as_mut_ptr(), table.len(), shift, out),
+            |o| *o,
+        )
+    }
 }
 
 pub(crate) fn section_index(s: &[u8], table: &mut [u32], shift: u32) -> Result<[u64; INDEX_OUT]> {
     // SAFETY: slices with their own lengths, the written one lent by `&mut`, and a row of its own; see the top of this file.
-    ask(
-        |out| unsafe { pdb_section_index(s.as_ptr(), s.len(), table.as_mut_ptr(), table.len(), shift, out) },
-        |o| *o,
-    )
+    unsafe {
+        ask(
+            |out| pdb_section_index(s.as_ptr(), s.len(), table.as_mut_ptr(), table.len(), shift, out),
+            |o| *o,
+        )
+    }
 }
 
 pub(crate) fn section_stream(s: &[u8], buffer: &mut [u8]) -> Result<usize> {
     // SAFETY: slices with their own lengths, the written one lent by `&mut`, and a row of its own; see the top of this file.
-    ask(
-        |out| unsafe { pdb_section_stream(s.as_ptr(), s.len(), buffer.as_mut_ptr(), buffer.len(), out) },
-        |o: &[u64; SECTION_STREAM_OUT]| o[SECTION_STREAM_BYTES] as usize,
-    )
+    unsafe {
+        ask(
+            |out| pdb_section_stream(s.as_ptr(), s.len(), buffer.as_mut_ptr(), buffer.len(), out),
+            |o: &[u64; SECTION_STREAM_OUT]| o[SECTION_STREAM_BYTES] as usize,
+        )
+    }
 }
 
 #[inline]
 pub(crate) fn section_read<T>(s: &[u8], index: u32, place: usize, length: usize, then: impl FnOnce(&[u64; PARSE_OUT]) -> T) -> Result<T> {
     // SAFETY: a slice with its own length, and a row of its own; see the top of this file.
-    ask(|out| unsafe { pdb_section_read(s.as_ptr(), s.len(), index, place, length, out) }, then)
+    unsafe { ask(|out| pdb_section_read(s.as_ptr(), s.len(), index, place, length, out), then) }
 }
 
 pub(crate) fn fit(s: &[u8]) -> Result<[u64; FIT_OUT]> {
     // SAFETY: a slice with its own length, and a row of its own; see the top of this file.
-    ask(|out| unsafe { pdb_fit(s.as_ptr(), s.len(), out) }, |o| *o)
+    unsafe { ask(|out| pdb_fit(s.as_ptr(), s.len(), out), |o| *o) }
 }
 
 pub(crate) fn drop(s: &[u8], roots: &[u32], table: &mut [u32], buffer: &mut [u8]) -> Result<usize> {
     // SAFETY: slices with their own lengths, the written ones lent by `&mut`, and a row of its own; see the top of this file.
-    ask(
-        |out| unsafe {
-            pdb_drop(
-                s.as_ptr(),
-                s.len(),
-                roots.as_ptr(),
-                roots.len(),
-                table.as_mut_ptr(),
-                table.len(),
-                buffer.as_mut_ptr(),
-                buffer.len(),
-                out,
-            )
-        },
-        |o: &[u64; DROP_OUT]| o[DROP_BYTES] as usize,
-    )
+    unsafe {
+        ask(
+            |out| {
+                pdb_drop(
+                    s.as_ptr(),
+                    s.len(),
+                    roots.as_ptr(),
+                    roots.len(),
+                    table.as_mut_ptr(),
+                    table.len(),
+                    buffer.as_mut_ptr(),
+                    buffer.len(),
+                    out,
+                )
+            },
+            |o: &[u64; DROP_OUT]| o[DROP_BYTES] as usize,
+        )
+    }
 }
 
 /// A report's numbers, as `pdb_report` has them behind `out[REPORT_TAKEN]`.
@@ -620,26 +654,28 @@ pub(crate) type ReportNumbers = [u64; REPORT_OUT - REPORT_TAKEN];
 
 pub(crate) fn report(s: &[u8], n: &ReportNumbers, table: &mut [u64; REPORT_TABLE]) -> Result<ReportNumbers> {
     // SAFETY: a slice with its own length, a table of the length that the header names, lent by `&mut`, and a row of its own; see the top of this file.
-    ask(
-        |out| unsafe {
-            pdb_report(
-                s.as_ptr(),
-                s.len(),
-                n[0],
-                n[1],
-                n[2],
-                n[3],
-                n[4],
-                n[5],
-                n[6],
-                n[7] as u32,
-                n[8],
-                table.as_mut_ptr(),
-                out,
-            )
-        },
-        |o: &[u64; REPORT_OUT]| std::array::from_fn(|k| o[REPORT_TAKEN + k]),
-    )
+    unsafe {
+        ask(
+            |out| {
+                pdb_report(
+                    s.as_ptr(),
+                    s.len(),
+                    n[0],
+                    n[1],
+                    n[2],
+                    n[3],
+                    n[4],
+                    n[5],
+                    n[6],
+                    n[7] as u32,
+                    n[8],
+                    table.as_mut_ptr(),
+                    out,
+                )
+            },
+            |o: &[u64; REPORT_OUT]| std::array::from_fn(|k| o[REPORT_TAKEN + k]),
+        )
+    }
 }
 
 pub(crate) fn layout(which: u32, leaf: u16) -> u64 {
@@ -649,10 +685,12 @@ pub(crate) fn layout(which: u32, leaf: u16) -> u64 {
 
 pub(crate) fn cells(s: &[u8], ids: bool, cells: &mut [u64; CELLS]) -> Result<u16> {
     // SAFETY: a slice with its own length, cells of the length that the header names, lent by `&mut`, and a row of its own; see the top of this file.
-    ask(
-        |out| unsafe { pdb_cells(s.as_ptr(), s.len(), ids.into(), cells.as_mut_ptr(), out) },
-        |o: &[u64; CELLS_OUT]| o[CELLS_LEAF] as u16,
-    )
+    unsafe {
+        ask(
+            |out| pdb_cells(s.as_ptr(), s.len(), ids.into(), cells.as_mut_ptr(), out),
+            |o: &[u64; CELLS_OUT]| o[CELLS_LEAF] as u16,
+        )
+    }
 }
 
 /// The place behind what was written.
@@ -665,28 +703,34 @@ pub(crate) fn write_record(text: &[u8], ids: bool, leaf: u16, cells: &[u64; CELL
     let write = if ids { pdb_write_id } else { pdb_write_type };
     // SAFETY: slices with their own lengths, the written one lent by `&mut`, cells of the length that the header names, and a row of its own; see the top of
     // this file. Both functions have the same duties.
-    ask(
-        |out| unsafe { write(text.as_ptr(), text.len(), leaf, cells.as_ptr(), buffer.as_mut_ptr(), buffer.len(), at, out) },
-        written,
-    )
+    unsafe {
+        ask(
+            |out| write(text.as_ptr(), text.len(), leaf, cells.as_ptr(), buffer.as_mut_ptr(), buffer.len(), at, out),
+            written,
+        )
+    }
 }
 
 pub(crate) fn write_rows(text: &[u8], methods: bool, rows: &[[u64; ROW]], buffer: &mut [u8], at: usize) -> Result<usize> {
     let write = if methods { pdb_write_methods } else { pdb_write_fields };
     // SAFETY: slices with their own lengths, the written one lent by `&mut`, and a row of its own; see the top of this file. Both functions have the same
     // duties.
-    ask(
-        |out| unsafe { write(text.as_ptr(), text.len(), rows.as_ptr(), rows.len(), buffer.as_mut_ptr(), buffer.len(), at, out) },
-        written,
-    )
+    unsafe {
+        ask(
+            |out| write(text.as_ptr(), text.len(), rows.as_ptr(), rows.len(), buffer.as_mut_ptr(), buffer.len(), at, out),
+            written,
+        )
+    }
 }
 
 pub(crate) fn write_header(fields: &[u32; 13], hash_stream: u16, hash_pad_stream: u16, buffer: &mut [u8], at: usize) -> Result<usize> {
     // SAFETY: a slice with its own length, lent by `&mut`, thirteen fields, and a row of its own; see the top of this file.
-    ask(
-        |out| unsafe { pdb_write_header(fields.as_ptr(), hash_stream, hash_pad_stream, buffer.as_mut_ptr(), buffer.len(), at, out) },
-        written,
-    )
+    unsafe {
+        ask(
+            |out| pdb_write_header(fields.as_ptr(), hash_stream, hash_pad_stream, buffer.as_mut_ptr(), buffer.len(), at, out),
+            written,
+        )
+    }
 }
 
 #[cfg(test)]

@@ -134,7 +134,7 @@ impl<'s> Types<'s> {
         let mut buffer = vec![0; 128];
         loop {
             match self.declare_into(index, &mut buffer) {
-                Err(Error::NoRoom) if buffer.len() < DECLARATION_LIMIT => buffer = vec![0; 4 * buffer.len()],
+                Err(Error::NoRoom) if buffer.len() < DECLARATION_LIMIT => buffer = vec![0; (4 * buffer.len()).min(DECLARATION_LIMIT)],
                 answer => {
                     buffer.truncate(answer?);
                     return Ok(buffer);

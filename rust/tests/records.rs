@@ -1,7 +1,7 @@
 //! Every record and every element of the samples, by this crate's types; and small records, each with what it must hold.
 use pdb_types::{
     cells, layout, ArrayType, Cell, ClassKind, Code, Error, FieldAttributes, Form, Id, IdData, IdIndex, IdInformation, Layouts, Leaf, Member, PointerMode,
-    RawString, Type, TypeData, TypeIndex, TypeInformation, Types, UserDefinedTypeSourceFileRef, Variant,
+    RawString, Type, TypeData, TypeIndex, TypeInformation, Types, UserDefinedTypeSourceFileRef, Variant, DECLARATION_LIMIT,
 };
 use std::collections::BTreeMap;
 use std::path::PathBuf;
@@ -240,6 +240,39 @@ fn declarations() {
     // longer than the first buffer
     let long: Vec<_> = types.iter().filter_map(|item| types.declare(item.unwrap().index()).ok()).collect();
     assert!(long.iter().all(|text| !text.is_empty()) && long.len() > 30);
+}
+
+/// Procedures that take the one before twice, and so on: the text doubles with each, and is refused at the limit.
+#[test]
+fn a_declaration_has_a_limit() {
+    let mut s = sample("e.tpi")[..56].to_vec();
+    for k in 0..15u32 {
+        let inner = if k == 0 { 0x74 } else { 0x1000 + 2 * k - 1 };
+        s.extend(hex("0e00 0112 02000000"));
+        s.extend([inner.to_le_bytes(), inner.to_le_bytes()].concat());
+        s.extend(hex("0e00 0810 74000000 0000 0200"));
+        s.extend((0x1000 + 2 * k).to_le_bytes());
+    }
+    s[12..16].copy_from_slice(&(0x1000 + 30u32).to_le_bytes());
+    let types = Types::parse(&s).unwrap();
+    assert_eq!(types.end(), None);
+    assert_eq!(types.declare(TypeIndex(0x1001)).unwrap(), "int (int, int)");
+    let lengths: Vec<usize> = (0..15)
+        .map_while(|k| types.declare(TypeIndex(0x1001 + 2 * k)).ok())
+        .map(|text| text.len())
+        .collect();
+    assert!(lengths.windows(2).all(|two| two[1] > 2 * two[0] && two[1] < 3 * two[0]), "{lengths:?}");
+    assert!(*lengths.last().unwrap() <= DECLARATION_LIMIT);
+    let mut deeper = s.clone();
+    for k in 15..17u32 {
+        deeper.extend(hex("0e00 0112 02000000"));
+        deeper.extend([(0x1000 + 2 * k - 1).to_le_bytes(), (0x1000 + 2 * k - 1).to_le_bytes()].concat());
+        deeper.extend(hex("0e00 0810 74000000 0000 0200"));
+        deeper.extend((0x1000 + 2 * k).to_le_bytes());
+    }
+    deeper[12..16].copy_from_slice(&(0x1000 + 34u32).to_le_bytes());
+    let last = Types::parse(&deeper).unwrap().declare(TypeIndex(0x1000 + 33));
+    assert!(matches!(last, Err(Error::NoRoom | Error::TooDeep)), "{:?}", last.map(|text| text.len()));
 }
 
 #[test]

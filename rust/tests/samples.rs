@@ -179,3 +179,21 @@ fn errors_by_name_and_number() {
     assert_eq!(Error::EndedAfter(0).number(), 1);
     assert_eq!(Error::Shift.number(), 26);
 }
+
+/// What holds bytes and numbers alone can go to another thread.
+#[test]
+fn threads() {
+    fn sent<T: Send + Sync>() {}
+    sent::<pdb_types::Types<'_>>();
+    sent::<pdb_types::TypeData<'_>>();
+    sent::<pdb_types::Report>();
+    sent::<pdb_types::Writer>();
+    sent::<Error>();
+    let s = sample("rich-x64.tpi");
+    let types = pdb_types::Types::parse(&s).expect("a stream");
+    std::thread::scope(|scope| {
+        for _ in 0..2 {
+            scope.spawn(|| types.iter().for_each(|item| drop(types.declare(item.expect("a record").index()))));
+        }
+    });
+}
