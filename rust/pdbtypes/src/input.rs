@@ -60,6 +60,17 @@ pub fn name(word: &OsStr) -> String {
     }
 }
 
+/// Whether a file, and nothing that can be read but once, begins as a program database does. It may be large, and only the tool needs to read it.
+fn is_database_file(word: &OsStr) -> bool {
+    let begins = || -> io::Result<bool> {
+        let mut file = std::fs::File::open(word)?;
+        let mut first = [0; DATABASE.len()];
+        Ok(file.read_exact(&mut first).is_ok() && first == DATABASE)
+    };
+    // a fifo is not opened: that would take its writer's bytes
+    word != "-" && std::fs::metadata(word).is_ok_and(|about| about.is_file()) && begins().unwrap_or(false)
+}
+
 /// The bytes of a file, or of standard input for `-`.
 pub fn bytes(word: &OsStr) -> Result<Vec<u8>, Failure> {
     let cannot = |e: io::Error| Failure::File(name(word), format!("cannot be read: {}", reason(&e)));
@@ -92,6 +103,11 @@ impl Input {
 
     /// A file. A stream is taken out of a database, and a section out of an object file, by the tools that do so.
     pub fn open(word: &OsStr, ids: bool) -> Result<Input, Failure> {
+        if is_database_file(word) {
+            let bytes = extract::stream(word, None, ids)?;
+            let (name, kind, ids) = (name(word), Kind::Stream, ids || is_ids(&bytes));
+            return Ok(Input { name, bytes, kind, ids });
+        }
         Input::told(word, bytes(word)?, ids)
     }
 
@@ -99,8 +115,8 @@ impl Input {
     pub fn told(word: &OsStr, mut bytes: Vec<u8>, ids: bool) -> Result<Input, Failure> {
         let (name, mut kind) = (name(word), kind(&bytes));
         match kind {
-            Kind::Database => bytes = extract::stream(word, &bytes, ids)?,
-            Kind::Object => bytes = extract::section(word, &bytes)?,
+            Kind::Database => bytes = extract::stream(word, Some(&bytes), ids)?,
+            Kind::Object => bytes = extract::section(word, Some(&bytes))?,
             Kind::Places => {
                 let why = "a places file, which goes with its stream: pdbtypes lookup STREAM PLACES INDEX";
                 return Err(Failure::File(name, why.to_string()));
