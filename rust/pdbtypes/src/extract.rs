@@ -85,7 +85,7 @@ fn taken(word: &OsStr, bytes: Option<&[u8]>, tools: &[String], words: impl Fn(&P
 }
 
 /// A name for a shell's command line.
-fn quoted(word: &OsStr) -> String {
+pub fn quoted(word: &OsStr) -> String {
     let name = if word == "-" { "FILE".into() } else { word.to_string_lossy() };
     let plain = |c: char| c.is_ascii_alphanumeric() || "/._-+,:@%=".contains(c);
     if !name.is_empty() && name.chars().all(plain) {

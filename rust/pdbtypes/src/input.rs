@@ -19,6 +19,10 @@ pub enum Kind {
     Database,
     /// An object file.
     Object,
+    /// A library of object files.
+    Library,
+    /// A program or a DLL.
+    Program,
 }
 
 /// How a program database begins.
@@ -47,6 +51,10 @@ pub fn kind(bytes: &[u8]) -> Kind {
     }
     match bytes {
         [4, 0, 0, 0, ..] => Kind::Section,
+        // an object file of more sections than its first form counts
+        [0, 0, 0xff, 0xff, ..] => Kind::Object,
+        [b'M', b'Z', ..] => Kind::Program,
+        _ if bytes.starts_with(b"!<arch>\n") => Kind::Library,
         [low, high, ..] if MACHINES.contains(&u16::from_le_bytes([*low, *high])) => Kind::Object,
         _ => Kind::Stream,
     }
@@ -117,11 +125,19 @@ impl Input {
         match kind {
             Kind::Database => bytes = extract::stream(word, Some(&bytes), ids)?,
             Kind::Object => bytes = extract::section(word, Some(&bytes))?,
+            Kind::Stream | Kind::Section => {}
             Kind::Places => {
                 let why = "a places file, which goes with its stream: pdbtypes lookup STREAM PLACES INDEX";
                 return Err(Failure::File(name, why.to_string()));
             }
-            Kind::Stream | Kind::Section => {}
+            Kind::Library => {
+                let why = format!("a library of object files; get them out by: ar x {}", extract::quoted(word));
+                return Err(Failure::File(name, why));
+            }
+            Kind::Program => {
+                let why = "a program or a DLL, whose types are in its program database, a file that ends in .pdb";
+                return Err(Failure::File(name, why.to_string()));
+            }
         }
         kind = match kind {
             Kind::Object => Kind::Section,
@@ -177,6 +193,9 @@ mod tests {
         assert_eq!(kind(&sample("rich-x64.debugT")), Kind::Section);
         assert_eq!(kind(b"Microsoft C/C++ MSF 7.00\r\n"), Kind::Database);
         assert_eq!(kind(b"\x64\x86\x08\0"), Kind::Object);
+        assert_eq!(kind(b"\0\0\xff\xff\x02\0"), Kind::Object);
+        assert_eq!(kind(b"!<arch>\n"), Kind::Library);
+        assert_eq!(kind(b"MZ\x90\0"), Kind::Program);
         assert_eq!(kind(b""), Kind::Stream);
         assert_eq!(kind(b"PTIX"), Kind::Stream);
         assert_eq!(kind(b"\0\0\0\0\x0c\0\0\0PTIX"), Kind::Places);
