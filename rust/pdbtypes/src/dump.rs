@@ -10,6 +10,18 @@ use crate::progress::Progress;
 use pdb_types::{Error, IdData, Type, TypeIndex, Types, Variant};
 use std::io::Write;
 
+/// The longest declaration that stands beside an index. Types that name one another many times over can stand for texts of any length, and here they are
+/// printed once for each reference.
+const LONGEST: usize = 4096;
+
+/// The declaration of a type, refused where it is longer than that.
+pub fn short_declaration(types: &Types<'_>, index: TypeIndex) -> Result<Vec<u8>, Error> {
+    let mut text = vec![0; LONGEST];
+    let length = types.declare_into(index, &mut text)?;
+    text.truncate(length);
+    Ok(text)
+}
+
 /// A stream whose records are printed. In an id stream the type indices are those of another stream, so that they have no declarations.
 pub struct Dump<'s> {
     pub types: Types<'s>,
@@ -27,7 +39,7 @@ impl<'s> Dump<'s> {
         if self.ids && !index.is_primitive() {
             return None;
         }
-        self.types.declare_bytes(index).ok()
+        short_declaration(&self.types, index).ok()
     }
 
     /// The name or string of an id, if it has one.

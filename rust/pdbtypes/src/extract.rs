@@ -4,7 +4,7 @@ use crate::input;
 use std::ffi::{OsStr, OsString};
 use std::io;
 use std::path::{Path, PathBuf};
-use std::process::{Command, Output, Stdio};
+use std::process::{Command, Stdio};
 
 /// A folder of its own for what the tools write, which goes with it.
 struct Scratch(PathBuf);
@@ -28,16 +28,30 @@ impl Drop for Scratch {
     }
 }
 
-/// Runs the first of some tools that is there; none where there is none.
-fn first_of(tools: &[String], words: &[OsString]) -> io::Result<Option<(String, Output)>> {
+/// What came of the tools.
+enum Ran {
+    Taken(Vec<u8>),
+    /// The first of them that is there, and what it said.
+    Failed(String, Vec<u8>),
+    Missing,
+}
+
+/// Runs the tools that are there, one after the other, until one has written a file. One may know a kind of file that another does not.
+fn first_of(tools: &[String], words: &[OsString], wanted: &Path) -> io::Result<Ran> {
+    let mut ran = Ran::Missing;
     for tool in tools {
-        match Command::new(tool).args(words).stdin(Stdio::null()).output() {
-            Ok(output) => return Ok(Some((tool.clone(), output))),
+        let output = match Command::new(tool).args(words).stdin(Stdio::null()).output() {
             Err(e) if e.kind() == io::ErrorKind::NotFound => continue,
-            Err(e) => return Err(e),
+            output => output?,
+        };
+        if output.status.success() && wanted.exists() {
+            return std::fs::read(wanted).map(Ran::Taken);
+        }
+        if let Ran::Missing = ran {
+            ran = Ran::Failed(tool.clone(), output.stderr);
         }
     }
-    Ok(None)
+    Ok(ran)
 }
 
 /// An option and a path behind it in one word, as both tools want them.
@@ -47,28 +61,31 @@ fn joined(option: &str, path: &Path) -> OsString {
     word
 }
 
-/// What one of the tools takes out of a file into another, or why not. The words are made from the file to read and the one to write.
-fn taken(word: &OsStr, bytes: &[u8], tools: &[String], words: impl Fn(&Path, &Path) -> Vec<OsString>, missing: String) -> Result<Vec<u8>, Failure> {
+/// What one of the tools takes out of a file, or why not. The bytes are those of what is no file that the tool could read itself, such as a pipe. The words are
+/// made from the file to read and the one to write.
+fn taken(word: &OsStr, bytes: Option<&[u8]>, tools: &[String], words: impl Fn(&Path, &Path) -> Vec<OsString>, missing: String) -> Result<Vec<u8>, Failure> {
     let name = input::name(word);
     let cannot = |e: io::Error| Failure::File(name.clone(), format!("cannot be taken out: {}", reason(&e)));
     let scratch = Scratch::new().map_err(cannot)?;
-    let (given, wanted) = (scratch.0.join("given"), scratch.0.join("wanted"));
-    // the bytes that were looked at are the ones that the tool gets, whether they came from a file or from a pipe
-    std::fs::write(&given, bytes).map_err(cannot)?;
-    let Some((tool, output)) = first_of(tools, &words(&given, &wanted)).map_err(cannot)? else {
-        return Err(Failure::File(name, missing));
-    };
-    if !output.status.success() || !wanted.exists() {
-        let said = String::from_utf8_lossy(&output.stderr).into_owned();
-        let given = given.to_string_lossy().into_owned();
-        let line = said.lines().next().unwrap_or("it gave no reason").replace(&given, &name);
-        return Err(Failure::File(name, format!("{tool} takes nothing out of it: {line}")));
+    let (mut given, wanted) = (scratch.0.join("given"), scratch.0.join("wanted"));
+    match bytes {
+        Some(bytes) => std::fs::write(&given, bytes).map_err(cannot)?,
+        // a name that starts as an option does is no option behind a folder's
+        None => given = Path::new(".").join(word),
     }
-    std::fs::read(&wanted).map_err(cannot)
+    match first_of(tools, &words(&given, &wanted), &wanted).map_err(cannot)? {
+        Ran::Taken(bytes) => Ok(bytes),
+        Ran::Missing => Err(Failure::File(name, missing)),
+        Ran::Failed(tool, said) => {
+            let said = String::from_utf8_lossy(&said).replace(&*given.to_string_lossy(), &name);
+            let line = said.lines().next().unwrap_or("it gave no reason");
+            Err(Failure::File(name, format!("{tool} takes nothing out of it: {line}")))
+        }
+    }
 }
 
 /// A name for a shell's command line.
-fn quoted(word: &OsStr) -> String {
+pub fn quoted(word: &OsStr) -> String {
     let name = if word == "-" { "FILE".into() } else { word.to_string_lossy() };
     let plain = |c: char| c.is_ascii_alphanumeric() || "/._-+,:@%=".contains(c);
     if !name.is_empty() && name.chars().all(plain) {
@@ -77,10 +94,15 @@ fn quoted(word: &OsStr) -> String {
     format!("'{}'", name.replace('\'', "'\\''"))
 }
 
+/// The names of a tool of LLVM, as Debian has them.
+fn versions(tool: &str) -> Vec<String> {
+    let numbered = (11..=30).rev().map(|n| format!("{tool}-{n}"));
+    std::iter::once(tool.to_string()).chain(numbered).collect()
+}
+
 /// The type stream of a program database, or its id stream.
-pub fn stream(word: &OsStr, bytes: &[u8], ids: bool) -> Result<Vec<u8>, Failure> {
-    let tool = "llvm-pdbutil".to_string();
-    let tools: Vec<String> = std::iter::once(tool.clone()).chain((11..=30).rev().map(|n| format!("{tool}-{n}"))).collect();
+pub fn stream(word: &OsStr, bytes: Option<&[u8]>, ids: bool) -> Result<Vec<u8>, Failure> {
+    let tools = versions("llvm-pdbutil");
     let (number, kind, file) = if ids { (4, "id", "ids.ipi") } else { (2, "type", "types.tpi") };
     let missing = format!(
         "a whole program database; get its {kind} stream out by: llvm-pdbutil export --stream={number} --out={file} {}",
@@ -98,8 +120,12 @@ pub fn stream(word: &OsStr, bytes: &[u8], ids: bool) -> Result<Vec<u8>, Failure>
 }
 
 /// The section `.debug$T` of an object file.
-pub fn section(word: &OsStr, bytes: &[u8]) -> Result<Vec<u8>, Failure> {
-    let tools = ["objcopy", "x86_64-linux-gnu-objcopy", "x86_64-w64-mingw32-objcopy"].map(str::to_string);
+pub fn section(word: &OsStr, bytes: Option<&[u8]>) -> Result<Vec<u8>, Failure> {
+    // GNU's knows x86 and x86-64 alone, LLVM's takes sections out of object files of Windows since a later version than 14
+    let mut tools = ["objcopy", "x86_64-w64-mingw32-objcopy", "aarch64-w64-mingw32-objcopy"]
+        .map(str::to_string)
+        .to_vec();
+    tools.extend(versions("llvm-objcopy"));
     let missing = format!(
         "an object file; get its types out by: objcopy --dump-section '.debug$T'=types.bin {} /dev/null",
         quoted(word)
@@ -109,7 +135,8 @@ pub fn section(word: &OsStr, bytes: &[u8]) -> Result<Vec<u8>, Failure> {
             "--dump-section".into(),
             joined(".debug$T=", wanted),
             given.as_os_str().to_owned(),
-            "/dev/null".into(),
+            // a copy of the whole, which nobody wants
+            joined("", &wanted.with_extension("rest")),
         ]
     };
     taken(word, bytes, &tools, words, missing)

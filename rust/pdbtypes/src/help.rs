@@ -31,7 +31,8 @@ The last one, `end`, has the number of records; it is missing where the stream i
         about: "every field of every record by its name",
         help: "\
 A record has a line with its index, its leaf, its payload's length and its declaration, and a line for each field.
-A type stands by its index and its declaration. A record that no reader takes has its refusal in place of its fields.
+A type stands by its index and its declaration, if that has at most 4,096 bytes. A record that no reader takes has its
+refusal in place of its fields. In an id stream types stand by their indices alone: they are of the type stream.
 
     pdbtypes dump samples/e.tpi
         4096 LF_MODIFIER, 8 bytes: const int

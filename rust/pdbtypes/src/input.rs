@@ -19,6 +19,10 @@ pub enum Kind {
     Database,
     /// An object file.
     Object,
+    /// A library of object files.
+    Library,
+    /// A program or a DLL.
+    Program,
 }
 
 /// How a program database begins.
@@ -47,6 +51,10 @@ pub fn kind(bytes: &[u8]) -> Kind {
     }
     match bytes {
         [4, 0, 0, 0, ..] => Kind::Section,
+        // an object file of more sections than its first form counts
+        [0, 0, 0xff, 0xff, ..] => Kind::Object,
+        [b'M', b'Z', ..] => Kind::Program,
+        _ if bytes.starts_with(b"!<arch>\n") => Kind::Library,
         [low, high, ..] if MACHINES.contains(&u16::from_le_bytes([*low, *high])) => Kind::Object,
         _ => Kind::Stream,
     }
@@ -58,6 +66,17 @@ pub fn name(word: &OsStr) -> String {
         Some("-") => "standard input".to_string(),
         _ => word.to_string_lossy().into_owned(),
     }
+}
+
+/// Whether a file, and nothing that can be read but once, begins as a program database does. It may be large, and only the tool needs to read it.
+fn is_database_file(word: &OsStr) -> bool {
+    let begins = || -> io::Result<bool> {
+        let mut file = std::fs::File::open(word)?;
+        let mut first = [0; DATABASE.len()];
+        Ok(file.read_exact(&mut first).is_ok() && first == DATABASE)
+    };
+    // a fifo is not opened: that would take its writer's bytes
+    word != "-" && std::fs::metadata(word).is_ok_and(|about| about.is_file()) && begins().unwrap_or(false)
 }
 
 /// The bytes of a file, or of standard input for `-`.
@@ -92,6 +111,11 @@ impl Input {
 
     /// A file. A stream is taken out of a database, and a section out of an object file, by the tools that do so.
     pub fn open(word: &OsStr, ids: bool) -> Result<Input, Failure> {
+        if is_database_file(word) {
+            let bytes = extract::stream(word, None, ids)?;
+            let (name, kind, ids) = (name(word), Kind::Stream, ids || is_ids(&bytes));
+            return Ok(Input { name, bytes, kind, ids });
+        }
         Input::told(word, bytes(word)?, ids)
     }
 
@@ -99,13 +123,21 @@ impl Input {
     pub fn told(word: &OsStr, mut bytes: Vec<u8>, ids: bool) -> Result<Input, Failure> {
         let (name, mut kind) = (name(word), kind(&bytes));
         match kind {
-            Kind::Database => bytes = extract::stream(word, &bytes, ids)?,
-            Kind::Object => bytes = extract::section(word, &bytes)?,
+            Kind::Database => bytes = extract::stream(word, Some(&bytes), ids)?,
+            Kind::Object => bytes = extract::section(word, Some(&bytes))?,
+            Kind::Stream | Kind::Section => {}
             Kind::Places => {
                 let why = "a places file, which goes with its stream: pdbtypes lookup STREAM PLACES INDEX";
                 return Err(Failure::File(name, why.to_string()));
             }
-            Kind::Stream | Kind::Section => {}
+            Kind::Library => {
+                let why = format!("a library of object files; get them out by: ar x {}", extract::quoted(word));
+                return Err(Failure::File(name, why));
+            }
+            Kind::Program => {
+                let why = "a program or a DLL, whose types are in its program database, a file that ends in .pdb";
+                return Err(Failure::File(name, why.to_string()));
+            }
         }
         kind = match kind {
             Kind::Object => Kind::Section,
@@ -161,6 +193,9 @@ mod tests {
         assert_eq!(kind(&sample("rich-x64.debugT")), Kind::Section);
         assert_eq!(kind(b"Microsoft C/C++ MSF 7.00\r\n"), Kind::Database);
         assert_eq!(kind(b"\x64\x86\x08\0"), Kind::Object);
+        assert_eq!(kind(b"\0\0\xff\xff\x02\0"), Kind::Object);
+        assert_eq!(kind(b"!<arch>\n"), Kind::Library);
+        assert_eq!(kind(b"MZ\x90\0"), Kind::Program);
         assert_eq!(kind(b""), Kind::Stream);
         assert_eq!(kind(b"PTIX"), Kind::Stream);
         assert_eq!(kind(b"\0\0\0\0\x0c\0\0\0PTIX"), Kind::Places);

@@ -1,5 +1,6 @@
 //! `outline`: classes, unions and enumerations with their members.
 use crate::args::Call;
+use crate::dump::short_declaration;
 use crate::fail::Failure;
 use crate::input::Input;
 use crate::output::{self, shown, Out};
@@ -33,9 +34,9 @@ fn access(attributes: FieldAttributes) -> &'static str {
 }
 
 impl<'s> Outline<'s, '_> {
-    /// The declaration of a type; its index as `#4123` where it has none.
+    /// The declaration of a type; its index as `#4123` where it has none, or one that is too long.
     fn declared(&self, index: TypeIndex) -> String {
-        match self.resolved.declare_bytes(index) {
+        match short_declaration(&self.resolved, index) {
             Ok(text) => shown(&text),
             Err(_) => format!("#{}", index.0),
         }

@@ -208,7 +208,14 @@ pub fn report(call: &Call) -> Result<(), Failure> {
     }
     let (mut report, mut files, mut refused, mut wrong) = (Report::new(), Vec::new(), Vec::new(), Vec::new());
     for word in words {
-        let input = Input::open(word, call.ids)?.into_stream()?;
+        let input = match Input::open(word, call.ids)?.into_stream() {
+            // a section of which no stream can be made
+            Err(Failure::Refused(file, e)) => {
+                refused.push((file, e));
+                continue;
+            }
+            input => input?,
+        };
         let before = report.refused();
         // a report that has no room for a stream is as it was before it
         match report.add(&input.bytes) {
