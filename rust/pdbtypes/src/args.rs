@@ -11,6 +11,7 @@ pub struct Call {
     pub json: bool,
     pub ids: bool,
     pub stream: bool,
+    pub whole: bool,
     pub out: Option<OsString>,
     pub shift: Option<u32>,
 }
@@ -39,6 +40,7 @@ pub enum Choice {
     Json,
     Ids,
     Stream,
+    Whole,
     Out,
     Shift,
 }
@@ -94,6 +96,7 @@ fn choice(word: &str) -> Option<(Choice, Option<&str>)> {
         "--json" => Choice::Json,
         "--ids" => Choice::Ids,
         "--stream" => Choice::Stream,
+        "--whole" => Choice::Whole,
         "-o" | "--out" | "--output" => Choice::Out,
         "--shift" => Choice::Shift,
         _ => return None,
@@ -153,6 +156,7 @@ pub fn parse(words: impl Iterator<Item = OsString>) -> Result<Asked, Failure> {
                     Choice::Json => call.json = true,
                     Choice::Ids => call.ids = true,
                     Choice::Stream => call.stream = true,
+                    Choice::Whole => call.whole = true,
                 }
             }
             _ => call.words.push(word),

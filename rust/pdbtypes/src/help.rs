@@ -122,13 +122,13 @@ first rule that it breaks; then the status is 1. A section has ids among its typ
 Writes a type stream with the records that the roots reach, renumbered without holes. A root is an index or the name of a
 class, a union or an enumeration, whose definitions are taken, or its forward references where it has no definition.
 A line for each root has its old and its new index. A forward reference that is reached does not reach its definition,
-which has another index: name it too.
+which has another index: with --whole definitions of the same name are taken too.
 
     pdbtypes drop samples/plain-x64.tpi point 0x100b -o small.tpi
         4130 4099 point
         4107 4097
         kept 4 of 55 records, 152 of 1204 bytes",
-        choices: &[Choice::Out],
+        choices: &[Choice::Out, Choice::Whole],
         least: 2,
         most: MANY,
         run: whole::drop_,
@@ -242,6 +242,7 @@ const OPTIONS: &[(Choice, &str)] = &[
     (Choice::Ids, "--ids        the id stream of a database, in place of its type stream"),
     (Choice::Json, "--json       JSON, in place of lines"),
     (Choice::Stream, "--stream     make a type stream"),
+    (Choice::Whole, "--whole      also the definitions of the forward references that are reached"),
     (Choice::Out, "-o OUT       the file that is written"),
     (Choice::Shift, "--shift N    blocks of 2^N records, N from 0 to 6"),
 ];

@@ -42,6 +42,15 @@ impl<'s> Definitions<'s> {
         self.by_name.get(self.by_forward.get(&index)?).copied()
     }
 
+    /// The definitions of those forward references that are kept and whose definition is not.
+    pub fn missing(&self, is_kept: impl Fn(TypeIndex) -> bool) -> Vec<TypeIndex> {
+        let kept = self.by_forward.keys().filter(|index| is_kept(**index));
+        let mut found: Vec<TypeIndex> = kept.filter_map(|index| self.get(*index)).filter(|index| !is_kept(*index)).collect();
+        found.sort_unstable();
+        found.dedup();
+        found
+    }
+
     /// The copy of the stream: as long as it is, with its records where they are.
     pub fn resolved(&self, types: &Types<'s>) -> Vec<u8> {
         let mut copy = types.information().bytes().to_vec();

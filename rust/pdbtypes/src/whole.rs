@@ -5,7 +5,8 @@ use crate::input::Input;
 use crate::json;
 use crate::output::{self, shown};
 use crate::progress::Progress;
-use pdb_types::{Fit, Report, Rule, TypeIndex, TypeInformation, Types};
+use crate::resolve::Definitions;
+use pdb_types::{Dropped, Fit, Report, Rule, TypeIndex, TypeInformation, Types};
 use std::collections::HashMap;
 use std::io::Write;
 
@@ -73,6 +74,21 @@ fn named(types: &Types<'_>, wanted: &[String]) -> HashMap<String, Vec<TypeIndex>
     definitions
 }
 
+/// What some roots reach, and what the definitions of the forward references among it reach in turn.
+fn dropped_whole(information: &TypeInformation<'_>, mut roots: Vec<TypeIndex>) -> pdb_types::Result<Dropped> {
+    let definitions = Definitions::of(&Types::parse(information.bytes())?);
+    let lowest = information.header().minimum_index;
+    loop {
+        let dropped = information.drop(&roots)?;
+        let at = |index: TypeIndex| index.0.checked_sub(lowest).and_then(|k| dropped.table.get(k as usize));
+        let missing = definitions.missing(|index| at(index).is_some_and(|n| *n != 0));
+        if missing.is_empty() {
+            return Ok(dropped);
+        }
+        roots.extend(missing);
+    }
+}
+
 pub fn drop_(call: &Call) -> Result<(), Failure> {
     let Some(into) = call.out.as_deref() else {
         return Err(Failure::Usage("drop writes a stream: give -o OUT".to_string()));
@@ -97,7 +113,11 @@ pub fn drop_(call: &Call) -> Result<(), Failure> {
     Failure::of_lines(wrong)?;
     let progress = Progress::of("dropping", information.len() as u64);
     let indices: Vec<TypeIndex> = roots.iter().map(|root| root.0).collect();
-    let dropped = input.refused(information.drop(&indices))?;
+    let dropped = input.refused(if call.whole {
+        dropped_whole(&information, indices)
+    } else {
+        information.drop(&indices)
+    })?;
     drop(progress);
     output::write_bytes(Some(into), &dropped.stream)?;
     if into == "-" {
