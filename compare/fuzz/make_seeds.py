@@ -10,7 +10,7 @@ import shutil
 import struct
 import sys
 
-sys.path.insert(0, "compare")
+sys.path.insert(0, "model")
 import fitting
 
 TO = "compare/fuzz/seeds"
