@@ -69,7 +69,7 @@ puts-none s p bs e = rw e (record { next = omega arith; left = refl })
 abbrev pub measureOf : Encoded → ℕ → Answer ℕ
 measureOf b n = then b (λ bs. answered (min (n + length bs) 65536))
 
-pub measure-more : (a b : Encoded) (n k : ℕ) → then a (λ bs. answered (length bs)) ≡ answered k → measureOf (and-also a b) n ≡ measureOf b (min (n + k) 65536)
+pub measure-more : (a b : Encoded) (n k : ℕ) → then a (λ bs. answered (length bs)) ≡ answered k → measureOf (and-also a b) n ≡ measureOf b (n + min (k + 0) 65536)
 measure-more (answered x) (answered y) n k e = let f : length x ≡ k = cc in ap answered (omega (arith, length-append x y))
 measure-more (answered x) (refused m d) n k e = refl
 measure-more (refused m d) b n k e = let z : _≡_ {A = ℕ} 0 1 = cc in absurd (omega arith)
@@ -78,8 +78,8 @@ pub measure-stop : (a b : Encoded) (n : ℕ) → then a (λ bs. answered (length
 measure-stop (answered x) b n e = let z : _≡_ {A = ℕ} 0 1 = cc in absurd (omega arith)
 measure-stop (refused m d) b n e = let f : m ≡ 17 = cc in let g : d ≡ [] = cc in rw (f, g)
 
-pub measure-none : (b : Encoded) (n : ℕ) → n ≤ 65536 → b ≡ answered [] → measureOf b n ≡ answered n
-measure-none b n h e = rw e (ap answered (omega arith))
+pub measure-none : (b : Encoded) (n : ℕ) → b ≡ answered [] → measureOf b n ≡ answered (min (n + 0) 65536)
+measure-none b n e = rw e
 
 pub measure-bad : (b : Encoded) (n : ℕ) → b ≡ bad → measureOf b n ≡ refused 17 []
 measure-bad b n e = rw e
@@ -161,6 +161,16 @@ module _ (t row : List ℕ) (i n w : ℕ) (long : length row ≡ 27) where
         go zero f = never (rw (missing-value g f) at e)
         go (suc a) f = omega arith
 
+    -- the next field is good where all that is left is
+    pub this-good : 0 < n → 0 < getD row (3 * i) 0 → good (leftAt t row i n w) ≡ true
+        → good (writeField (fieldOf (n % 32)) w (cellIn t (getD row (3 * i) 0) (getD row (3 * i + 1) 0) (getD row (3 * i + 2) 0))) ≡ true
+    this-good g a fit =
+        let cell = cellIn t (getD row (3 * i) 0) (getD row (3 * i + 1) 0) (getD row (3 * i + 2) 0) in
+        let f = writeField (fieldOf (n % 32)) w cell in
+        let b = leftBytes (8 - i) (n / 32) (wordAfter (fieldOf (n % 32)) cell w) t (drop (3 * i + 3) row) in
+        let e : leftAt t row i n w ≡ and-also f b = rw (one-less, first) (field-turn (8 - i) n w t _ _ _ _ g a) in
+        good-first f b (sym (ap good e) ∙ fit)
+
     -- x is the piece of the next field, and v the word after it
     module _ (g : 0 < n) (a : 0 < getD row (3 * i) 0) (x : Piece)
         (e : pieceOf t x ≡ writeField (fieldOf (n % 32)) w (cellIn t (getD row (3 * i) 0) (getD row (3 * i + 1) 0) (getD row (3 * i + 2) 0)))
@@ -178,7 +188,7 @@ module _ (t row : List ℕ) (i n w : ℕ) (long : length row ≡ 27) where
           rw (f2, f3, one-less, first, e, u) (field-turn (8 - i) n w t _ _ _ _ g a)
 
       pub size-next : (m k : ℕ) → then (pieceOf t x) (λ bs. answered (length bs)) ≡ answered k
-          → measureOf (leftAt t row i n w) m ≡ measureOf (leftAt t row (i + 1) (n / 32) v) (min (m + k) 65536)
+          → measureOf (leftAt t row i n w) m ≡ measureOf (leftAt t row (i + 1) (n / 32) v) (m + min (k + 0) 65536)
       size-next m k f = ap (λ (b : Encoded). measureOf b m) turn ∙ measure-more (pieceOf t x) after m k f
 
       pub size-stop : (m : ℕ) → then (pieceOf t x) (λ bs. answered (length bs)) ≡ refused 17 [] → measureOf (leftAt t row i n w) m ≡ refused 17 []

@@ -315,6 +315,73 @@ fn field_piece(code: u64, kind: u64, value: u64, more: u64, w: u64) -> Piece
     }
 }
 
+// Of a field that is known to be good, its piece without a test.
+
+fn good8(value: u64) -> Piece
+    ensures { λ r. ⌜ ((t : List ℕ) (kind more : ℕ) → good (ofNumber (cellIn t kind value more) (fixedBytes 1)) ≡ true → pieceOf t r ≡ ofNumber (cellIn t kind value more) (fixedBytes 1)) ⌝ }
+{
+    Piece::Byte((value % 0x100) as u8)
+}
+
+fn good16(value: u64) -> Piece
+    ensures { λ r. ⌜ ((t : List ℕ) (kind more : ℕ) → good (ofNumber (cellIn t kind value more) (fixedBytes 2)) ≡ true → pieceOf t r ≡ ofNumber (cellIn t kind value more) (fixedBytes 2)) ⌝ }
+{
+    Piece::Half((value % 0x1_0000) as u16)
+}
+
+fn good32(value: u64) -> Piece
+    ensures { λ r. ⌜ ((t : List ℕ) (kind more : ℕ) → good (ofNumber (cellIn t kind value more) (fixedBytes 4)) ≡ true → pieceOf t r ≡ ofNumber (cellIn t kind value more) (fixedBytes 4)) ⌝ }
+{
+    Piece::Word((value % 0x1_0000_0000) as u32)
+}
+
+fn good_pointer(value: u64) -> Piece
+    ensures { λ r. ⌜ ((t : List ℕ) (kind more w : ℕ) → good (writeField pointer w (cellIn t kind value more)) ≡ true → pieceOf t r ≡ writeField pointer w (cellIn t kind value more)) ⌝ }
+{
+    Piece::Word((value % 0x1_0000_0000) as u32)
+}
+
+fn good_index(kind: u64, value: u64) -> Piece
+    ensures { λ r. ⌜ ((t nones : List ℕ) (more : ℕ) → good (optionalBytes nones (cellIn t kind value more)) ≡ true → pieceOf t r ≡ optionalBytes nones (cellIn t kind value more)) ⌝ }
+{
+    if kind == 1 {
+        return Piece::Word(0);
+    }
+    Piece::Word((value % 0x1_0000_0000) as u32)
+}
+
+// The piece of the field of this code, where it is good.
+fn good_piece(code: u64, kind: u64, value: u64, more: u64, w: u64) -> Piece
+    requires { ⌜ 0 < kind ⌝ }
+    ensures { λ r. ⌜ ((t : List ℕ) → good (writeField (fieldOf code) w (cellIn t kind value more)) ≡ true → pieceOf t r ≡ writeField (fieldOf code) w (cellIn t kind value more)) ⌝ }
+{
+    match code {
+        1 => good8(value),
+        2 => good16(value),
+        3 => good32(value),
+        4 => good32(value),
+        5 => good_index(kind, value),
+        6 => good32(value),
+        7 => good_index(kind, value),
+        8 => good32(value),
+        9 => good16(value),
+        10 => good32(value),
+        11 => good_pointer(value),
+        12 => gap_piece(kind),
+        13 => numeric_piece(kind, value),
+        14 => size_piece(kind, value),
+        15 => text_piece(kind, value, more),
+        16 => types_piece(kind, value, more, w),
+        17 => types_piece(kind, value, more, w),
+        18 => slots_piece(kind, value, more, w),
+        19 => no_piece(kind),
+        20 => second_piece(kind, value, more, w),
+        21 => class_piece(kind, value, w),
+        22 => offset_piece(kind, value, w),
+        _ => no_piece(kind),
+    }
+}
+
 // The word after a number.
 fn number_or(kind: u64, value: u64, w: u64) -> u64
     ensures { λ r. ⌜ ((t : List ℕ) (more : ℕ) → r ≡ numberOr (cellIn t kind value more) w) ⌝ }
@@ -367,7 +434,7 @@ fn measure_fields(text: &[u8], layout: u64, row: &[u64; 27]) -> Measure
     let mut word: u64 = 0;
     while 0 < rest {
         if i == 9 {
-            return Measure::Size(n);
+            return Measure::Size(write_pieces::held_sum(n, 0));
         }
         let k = 3 * i;
         let kind = row[k];
@@ -381,19 +448,19 @@ fn measure_fields(text: &[u8], layout: u64, row: &[u64; 27]) -> Measure
         let Measure::Size(size) = put::size_of(text, x) else {
             return Measure::Bad;
         };
-        n = write_pieces::held_sum(n, size);
+        n += write_pieces::held_sum(size, 0);
         word = word_after(code, kind, value, word);
         rest /= 32;
         i += 1;
     }
     if i == 9 {
-        return Measure::Size(n);
+        return Measure::Size(write_pieces::held_sum(n, 0));
     }
     let k = 3 * i;
     if row[k] != 0 {
         return Measure::Bad;
     }
-    Measure::Size(n)
+    Measure::Size(write_pieces::held_sum(n, 0))
 }
 
 // The fields of this layout, where they are good and there is room for them; the place after them.
@@ -414,7 +481,7 @@ fn put_fields(text: &[u8], layout: u64, row: &[u64; 27], out: &mut [u8], p: usiz
         let value = row[k + 1];
         let more = row[k + 2];
         let code = rest % 32;
-        let x = field_piece(code, kind, value, more, w);
+        let x = good_piece(code, kind, value, more, w);
         to = put::put_piece(text, x, out, to);
         w = word_after(code, kind, value, w);
         rest /= 32;

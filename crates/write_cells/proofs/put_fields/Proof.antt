@@ -9,7 +9,7 @@ use lib.ListN.{length}
 use Rattle.field_put.specs.Bytes.{Room, Puts}
 use Rattle.field_put.proofs.PutLaws.{room-first, room-after, puts-both, puts-length}
 use Rattle.write_cells.specs.Cells.{leftBytes, good, held}
-use Rattle.write_cells.proofs.LoopLaws.{leftAt, value-there, over-nine, fields-done, next-good, this-fine, next-held, puts-none}
+use Rattle.write_cells.proofs.LoopLaws.{leftAt, value-there, this-good, over-nine, fields-done, next-good, this-fine, next-held, puts-none}
 use Rattle.write_cells.proofs.put_fields.Statement.{statement}
 use Rattle.write_cells.proofs.put_fields.Tie as tie
 
@@ -30,8 +30,8 @@ returns c =
     let l = c .before .before .loop in
     l .inv .5 _ _ (puts-none _ _ _ (ap held (over-nine (a .text .now) (a .row .now) (l .i) (l .rest) (l .w) (l .inv .1) (c .if1 .taken))))
 
-field-piece-requires : tie.Need-field-piece-requires Inv-loop μ-loop
-field-piece-requires c κs =
+good-piece-requires : tie.Need-good-piece-requires Inv-loop μ-loop
+good-piece-requires c κs =
     let a = c .before .before .before .before .before .before .before .before .args in
     let l = c .before .before .before .before .before .loop in
     let h : l .i < 9 = omega (arith, l .inv .0, c .before .before .before .if1 .left) in
@@ -44,7 +44,7 @@ put-piece-requires c κs =
     let h : l .i < 9 = omega (arith, l .inv .0, c .before .before .before .before .before .if1 .left) in
     let g = c .before .before .before .before .before .before .loop-test .taken in
     let k = value-there (a .text .now) (a .row .now) (l .i) (l .rest) (l .w) (l .inv .1) h g (l .inv .2) in
-    let x = c .before .field-piece .ensures (a .text .now) in
+    let x = c .before .good-piece .ensures (a .text .now) (this-good (a .text .now) (a .row .now) (l .i) (l .rest) (l .w) (l .inv .1) h g k (l .inv .2)) in
     (this-fine (a .text .now) (a .row .now) (l .i) (l .rest) (l .w) (l .inv .1) h g k _ x _ refl (l .inv .2), room-first _ _ _ _ (rw (next-held (a .text .now) (a .row .now) (l .i) (l .rest) (l .w) (l .inv .1) h g k _ x _ refl (l .inv .2)) at (l .inv .3)))
 
 loop-again : tie.Need-loop-again Inv-loop μ-loop
@@ -54,7 +54,7 @@ loop-again c =
     let h : l .i < 9 = omega (arith, l .inv .0, c .before .before .before .before .before .before .before .before .before .if1 .left) in
     let g = c .before .before .before .before .before .before .before .before .before .before .loop-test .taken in
     let k = value-there (a .text .now) (a .row .now) (l .i) (l .rest) (l .w) (l .inv .1) h g (l .inv .2) in
-    let x = c .before .before .before .before .before .field-piece .ensures (a .text .now) in
+    let x = c .before .before .before .before .before .good-piece .ensures (a .text .now) (this-good (a .text .now) (a .row .now) (l .i) (l .rest) (l .w) (l .inv .1) h g k (l .inv .2)) in
     let u = c .word-after .ensures (a .text .now) _ in
     let f = next-held (a .text .now) (a .row .now) (l .i) (l .rest) (l .w) (l .inv .1) h g k _ x _ u (l .inv .2) in
     let w = c .before .before .before .put-piece .ensures in (
@@ -76,4 +76,4 @@ pub put-fields-spec : {M : Type 1} → statement M
 put-fields-spec =
     tie.close (tie.spec
     Inv-loop μ-loop loop-holds (λ c. omega arith) returns (λ c. omega arith) (λ c. omega arith) (λ c. omega arith) (λ c. omega arith) (λ c. omega arith) (λ c. omega arith) (λ c. omega arith) (λ c. omega arith) (λ c. omega arith)
-    field-piece-requires put-piece-requires (λ c κs. search needs) (λ c. omega arith) (λ c. omega arith) loop-again (λ c. omega arith) returns-2)
+    good-piece-requires put-piece-requires (λ c κs. search needs) (λ c. omega arith) (λ c. omega arith) loop-again (λ c. omega arith) returns-2)
