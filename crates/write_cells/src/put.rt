@@ -11,6 +11,7 @@ ghost use Rattle.field_put.specs.Bytes.{Puts, Room};
 ghost use Rattle.write_layout.specs.Runs.{partAt, noZero, pads, zeros};
 ghost use Rattle.write_layout.specs.Records.{missing};
 ghost use Rattle.write_pieces.specs.Pieces.{raw, fine, pieceOf, saidMeasure};
+use field_text::ReadString;
 use write_pieces::Measure;
 use write_pieces::Piece;
 
@@ -138,16 +139,11 @@ fn no_zero(text: &[u8], q: usize, n: usize) -> bool
     requires { ⌜ q + n ≤ length (now text) ⌝ }
     ensures { λ r. ⌜ r ≡ noZero (partAt (now (text .entry)) q n) ⌝ }
 {
-    let mut from = q;
-    let mut left = n;
-    while 0 < left {
-        if text[from] == 0 {
-            return false;
-        }
-        from += 1;
-        left -= 1;
+    let end = q + n;
+    match field_text::string_at(&text[q..end], 0) {
+        ReadString::Got(_, _) => false,
+        ReadString::Ended => true,
     }
-    true
 }
 
 // How many bytes a piece takes.

@@ -1,64 +1,39 @@
--- `write_cells::put::no_zero` meets its contract: what is left to look at stands in the invariant. Assumes nothing.
-use Rattle.write_layout.proofs.RunLaws.{part-none}
-use Prim.Native.Nat.{_+_, _≤_}
-use mathlib.Core.Path.{_≡_, _∙_, sym, refl}
+-- `write_cells::put::no_zero` meets its contract: a string is found exactly where a byte is zero. Assumes nothing.
+use Prim.Native.Nat.{ℕ, zero, suc}
 use native.Mathlib.Omega.{arith}
-use lib.ListN.{length, length-set}
-use Rattle.field_put.specs.Bytes.{put}
-use Rattle.field_put.proofs.PutLaws.{put-none}
+use native.Mathlib.Nat.{add-sub-cancel-left}
+use borrow.Author.Needs.{needs}
+use mathlib.Core.Bool.{true, false}
+use mathlib.Core.Path.{_≡_, refl}
+use mathlib.Core.List.{List, [], _∷_}
+use Rattle.answer.specs.Answer.{got, ended}
+use Rattle.answer.proofs.Told.{told}
+use Rattle.field_text.specs.Texts.{Part, toZero, partOr, stringAt, saidString}
 use Rattle.write_layout.specs.Runs.{partAt, noZero}
-use Rattle.write_layout.proofs.RunLaws.{look-turn, look-found}
 use Rattle.write_cells.proofs.put.no_zero.Statement.{statement}
 use Rattle.write_cells.proofs.put.no_zero.Tie as tie
 
-abbrev Inv-loop : tie.InvT-loop
-Inv-loop text q n from₀ left₀ from left =
-    (from + left ≤ length text) × (noZero (partAt text q n) ≡ noZero (partAt text from left))
+none-found : (bs : List ℕ) (n : ℕ) → partOr (toZero bs n) 0 ≡ ended → true ≡ noZero bs
+unfolding toZero noZero
+none-found [] n e = refl
+none-found (zero ∷ bs) n e = let z : _≡_ {A = ℕ} 0 1 = cc in absurd (omega arith)
+none-found (suc b ∷ bs) n e = none-found bs (suc n) e
 
-abbrev μ-loop : tie.MeasureT-loop
-μ-loop text q n from₀ left₀ from left = left
+one-found : (bs : List ℕ) (n : ℕ) (x : Part) (p : ℕ) → partOr (toZero bs n) 0 ≡ got x p → false ≡ noZero bs
+unfolding toZero noZero
+one-found [] n x p e = let z : _≡_ {A = ℕ} 0 1 = cc in absurd (omega arith)
+one-found (zero ∷ bs) n x p e = refl
+one-found (suc b ∷ bs) n x p e = one-found bs (suc n) x p e
 
-loop-holds : tie.Need-loop-holds Inv-loop μ-loop
-loop-holds c = (omega arith, refl)
+returns : tie.Need-returns
+unfolding stringAt partAt
+returns c = one-found _ 0 _ _ (rw add-sub-cancel-left at (told saidString (c .before .before .string-at .ensures) (c .enum-told .given .1)))
 
-shared-slice-read-if1 : tie.Need-shared-slice-read-if1 Inv-loop μ-loop
-shared-slice-read-if1 c = omega arith
-
-returns : tie.Need-returns Inv-loop μ-loop
-returns c =
-    let b = c .before .before .before .loop in
-    look-found _ _ _ (omega arith) (omega arith) (c .if1 .taken) ∙ sym (b .inv .1)
-
-add-from : tie.Need-add-from Inv-loop μ-loop
-add-from c = omega arith
-
-sub-left : tie.Need-sub-left Inv-loop μ-loop
-sub-left c = omega arith
-
-loop-less : tie.Need-loop-less Inv-loop μ-loop
-loop-less c = omega arith
-
-loop-again : tie.Need-loop-again Inv-loop μ-loop
-loop-again c = (
-  omega arith,
-  c .before .before .before .loop .inv .1 ∙ look-turn _ _ _ (omega arith) (omega arith) (c .if1 .left),
-)
-
-returns-2 : tie.Need-returns-2 Inv-loop μ-loop
-unfolding noZero
-returns-2 c = let z : c .before .loop .left ≡ 0 = omega arith in sym (c .before .loop .inv .1 ∙ rw (z, part-none, noZero))
+returns-2 : tie.Need-returns-2
+unfolding stringAt partAt
+returns-2 c = none-found _ 0 (rw add-sub-cancel-left at (told saidString (c .before .before .string-at .ensures) (c .enum-told2 .given .1)))
 
 pub no-zero-spec : {M : Type 1} → statement M
 no-zero-spec =
-    tie.close
-    (tie.spec
-    Inv-loop
-    μ-loop
-    loop-holds
-    shared-slice-read-if1
-    returns
-    add-from
-    sub-left
-    loop-less
-    loop-again
-    returns-2)
+    tie.close (tie.spec
+    (λ c. search needs) (λ c. search needs) (λ c. search needs) (λ c. search needs) (λ c κs. search needs) (λ c. search needs) (λ c. search needs) returns returns-2)

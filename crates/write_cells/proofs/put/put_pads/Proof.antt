@@ -21,21 +21,6 @@ loop-holds : tie.Need-loop-holds Inv-loop μ-loop
 loop-holds c = let r = room-of _ _ _ (c .args .n) (length-pads _) (c .pre .1) in
     (omega arith, refl, omega arith, refl, refl)
 
-add-out : tie.Need-add-out Inv-loop μ-loop
-add-out c = omega arith
-
-slice-write-out : tie.Need-slice-write-out Inv-loop μ-loop
-slice-write-out c = omega arith
-
-add-to : tie.Need-add-to Inv-loop μ-loop
-add-to c = omega arith
-
-sub-left : tie.Need-sub-left Inv-loop μ-loop
-sub-left c = omega arith
-
-loop-less : tie.Need-loop-less Inv-loop μ-loop
-loop-less c = omega arith
-
 loop-again : tie.Need-loop-again Inv-loop μ-loop
 loop-again c = (
   omega arith,
@@ -45,9 +30,6 @@ loop-again c = (
   c .before .loop .inv .4 ∙ pad-turn _ _ _ (omega arith),
 )
 
-same-length : tie.Need-same-length Inv-loop μ-loop
-same-length c = omega arith
-
 returns : tie.Need-returns Inv-loop μ-loop
 unfolding pads
 returns c = let z : c .before .loop .left ≡ 0 = omega arith in
@@ -55,16 +37,6 @@ returns c = let z : c .before .loop .left ≡ 0 = omega arith in
 
 pub put-pads-spec : {M : Type 1} → statement M
 put-pads-spec =
-    tie.close
-    (tie.spec
-    Inv-loop
-    μ-loop
-    loop-holds
-    add-out
-    slice-write-out
-    add-to
-    sub-left
-    loop-less
-    loop-again
-    same-length
-    returns)
+    tie.close (tie.spec
+    Inv-loop μ-loop loop-holds (λ c. omega arith) (λ c. omega arith) (λ c. omega arith) (λ c. omega arith) (λ c. omega arith) loop-again
+    (λ c. omega arith) returns)

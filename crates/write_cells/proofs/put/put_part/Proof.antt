@@ -21,24 +21,6 @@ loop-holds : tie.Need-loop-holds Inv-loop μ-loop
 loop-holds c = let r = room-of _ _ _ (c .args .n) (part-length _ _ _ (omega arith)) (c .pre .1) in
     (omega arith, refl, omega arith, refl, refl)
 
-shared-slice-read-out : tie.Need-shared-slice-read-out Inv-loop μ-loop
-shared-slice-read-out c = omega arith
-
-slice-write-out : tie.Need-slice-write-out Inv-loop μ-loop
-slice-write-out c = omega arith
-
-add-from : tie.Need-add-from Inv-loop μ-loop
-add-from c = omega arith
-
-add-to : tie.Need-add-to Inv-loop μ-loop
-add-to c = omega arith
-
-sub-left : tie.Need-sub-left Inv-loop μ-loop
-sub-left c = omega arith
-
-loop-less : tie.Need-loop-less Inv-loop μ-loop
-loop-less c = omega arith
-
 loop-again : tie.Need-loop-again Inv-loop μ-loop
 loop-again c = (
   omega arith,
@@ -48,9 +30,6 @@ loop-again c = (
   c .before .before .loop .inv .4 ∙ copy-turn _ _ _ _ _ (omega arith) (omega arith),
 )
 
-same-length : tie.Need-same-length Inv-loop μ-loop
-same-length c = omega arith
-
 returns : tie.Need-returns Inv-loop μ-loop
 returns c = let z : c .before .loop .left ≡ 0 = omega arith in
     let a = c .before .before .args in
@@ -58,17 +37,6 @@ returns c = let z : c .before .loop .left ≡ 0 = omega arith in
 
 pub put-part-spec : {M : Type 1} → statement M
 put-part-spec =
-    tie.close
-    (tie.spec
-    Inv-loop
-    μ-loop
-    loop-holds
-    shared-slice-read-out
-    slice-write-out
-    add-from
-    add-to
-    sub-left
-    loop-less
-    loop-again
-    same-length
-    returns)
+    tie.close (tie.spec
+    Inv-loop μ-loop loop-holds (λ c. omega arith) (λ c. omega arith) (λ c. omega arith) (λ c. omega arith) (λ c. omega arith) (λ c. omega arith)
+    loop-again (λ c. omega arith) returns)

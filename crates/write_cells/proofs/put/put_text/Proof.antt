@@ -13,12 +13,9 @@ put8-requires : tie.Need-put8-requires
 unfolding bytes
 put8-requires c κs = room-after _ _ _ _ _ _ (c .before .before .before .before .before .before .before .pre .1) (c .before .before .before .put-part .ensures)
 
-same-length : tie.Need-same-length
-same-length c = search needs
-
 returns : tie.Need-returns
 unfolding bytes
 returns c = puts-both _ _ _ _ _ _ _ _ (c .before .before .before .before .before .before .put-part .ensures) (c .before .before .put8 .ensures)
 
 pub put-text-spec : {M : Type 1} → statement M
-put-text-spec = tie.close (tie.spec put-part-requires put8-requires same-length returns)
+put-text-spec = tie.close (tie.spec put-part-requires put8-requires (λ c. search needs) returns)

@@ -10,11 +10,8 @@ put16-requires c κs = room-first _ _ _ _ (c .before .before .pre)
 put16-requires-2 : tie.Need-put16-requires-2
 put16-requires-2 c κs = room-after _ _ _ _ _ _ (c .before .before .before .before .before .before .pre) (c .before .before .before .put16 .ensures)
 
-same-length : tie.Need-same-length
-same-length c = search needs
-
 returns : tie.Need-returns
 returns c = puts-both _ _ _ _ _ _ _ _ (c .before .before .before .before .before .before .put16 .ensures) (c .before .before .put162 .ensures)
 
 pub put-wide16-spec : {M : Type 1} → statement M
-put-wide16-spec = tie.close (tie.spec put16-requires put16-requires-2 same-length returns)
+put-wide16-spec = tie.close (tie.spec put16-requires put16-requires-2 (λ c. search needs) returns)

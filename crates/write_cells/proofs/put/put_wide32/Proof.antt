@@ -10,11 +10,8 @@ put16-requires c κs = room-first _ _ _ _ (c .before .before .pre)
 put32-requires : tie.Need-put32-requires
 put32-requires c κs = room-after _ _ _ _ _ _ (c .before .before .before .before .before .before .pre) (c .before .before .before .put16 .ensures)
 
-same-length : tie.Need-same-length
-same-length c = search needs
-
 returns : tie.Need-returns
 returns c = puts-both _ _ _ _ _ _ _ _ (c .before .before .before .before .before .before .put16 .ensures) (c .before .before .put32 .ensures)
 
 pub put-wide32-spec : {M : Type 1} → statement M
-put-wide32-spec = tie.close (tie.spec put16-requires put32-requires same-length returns)
+put-wide32-spec = tie.close (tie.spec put16-requires put32-requires (λ c. search needs) returns)

@@ -9,71 +9,20 @@ use borrow.Author.Needs.{needs}
 use Rattle.write_cells.proofs.put.size_of.Statement.{statement}
 use Rattle.write_cells.proofs.put.size_of.Tie as tie
 
-enum-told : tie.Need-enum-told
-enum-told c = search needs
-
-enum-told-2 : tie.Need-enum-told-2
-enum-told-2 c = search needs
-
-enum-told-3 : tie.Need-enum-told-3
-enum-told-3 c = search needs
-
-enum-told-4 : tie.Need-enum-told-4
-enum-told-4 c = search needs
-
-enum-told-5 : tie.Need-enum-told-5
-enum-told-5 c = search needs
-
-enum-told-6 : tie.Need-enum-told-6
-enum-told-6 c = search needs
-
-enum-told-7 : tie.Need-enum-told-7
-enum-told-7 c = search needs
-
-enum-told-8 : tie.Need-enum-told-8
-enum-told-8 c = search needs
-
-enum-told-9 : tie.Need-enum-told-9
-enum-told-9 c = search needs
-
-enum-known-x : tie.Need-enum-known-x
-enum-known-x c = search needs
-
 returns : tie.Need-returns
 returns c = let e = c .before .before .x .given .1 in size-bad _ _ (rw e (text-outside _ _ _ (omega arith)))
-
-sub-if2 : tie.Need-sub-if2
-sub-if2 c = search needs
 
 returns-2 : tie.Need-returns-2
 returns-2 c = let e = c .before .before .before .x .given .1 in size-bad _ _ (rw e (text-outside _ _ _ (omega arith)))
 
-no-zero-requires : tie.Need-no-zero-requires
-no-zero-requires c κs = omega arith
-
-add-t13 : tie.Need-add-t13
-add-t13 c = search needs
-
 returns-3 : tie.Need-returns-3
 returns-3 c = let e = c .before .before .before .before .before .x .given .1 in size-is _ _ _ (rw e (text-by _ _ _ (omega arith) ∙ sym (c .before .no-zero .ensures) ∙ c .if3 .taken)) (rw e (text-length _ _ _ (omega arith)))
-
-enum-known-x-2 : tie.Need-enum-known-x-2
-enum-known-x-2 c = search needs
 
 returns-4 : tie.Need-returns-4
 returns-4 c = let e = c .before .before .x2 .given .1 in size-bad _ _ (rw e (run-outside _ _ _ (omega arith)))
 
-sub-if5 : tie.Need-sub-if5
-sub-if5 c = search needs
-
 returns-5 : tie.Need-returns-5
 returns-5 c = let e = c .before .before .before .x2 .given .1 in size-bad _ _ (rw e (run-outside _ _ _ (omega arith)))
-
-enum-known-x-3 : tie.Need-enum-known-x-3
-enum-known-x-3 c = search needs
-
-cast-t17 : tie.Need-cast-t17
-cast-t17 c = search needs
 
 returns-6 : tie.Need-returns-6
 unfolding fine raw bytes
@@ -123,39 +72,8 @@ returns-17 c = let e = c .before .x3 .given .1 in size-is _ _ _ (rw e) (rw e (le
 
 pub size-of-spec : {M : Type 1} → statement M
 size-of-spec =
-    tie.close
-    (tie.spec
-    enum-told
-    enum-told-2
-    enum-told-3
-    enum-told-4
-    enum-told-5
-    enum-told-6
-    enum-told-7
-    enum-told-8
-    enum-told-9
-    enum-known-x
-    returns
-    sub-if2
-    returns-2
-    no-zero-requires
-    add-t13
-    returns-3
-    enum-known-x-2
-    returns-4
-    sub-if5
-    returns-5
-    enum-known-x-3
-    cast-t17
-    returns-6
-    returns-7
-    returns-8
-    returns-9
-    returns-10
-    returns-11
-    returns-12
-    returns-13
-    returns-14
-    returns-15
-    returns-16
-    returns-17)
+    tie.close (tie.spec
+    (λ c. search needs) (λ c. search needs) (λ c. search needs) (λ c. search needs) (λ c. search needs) (λ c. search needs) (λ c. search needs)
+    (λ c. search needs) (λ c. search needs) (λ c. search needs) returns (λ c. search needs) returns-2 (λ c κs. omega arith) (λ c. search needs)
+    returns-3 (λ c. search needs) returns-4 (λ c. search needs) returns-5 (λ c. search needs) (λ c. search needs) returns-6 returns-7 returns-8
+    returns-9 returns-10 returns-11 returns-12 returns-13 returns-14 returns-15 returns-16 returns-17)
