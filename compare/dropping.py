@@ -1,10 +1,10 @@
 #!/usr/bin/env python3
 """Document 02's R-13 written again in Python, from its text alone: a stream without the records that nobody names.
 
-    dropping.py --vectors STDIN STDOUT       writes commands `drop` for the program replay_whole to the one file and their answers to the other
+    dropping.py --vectors STDIN STDOUT       writes commands `drop` for the program `replay` to the one file and their answers to the other
     dropping.py --real STREAM..              drops from each stream with 1, 10 and 300 roots spread over it, holds what comes out to 02's sentences, one by
                                              one, and says how many records were kept
-    dropping.py --port STREAM.. -- PROGRAM.. has the program, `tools/program replay_whole`, answer the vectors, and the streams that fit a line (none may
+    dropping.py --port STREAM.. -- PROGRAM.. has the program, `target/replay`, answer the vectors, and the streams that fit a line (none may
                                              be named) with those roots and short rooms, and holds it to what is worked out here, line by line
 
     dropping.py --files STREAM.. -- PROGRAM.. the same of the C program c/fit.c, on streams of any size: each with 1, 10 and 300 roots and with all, what it
@@ -156,7 +156,7 @@ def line(s, roots, table, room):
 
 
 def answer(command):
-    """What replay_whole answers to a line."""
+    """What `replay` answers to a line."""
     _, room, s, roots, table = command.split(" ")
     numbers = lambda word: [] if word == "-" else [int(n) for n in word.split(",")]
     refused, out, after = drop(bytes.fromhex(s.replace("-", "")), numbers(roots), numbers(table), int(room))

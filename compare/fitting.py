@@ -2,10 +2,10 @@
 """Document 02's R-9 written again in Python, from its text alone: is a type stream fit to bind?
 
     fitting.py STREAM..                      prints `0 yes`, `0 no RECORD RULE` or the refusal's number for each
-    fitting.py --vectors STDIN STDOUT        writes commands for the program replay_whole to the one file and their answers to the other,
+    fitting.py --vectors STDIN STDOUT        writes commands for the program `replay` to the one file and their answers to the other,
                                              those of dropping.py (R-13), reporting.py (R-12) and places.py (R-3 and R-10) with them
     fitting.py --damage STREAM PROGRAM..     sets each byte of STREAM to 0x00, to 0xff and to its complement, one at a time, and holds the program,
-                                             `tools/program replay_whole`, to what is worked out here
+                                             `target/replay`, to what is worked out here
 
 Records are read by layouts.py, which is 01's layouts written again: T and O there are the type references here.
 The rules are numbered in the order of 02's sentence, the gap after them: 1 count, 2 decode, 3 order, 4 primitive, 5 gap.

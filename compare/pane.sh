@@ -1,5 +1,5 @@
 #!/bin/sh
-# Counts instructions of walking, indexing and paging through a stream of any size: from C through the five exports of libpane.a, and by crate pdb 0.8.0, as
+# Counts instructions of walking, indexing and paging through a stream of any size: from C through the five exports of R-14, and by crate pdb 0.8.0, as
 # Rust inlines it and through calls. Prints a table of instructions a record, and on x86-64 also the time.
 #
 #   pane.sh SPEED CALLED [STREAM..]
@@ -7,7 +7,7 @@
 # SPEED, CALLED  the programs that build.sh made
 # STREAM         raw type streams; without any: samples/gen400-x64.tpi
 #
-# Wanted: target/staticlib/libpane.a, which `rt staticlib pane` makes, gcc, and valgrind. Each operation is done 10 and 20 times; the difference over 10
+# Wanted: gcc, and valgrind. Each operation is done 10 and 20 times; the difference over 10
 # times the records is what one record costs (see speed.sh). On a processor other than x86-64: x86_64-linux-gnu-gcc and qemu-x86_64, SPEED and CALLED built
 # for x86-64, each operation once and twice, and no time.
 set -e
@@ -41,7 +41,7 @@ else
     qemu-x86_64 -L "$below" $single -d exec,nochain -D /dev/fd/3 "$1" "$2" "$3" < "$4" 3>&1 >/dev/null | grep -c '^Trace'
   }
 fi
-$compiler -std=c99 -O2 -Wall -Wextra -Werror "$root/compare/pane.c" "$root/target/staticlib/libpane.a" -o "$work/pane"
+$compiler -std=c99 -O2 -Wall -Wextra -Werror "$root/compare/pane.c" "$root/lib/x86_64-linux/libpdb_types.a" -o "$work/pane"
 
 word() { # stream offset: the u32 there
   od -An -t u4 -j "$2" -N 4 "$1" | tr -d ' '

@@ -144,7 +144,7 @@ def walked(s, shift):
     return places
 
 
-# ---- short words (PROTOCOL.md): what replay_whole takes
+# ---- short words (PROTOCOL.md): what `replay` takes
 
 def numbers(piece):
     """A number, or A/D/N: N numbers from A on by steps of D."""
@@ -174,7 +174,7 @@ def short_table(word):
 
 
 def answer(line):
-    """What replay_whole answers to a line of these four commands."""
+    """What `replay` answers to a line of these four commands."""
     name, *words = line.split(" ")
     if name.startswith("save"):
         room, shift, s, low, high, held, table = words
@@ -184,7 +184,7 @@ def answer(line):
 
 
 def vectors():
-    """Lines for replay_whole: around 65,535 places, on a stream of links without payload, which a chain passes; each refusal of the new pair; and the old
+    """Lines for `replay`: around 65,535 places, on a stream of links without payload, which a chain passes; each refusal of the new pair; and the old
     pair on both forms."""
     def head(count):
         return struct.pack("<IIII", 20040203, 56, 4096, 4096 + count).hex() + "00" * 40

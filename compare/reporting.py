@@ -1,14 +1,14 @@
 #!/usr/bin/env python3
 """Document 02's R-12 written again in Python, from its text alone: a report over any number of streams.
 
-    reporting.py STREAM ..      adds the files to a fresh report, going on after 27 and 28, and prints the line that `report` of replay_whole prints:
+    reporting.py STREAM ..      adds the files to a fresh report, going on after 27 and 28, and prints the line that `report` of `replay` prints:
                                 the numbers of all additions, then the totals, then ` ; LEAF RECORDS BYTES` for each entry
     reporting.py --hex STREAM ..  prints the words of that `report` command instead, the streams as hexadecimal digits
     reporting.py --port STREAM .. -- PROGRAM ..
-                                has the program, `tools/program replay_whole`, answer the vectors and one `report` of these streams, those left out that
+                                has the program, `target/replay`, answer the vectors and one `report` of these streams, those left out that
                                 are too long for a word, and holds it to what is worked out here, line by line
 
-Its vectors are among those that fitting.py writes for replay_whole.
+Its vectors are among those that fitting.py writes.
 """
 import os
 import struct
@@ -123,7 +123,7 @@ def line(streams, report=None):
     return f"{' '.join(numbers) or '-'} ; {report}"
 
 
-# ---- lines for replay_whole
+# ---- lines for `replay`
 
 LONGEST = 263000                # of a STREAM of `report`
 
@@ -147,7 +147,7 @@ def from_line(totals, entries, *streams):
 
 
 def answer(command):
-    """What replay_whole answers to a line of these two commands."""
+    """What `replay` answers to a line of these two commands."""
     name, *words = command.split(" ")
     report = Report()
     if name == "reportfrom":

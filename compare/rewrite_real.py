@@ -3,7 +3,7 @@
 
     rewrite_real.py STREAM..       .tpi and .ipi: raw streams; .debugT: `.debug$T` sections, whose records each go to the reader that takes their leaf
     rewrite_real.py --port STREAM..
-                                   also has the port write each record again (`rewrite` and `rewriteid` of the program `replay`, which `rt check replay`
+                                   also has the port write each record again (`rewrite` and `rewriteid` of the program `replay`, which `tools/replay --build replay`
                                    has built; in the root of the repository), and ends at the first line that is not the one by writing.py: the tables
                                    are then the port's
     rewrite_real.py --check        the reasons themselves, on the records of the vectors: every reason is met there
@@ -132,7 +132,7 @@ def compared(data, ids):
 def by_port(name, s):
     """Holds the port's line for each record to writing.py's; how many there are."""
     commands = [f"{'rewriteid' if ids else 'rewrite'} {data.hex() or '-'}" for data, ids in payloads(name, s)]
-    run = subprocess.run(["tools/program", "replay"], input="".join(c + "\n" for c in commands).encode(), stdout=subprocess.PIPE, check=True)
+    run = subprocess.run(["target/replay"], input="".join(c + "\n" for c in commands).encode(), stdout=subprocess.PIPE, check=True)
     lines = run.stdout.decode().splitlines()
     if len(lines) != len(commands):
         raise SystemExit(f"{name}: {len(commands)} records, and the port has {len(lines)} lines")

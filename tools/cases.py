@@ -1,6 +1,6 @@
 """Runs a program on cases: a name, what it is given on standard input, and what it has to answer; then what it has to say on standard error, which is
 nothing where a case does not say it; and where the program takes them, its arguments and the files that they name. For tools/list_cases,
-tools/outline_cases, tools/declarations_cases, tools/lookup_cases, tools/obj_cases and tools/measure_cases. What is given is bytes, or as text the path of
+tools/outline_cases and tools/measure_cases. What is given is bytes, or as text the path of
 what is opened, such as a directory. What has to be answered is text, or bytes.
 
 The program is the one that `rt check` or `rt ci` has proved and built. Each case has a folder of its own.

@@ -140,24 +140,29 @@ uint32_t pdb_load_short(const uint8_t *s, size_t s_len, const uint8_t *file, siz
  * place in s and a length in bytes. The form of a numeric leaf is the bytes that it took, 2, 3, 4, 6 or 10, and 256 more where a shorter form carries the
  * number; 0 where there is no numeric leaf. */
 
-/* A type record.
+/* A type record, and which field of each leaf stands at which place; a field with a star may be absent, and is 0 then.
  *
- *   leaf           COUNT            WORD        TYPE             LIST           OTHER             LAST               SIZE, FORM       NAME   UNIQUE
- *   0x1001                          flags       underlying_type
- *   0x1002                          attributes  underlying_type                 containing_class*
- *   0x1008         parameter_count  attributes  return_type*     argument_list
- *   0x1009         parameter_count  attributes  return_type      argument_list  class_type        this_pointer_type* this_adjustment
- *   0x1205         length                       underlying_type                                                      position
- *   0x1503                                      element_type                    indexing_type                        size, form       name
- *   0x1504,        count            properties                   fields*        derived_from*     vtable_shape*      size, form       name   unique_name*
- *   0x1505, 0x1519, 0x1609: as 0x1504
- *   0x1506         count            properties                   fields                                              size, form       name   unique_name*
- *   0x1507         count            properties  underlying_type  fields                                                               name   unique_name*
- *   0x000a         count                                                                                                              the slots, half a byte each
- *   0x1201         count                                                                                                              the arguments, 4 bytes each
- *   0x1203, 0x1206: the leaf alone; pdb_list and pdb_step read their elements
+ * rows: pdb_type
+ *   0x000a LF_VTSHAPE: COUNT count, NAME the elements
+ *   0x1001 LF_MODIFIER: WORD flags, TYPE underlying_type
+ *   0x1002 LF_POINTER: WORD attributes, TYPE underlying_type, OTHER containing_class*
+ *   0x1008 LF_PROCEDURE: COUNT parameter_count, WORD attributes, TYPE return_type*, LIST argument_list
+ *   0x1009 LF_MFUNCTION: COUNT parameter_count, WORD attributes, TYPE return_type, LIST argument_list, OTHER class_type, LAST this_pointer_type*, SIZE this_adjustment
+ *   0x1201 LF_ARGLIST: COUNT count, NAME the elements
+ *   0x1205 LF_BITFIELD: COUNT length, TYPE underlying_type, SIZE position
+ *   0x1503 LF_ARRAY: TYPE element_type, OTHER indexing_type, SIZE size, FORM the form of size, NAME name
+ *   0x1504 LF_CLASS: COUNT count, WORD properties, LIST fields*, OTHER derived_from*, LAST vtable_shape*, SIZE size, FORM the form of size, NAME name, UNIQUE unique_name*
+ *   0x1505 LF_STRUCTURE: COUNT count, WORD properties, LIST fields*, OTHER derived_from*, LAST vtable_shape*, SIZE size, FORM the form of size, NAME name, UNIQUE unique_name*
+ *   0x1506 LF_UNION: COUNT count, WORD properties, LIST fields, SIZE size, FORM the form of size, NAME name, UNIQUE unique_name*
+ *   0x1507 LF_ENUM: COUNT count, WORD properties, TYPE underlying_type, LIST fields, NAME name, UNIQUE unique_name*
+ *   0x1519 LF_INTERFACE: COUNT count, WORD properties, LIST fields*, OTHER derived_from*, LAST vtable_shape*, SIZE size, FORM the form of size, NAME name, UNIQUE unique_name*
+ *   0x1609 LF_STRUCTURE19: COUNT count, WORD properties, LIST fields*, OTHER derived_from*, LAST vtable_shape*, SIZE size, FORM the form of size, NAME name, UNIQUE unique_name*
+ *   0x1203 LF_FIELDLIST: the leaf alone
+ *   0x1206 LF_METHODLIST: the leaf alone
+ * end of rows
  *
- * A field with a star may be absent. The position of a bit field and the adjustment of `this` are plain numbers and have no form. */
+ * The position of a bit field and the adjustment of `this` are plain numbers and have no form. Of 0x000a and 0x1201 NAME and NAME_LENGTH are the slots, half a
+ * byte each, and the arguments, 4 bytes each; the elements of 0x1203 and 0x1206 are pdb_list's and pdb_step's. */
 enum {
     PDB_TYPE_LEAF = 2,
     PDB_TYPE_COUNT,
@@ -176,18 +181,20 @@ enum {
 };
 uint32_t pdb_type(const uint8_t *s, size_t s_len, uint64_t out[PDB_TYPE_OUT]);
 
-/* An id record.
+/* An id record. TYPE and PARENT are type indices, ID is an id index; FILE is an id in 0x1606 and a string reference in 0x1607. Of 0x1603 and 0x1604 NAME and
+ * NAME_LENGTH are the indices, 4 bytes each.
  *
- *   leaf    COUNT  TYPE           PARENT  ID           FILE                        LINE  MODULE  NAME
- *   0x1601         function_type          scope*                                                 name
- *   0x1602         function_type  parent                                                         name
- *   0x1603  count                                                                                the arguments, id indices of 4 bytes
- *   0x1604  count                                                                                the substrings, indices of 4 bytes
- *   0x1605                                substrings*                                            name
- *   0x1606         udt                                 the name's id               line
- *   0x1607         udt                                 the name's string reference line  module
+ * rows: pdb_id
+ *   0x1601 LF_FUNC_ID: TYPE function_type, ID scope*, NAME name
+ *   0x1602 LF_MFUNC_ID: TYPE function_type, PARENT parent, NAME name
+ *   0x1603 LF_BUILDINFO: COUNT count, NAME the elements
+ *   0x1604 LF_SUBSTR_LIST: COUNT count, NAME the elements
+ *   0x1605 LF_STRING_ID: ID substrings*, NAME name
+ *   0x1606 LF_UDT_SRC_LINE: TYPE udt, FILE the name of the file, LINE line
+ *   0x1607 LF_UDT_MOD_SRC_LINE: TYPE udt, FILE the name of the file, LINE line, MODULE module
+ * end of rows
  *
- * TYPE and PARENT are type indices, ID is an id index. A field with a star may be absent. */
+ * A field with a star may be absent, and is 0 then. */
 enum {
     PDB_ID_LEAF = 2,
     PDB_ID_COUNT,
@@ -218,20 +225,21 @@ uint32_t pdb_list(const uint8_t *s, size_t s_len, uint32_t ids, uint64_t out[PDB
 
 /* The element at a cursor, and the cursor behind it, of the same leaf: AT, LEFT, PADDED. Refused by 15 behind the last one.
  *
- *   element of        LEAF            WORD        TYPE         OTHER         VALUE, FORM                MORE, MORE_FORM             NAME
- *   0x1201, 0x1603,                               the index
- *   0x1604
- *   0x1206                            attributes  method_type                vtable_offset*             1 if the offset is there
- *   0x1203            0x1400          attributes  base_class                 offset, form
- *                     0x1401, 0x1402  attributes  base_class   base_pointer  base_pointer_offset, form  virtual_base_offset, form
- *                     0x1404                      continuation
- *                     0x1409                      table
- *                     0x1502          attributes                             value, form                1 if it is negative           name
- *                     0x150d          attributes  field_type                 offset, form                                             name
- *                     0x150e          attributes  field_type                                                                          name
- *                     0x150f          count       method_list                                                                         name
- *                     0x1510          attributes  nested_type                                                                         name
- *                     0x1511          attributes  method_type                vtable_offset*             1 if the offset is there      name
+ * rows: pdb_step
+ *   0x1400 LF_BCLASS: WORD attributes, TYPE base_class, VALUE offset, FORM the form of offset
+ *   0x1401 LF_VBCLASS: WORD attributes, TYPE base_class, OTHER base_pointer, VALUE base_pointer_offset, MORE virtual_base_offset, FORM the form of base_pointer_offset, MORE_FORM the form of virtual_base_offset
+ *   0x1402 LF_IVBCLASS: WORD attributes, TYPE base_class, OTHER base_pointer, VALUE base_pointer_offset, MORE virtual_base_offset, FORM the form of base_pointer_offset, MORE_FORM the form of virtual_base_offset
+ *   0x1404 LF_INDEX: TYPE the list goes on at
+ *   0x1409 LF_VFUNCTAB: TYPE table
+ *   0x1502 LF_ENUMERATE: WORD attributes, VALUE value, MORE 1 if it is negative, FORM the form of value, NAME name
+ *   0x150d LF_MEMBER: WORD attributes, TYPE field_type, VALUE offset, FORM the form of offset, NAME name
+ *   0x150e LF_STMEMBER: WORD attributes, TYPE field_type, NAME name
+ *   0x150f LF_METHOD: WORD count, TYPE method_list, NAME name
+ *   0x1510 LF_NESTTYPE: WORD attributes, TYPE nested_type, NAME name
+ *   0x1511 LF_ONEMETHOD: WORD attributes, TYPE method_type, VALUE vtable_offset*, MORE 1 if it is there, NAME name
+ *   a method of 0x1206, LEAF 0: WORD attributes, TYPE method_type, VALUE vtable_offset*, MORE 1 if it is there
+ *   an index of 0x1201, 0x1603 or 0x1604, LEAF 0: TYPE the index
+ * end of rows
  *
  * The value of 0x1502 is its 64 bits: (int64_t)out[PDB_STEP_VALUE] where MORE is 1. An offset in the table of virtual functions may be 0, and has no form. */
 enum {

@@ -2,113 +2,198 @@
 use crate::error::Result;
 use crate::ffi;
 use crate::stream::TypeIndex;
+use std::fmt;
 
-/// A simple type.
-#[derive(Debug, Clone, Copy, PartialEq, Eq, Hash)]
-pub enum PrimitiveKind {
-    /// Uncharacterized type (no type).
-    NoType,
-    /// Void type.
-    Void,
-    /// Character (byte).
-    Char,
-    /// Unsigned character.
-    UChar,
-    /// "Really a char".
-    RChar,
-    /// Wide characters, i.e. 16 bits.
-    WChar,
-    /// "Really a 16-bit char".
-    RChar16,
-    /// "Really a 32-bit char".
-    RChar32,
-    /// Signed 8-bit integer.
-    I8,
-    /// Unsigned 8-bit integer.
-    U8,
-    /// Signed 16-bit integer.
-    Short,
-    /// Unsigned 16-bit integer.
-    UShort,
-    /// Signed 16-bit integer.
-    I16,
-    /// Unsigned 16-bit integer.
-    U16,
-    /// Signed 32-bit integer.
-    Long,
-    /// Unsigned 32-bit integer.
-    ULong,
-    /// Signed 32-bit integer.
-    I32,
-    /// Unsigned 32-bit integer.
-    U32,
-    /// Signed 64-bit integer.
-    Quad,
-    /// Unsigned 64-bit integer.
-    UQuad,
-    /// Signed 64-bit integer.
-    I64,
-    /// Unsigned 64-bit integer.
-    U64,
-    /// Signed 128-bit integer.
-    Octa,
-    /// Unsigned 128-bit integer.
-    UOcta,
-    /// Signed 128-bit integer.
-    I128,
-    /// Unsigned 128-bit integer.
-    U128,
-    /// 16-bit floating point.
-    F16,
-    /// 32-bit floating point.
-    F32,
-    /// 32-bit partial precision floating point.
-    F32PP,
-    /// 48-bit floating point.
-    F48,
-    /// 64-bit floating point.
-    F64,
-    /// 80-bit floating point.
-    F80,
-    /// 128-bit floating point.
-    F128,
-    /// 32-bit complex number.
-    Complex32,
-    /// 64-bit complex number.
-    Complex64,
-    /// 80-bit complex number.
-    Complex80,
-    /// 128-bit complex number.
-    Complex128,
-    /// 8-bit boolean value.
-    Bool8,
-    /// 16-bit boolean value.
-    Bool16,
-    /// 32-bit boolean value.
-    Bool32,
-    /// 64-bit boolean value.
-    Bool64,
-    /// Windows `HRESULT` error code.
-    HRESULT,
+macro_rules! numbered {
+    ($(#[$outer:meta])* $name:ident { $($(#[$about:meta])* $case:ident = $number:literal,)* }) => {
+        $(#[$outer])*
+        #[derive(Debug, Clone, Copy, PartialEq, Eq, Hash)]
+        pub enum $name {
+            $($(#[$about])* $case,)*
+        }
+
+        impl $name {
+            /// The case of a number.
+            #[inline]
+            pub const fn from_number(number: u8) -> Option<$name> {
+                Some(match number {
+                    $($number => $name::$case,)*
+                    _ => return None,
+                })
+            }
+
+            /// Its number.
+            #[inline]
+            pub const fn number(self) -> u8 {
+                match self {
+                    $($name::$case => $number,)*
+                }
+            }
+
+            /// Its name.
+            pub const fn name(self) -> &'static str {
+                match self {
+                    $($name::$case => stringify!($case),)*
+                }
+            }
+        }
+
+        impl fmt::Display for $name {
+            fn fmt(&self, f: &mut fmt::Formatter<'_>) -> fmt::Result {
+                f.pad(self.name())
+            }
+        }
+    };
+}
+pub(crate) use numbered;
+
+numbered! {
+    /// A simple type. Its number is the low byte of the index.
+    #[non_exhaustive]
+    PrimitiveKind {
+        /// Uncharacterized type (no type).
+        NoType = 0x00,
+        /// Void type.
+        Void = 0x03,
+        /// Windows `HRESULT` error code.
+        HRESULT = 0x08,
+        /// Character (byte).
+        Char = 0x10,
+        /// Unsigned character.
+        UChar = 0x20,
+        /// Signed 8-bit integer.
+        I8 = 0x68,
+        /// Unsigned 8-bit integer.
+        U8 = 0x69,
+        /// "Really a char".
+        RChar = 0x70,
+        /// Wide characters, i.e. 16 bits.
+        WChar = 0x71,
+        /// "Really a 16-bit char".
+        RChar16 = 0x7a,
+        /// "Really a 32-bit char".
+        RChar32 = 0x7b,
+        /// Signed 16-bit integer.
+        Short = 0x11,
+        /// Unsigned 16-bit integer.
+        UShort = 0x21,
+        /// Signed 16-bit integer.
+        I16 = 0x72,
+        /// Unsigned 16-bit integer.
+        U16 = 0x73,
+        /// Signed 32-bit integer.
+        Long = 0x12,
+        /// Unsigned 32-bit integer.
+        ULong = 0x22,
+        /// Signed 32-bit integer.
+        I32 = 0x74,
+        /// Unsigned 32-bit integer.
+        U32 = 0x75,
+        /// Signed 64-bit integer.
+        Quad = 0x13,
+        /// Unsigned 64-bit integer.
+        UQuad = 0x23,
+        /// Signed 64-bit integer.
+        I64 = 0x76,
+        /// Unsigned 64-bit integer.
+        U64 = 0x77,
+        /// Signed 128-bit integer.
+        Octa = 0x14,
+        /// Unsigned 128-bit integer.
+        UOcta = 0x24,
+        /// Signed 128-bit integer.
+        I128 = 0x78,
+        /// Unsigned 128-bit integer.
+        U128 = 0x79,
+        /// 16-bit floating point.
+        F16 = 0x46,
+        /// 32-bit floating point.
+        F32 = 0x40,
+        /// 32-bit partial precision floating point.
+        F32PP = 0x45,
+        /// 48-bit floating point.
+        F48 = 0x44,
+        /// 64-bit floating point.
+        F64 = 0x41,
+        /// 80-bit floating point.
+        F80 = 0x42,
+        /// 128-bit floating point.
+        F128 = 0x43,
+        /// 32-bit complex number.
+        Complex32 = 0x50,
+        /// 64-bit complex number.
+        Complex64 = 0x51,
+        /// 80-bit complex number.
+        Complex80 = 0x52,
+        /// 128-bit complex number.
+        Complex128 = 0x53,
+        /// 8-bit boolean value.
+        Bool8 = 0x30,
+        /// 16-bit boolean value.
+        Bool16 = 0x31,
+        /// 32-bit boolean value.
+        Bool32 = 0x32,
+        /// 64-bit boolean value.
+        Bool64 = 0x33,
+    }
 }
 
-/// How a primitive type is pointed to.
-#[derive(Debug, Clone, Copy, PartialEq, Eq, Hash)]
-pub enum Indirection {
-    /// 16-bit ("near") pointer.
-    Near16,
-    /// 16:16 far pointer.
-    Far16,
-    /// 16:16 huge pointer.
-    Huge16,
-    /// 32-bit pointer.
-    Near32,
-    /// 48-bit 16:32 pointer.
-    Far32,
-    /// 64-bit near pointer.
-    Near64,
-    /// 128-bit near pointer.
-    Near128,
+numbered! {
+    /// How a primitive type is pointed to. Its number is bits 8 to 11 of the index.
+    Indirection {
+        /// 16-bit ("near") pointer.
+        Near16 = 1,
+        /// 16:16 far pointer.
+        Far16 = 2,
+        /// 16:16 huge pointer.
+        Huge16 = 3,
+        /// 32-bit pointer.
+        Near32 = 4,
+        /// 48-bit 16:32 pointer.
+        Far32 = 5,
+        /// 64-bit near pointer.
+        Near64 = 6,
+        /// 128-bit near pointer.
+        Near128 = 7,
+    }
+}
+
+impl PrimitiveKind {
+    /// How many bytes it has, as its name says; none of `NoType` and `Void`. This is the crate's own table: the records say nothing of it.
+    pub const fn size(self) -> Option<u8> {
+        use PrimitiveKind::*;
+        Some(match self {
+            NoType | Void => return None,
+            Char | UChar | RChar | I8 | U8 | Bool8 => 1,
+            WChar | RChar16 | Short | UShort | I16 | U16 | Bool16 | F16 => 2,
+            RChar32 | Long | ULong | I32 | U32 | Bool32 | F32 | F32PP | HRESULT => 4,
+            F48 => 6,
+            Quad | UQuad | I64 | U64 | Bool64 | F64 | Complex32 => 8,
+            F80 => 10,
+            Octa | UOcta | I128 | U128 | F128 | Complex64 => 16,
+            Complex80 => 20,
+            Complex128 => 32,
+        })
+    }
+
+    /// Whether it is an integer that can be negative, a `char` among them.
+    pub const fn is_signed(self) -> bool {
+        use PrimitiveKind::*;
+        matches!(self, Char | RChar | I8 | Short | I16 | Long | I32 | Quad | I64 | Octa | I128 | HRESULT)
+    }
+}
+
+impl Indirection {
+    /// How many bytes such a pointer has.
+    pub const fn size(self) -> u8 {
+        match self {
+            Indirection::Near16 => 2,
+            Indirection::Far16 | Indirection::Huge16 | Indirection::Near32 => 4,
+            Indirection::Far32 => 6,
+            Indirection::Near64 => 8,
+            Indirection::Near128 => 16,
+        }
+    }
 }
 
 /// A primitive type like `void` or `char *`.
@@ -120,74 +205,35 @@ pub struct PrimitiveType {
     pub indirection: Option<Indirection>,
 }
 
-/// The primitive type of an index; refused as not found where it names none.
-pub fn primitive(index: TypeIndex) -> Result<PrimitiveType> {
-    let o = ffi::primitive(index.0)?;
-    Ok(PrimitiveType {
-        kind: kind(o[2]),
-        indirection: indirection(o[3]),
-    })
-}
-
-/// The kind that a low byte names: the list of crates/word_primitive/specs/Kinds.antt.
-fn kind(low: u64) -> PrimitiveKind {
-    match low {
-        0x00 => PrimitiveKind::NoType,
-        0x03 => PrimitiveKind::Void,
-        0x08 => PrimitiveKind::HRESULT,
-        0x10 => PrimitiveKind::Char,
-        0x20 => PrimitiveKind::UChar,
-        0x68 => PrimitiveKind::I8,
-        0x69 => PrimitiveKind::U8,
-        0x70 => PrimitiveKind::RChar,
-        0x71 => PrimitiveKind::WChar,
-        0x7a => PrimitiveKind::RChar16,
-        0x7b => PrimitiveKind::RChar32,
-        0x11 => PrimitiveKind::Short,
-        0x21 => PrimitiveKind::UShort,
-        0x72 => PrimitiveKind::I16,
-        0x73 => PrimitiveKind::U16,
-        0x12 => PrimitiveKind::Long,
-        0x22 => PrimitiveKind::ULong,
-        0x74 => PrimitiveKind::I32,
-        0x75 => PrimitiveKind::U32,
-        0x13 => PrimitiveKind::Quad,
-        0x23 => PrimitiveKind::UQuad,
-        0x76 => PrimitiveKind::I64,
-        0x77 => PrimitiveKind::U64,
-        0x14 => PrimitiveKind::Octa,
-        0x24 => PrimitiveKind::UOcta,
-        0x78 => PrimitiveKind::I128,
-        0x79 => PrimitiveKind::U128,
-        0x46 => PrimitiveKind::F16,
-        0x40 => PrimitiveKind::F32,
-        0x45 => PrimitiveKind::F32PP,
-        0x44 => PrimitiveKind::F48,
-        0x41 => PrimitiveKind::F64,
-        0x42 => PrimitiveKind::F80,
-        0x43 => PrimitiveKind::F128,
-        0x50 => PrimitiveKind::Complex32,
-        0x51 => PrimitiveKind::Complex64,
-        0x52 => PrimitiveKind::Complex80,
-        0x53 => PrimitiveKind::Complex128,
-        0x30 => PrimitiveKind::Bool8,
-        0x31 => PrimitiveKind::Bool16,
-        0x32 => PrimitiveKind::Bool32,
-        0x33 => PrimitiveKind::Bool64,
-        n => unreachable!("libpane.a gives no kind {n:#x}"),
+impl PrimitiveType {
+    /// How many bytes it has: those of its pointer, or of its kind. None of `NoType` and `Void`.
+    pub const fn size(self) -> Option<u8> {
+        match self.indirection {
+            Some(pointer) => Some(pointer.size()),
+            None => self.kind.size(),
+        }
     }
 }
 
-fn indirection(high: u64) -> Option<Indirection> {
-    match high {
-        0 => None,
-        1 => Some(Indirection::Near16),
-        2 => Some(Indirection::Far16),
-        3 => Some(Indirection::Huge16),
-        4 => Some(Indirection::Near32),
-        5 => Some(Indirection::Far32),
-        6 => Some(Indirection::Near64),
-        7 => Some(Indirection::Near128),
-        n => unreachable!("libpane.a gives no indirection {n}"),
+/// The primitive type of an index; refused as not found where it names none.
+///
+/// ```
+/// use pdb_types::{primitive, Indirection, PrimitiveKind, TypeIndex};
+///
+/// let pointer = primitive(TypeIndex(0x0674))?;
+/// assert_eq!((pointer.kind, pointer.indirection), (PrimitiveKind::I32, Some(Indirection::Near64)));
+/// # Ok::<(), pdb_types::Error>(())
+/// ```
+#[inline]
+pub fn primitive(index: TypeIndex) -> Result<PrimitiveType> {
+    ffi::primitive(index.0, |o| numbered_type(o[2], o[3]))
+}
+
+/// The type of a kind and an indirection as the library gives them. It gives known kinds only, so that `NoType` never stands in for another.
+#[inline]
+pub(crate) fn numbered_type(kind: u64, indirection: u64) -> PrimitiveType {
+    PrimitiveType {
+        kind: PrimitiveKind::from_number(kind as u8).unwrap_or(PrimitiveKind::NoType),
+        indirection: Indirection::from_number(indirection as u8),
     }
 }

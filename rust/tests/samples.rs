@@ -1,5 +1,5 @@
 //! The samples of the repository, and small streams that are refused. What is wanted is worked out here from the bytes, a second time.
-use pane::{primitive, Error, Header, IdInformation, Indirection, Item, ItemIndex, ItemInformation, PrimitiveKind, TypeIndex, TypeInformation};
+use pdb_types::{primitive, Error, Header, IdInformation, Indirection, Item, ItemIndex, ItemInformation, PrimitiveKind, TypeIndex, TypeInformation};
 use std::path::PathBuf;
 
 fn sample(name: &str) -> Vec<u8> {
@@ -175,7 +175,25 @@ fn primitives() {
 #[test]
 fn errors_by_name_and_number() {
     let e: Box<dyn std::error::Error> = Box::new(Error::NotIndexed(0x1004, 0x1003));
-    assert_eq!(e.to_string(), "not indexed: index 0x1004, the highest indexed is 0x1003");
+    assert_eq!(e.to_string(), "refused 9, not indexed: 4100, 4099");
     assert_eq!(Error::EndedAfter(0).number(), 1);
     assert_eq!(Error::Shift.number(), 26);
+}
+
+/// What holds bytes and numbers alone can go to another thread.
+#[test]
+fn threads() {
+    fn sent<T: Send + Sync>() {}
+    sent::<pdb_types::Types<'_>>();
+    sent::<pdb_types::TypeData<'_>>();
+    sent::<pdb_types::Report>();
+    sent::<pdb_types::Writer>();
+    sent::<Error>();
+    let s = sample("rich-x64.tpi");
+    let types = pdb_types::Types::parse(&s).expect("a stream");
+    std::thread::scope(|scope| {
+        for _ in 0..2 {
+            scope.spawn(|| types.iter().for_each(|item| drop(types.declare(item.expect("a record").index()))));
+        }
+    });
 }

@@ -1,0 +1,205 @@
+//! Files: read whole, and told apart by what they hold.
+use crate::args::Call;
+use crate::extract;
+use crate::fail::{reason, Failure};
+use pdb_types::{Item, ItemInformation, Leaf, Section, TypeIndex};
+use std::ffi::OsStr;
+use std::io::{self, IsTerminal, Read};
+
+/// What a file holds.
+#[derive(Debug, Clone, Copy, PartialEq, Eq)]
+pub enum Kind {
+    /// A type or id stream; what is nothing else counts as one, and is refused as such.
+    Stream,
+    /// A section `.debug$T` of an object file.
+    Section,
+    /// The places of a stream.
+    Places,
+    /// A whole program database.
+    Database,
+    /// An object file.
+    Object,
+    /// A library of object files.
+    Library,
+    /// A program or a DLL.
+    Program,
+}
+
+/// How a program database begins.
+const DATABASE: &[u8] = b"Microsoft C/C++ MSF";
+/// The machines whose object files are known: x86-64, x86 and Arm64.
+const MACHINES: [u16; 3] = [0x8664, 0x014c, 0xaa64];
+
+fn number(bytes: &[u8], at: usize) -> Option<u32> {
+    let four = bytes.get(at..at.checked_add(4)?)?;
+    Some(u32::from_le_bytes([four[0], four[1], four[2], four[3]]))
+}
+
+/// Whether the bytes end as a places file does: its own length, and its letters.
+fn ends_as_places(bytes: &[u8]) -> bool {
+    let letters = bytes.ends_with(b"PTIX") || bytes.ends_with(b"PTIY");
+    letters && bytes.len() >= 8 && number(bytes, bytes.len() - 8) == u32::try_from(bytes.len()).ok()
+}
+
+/// What the bytes of a file are.
+pub fn kind(bytes: &[u8]) -> Kind {
+    if bytes.starts_with(DATABASE) {
+        return Kind::Database;
+    }
+    if ends_as_places(bytes) {
+        return Kind::Places;
+    }
+    match bytes {
+        [4, 0, 0, 0, ..] => Kind::Section,
+        // an object file of more sections than its first form counts
+        [0, 0, 0xff, 0xff, ..] => Kind::Object,
+        [b'M', b'Z', ..] => Kind::Program,
+        _ if bytes.starts_with(b"!<arch>\n") => Kind::Library,
+        [low, high, ..] if MACHINES.contains(&u16::from_le_bytes([*low, *high])) => Kind::Object,
+        _ => Kind::Stream,
+    }
+}
+
+/// A file's name, as it is said.
+pub fn name(word: &OsStr) -> String {
+    match word.to_str() {
+        Some("-") => "standard input".to_string(),
+        _ => word.to_string_lossy().into_owned(),
+    }
+}
+
+/// Whether a file, and nothing that can be read but once, begins as a program database does. It may be large, and only the tool needs to read it.
+fn is_database_file(word: &OsStr) -> bool {
+    let begins = || -> io::Result<bool> {
+        let mut file = std::fs::File::open(word)?;
+        let mut first = [0; DATABASE.len()];
+        Ok(file.read_exact(&mut first).is_ok() && first == DATABASE)
+    };
+    // a fifo is not opened: that would take its writer's bytes
+    word != "-" && std::fs::metadata(word).is_ok_and(|about| about.is_file()) && begins().unwrap_or(false)
+}
+
+/// The bytes of a file, or of standard input for `-`.
+pub fn bytes(word: &OsStr) -> Result<Vec<u8>, Failure> {
+    let cannot = |e: io::Error| Failure::File(name(word), format!("cannot be read: {}", reason(&e)));
+    if word != "-" {
+        return std::fs::read(word).map_err(cannot);
+    }
+    if io::stdin().is_terminal() {
+        return Err(Failure::Usage("no file; give one, or pipe it in".to_string()));
+    }
+    let mut bytes = Vec::new();
+    io::stdin().lock().read_to_end(&mut bytes).map_err(cannot)?;
+    Ok(bytes)
+}
+
+/// A stream or a section: what every command but `lookup` and `compose` starts from.
+pub struct Input {
+    /// The file's name, as it is said.
+    pub name: String,
+    pub bytes: Vec<u8>,
+    pub kind: Kind,
+    /// Whether it is an id stream, whose type indices are those of another stream.
+    pub ids: bool,
+}
+
+impl Input {
+    /// The first file of a call.
+    pub fn of(call: &Call) -> Result<Input, Failure> {
+        Input::open(call.file(), call.ids)
+    }
+
+    /// A file. A stream is taken out of a database, and a section out of an object file, by the tools that do so.
+    pub fn open(word: &OsStr, ids: bool) -> Result<Input, Failure> {
+        if is_database_file(word) {
+            let bytes = extract::stream(word, None, ids)?;
+            let (name, kind, ids) = (name(word), Kind::Stream, ids || is_ids(&bytes));
+            return Ok(Input { name, bytes, kind, ids });
+        }
+        Input::told(word, bytes(word)?, ids)
+    }
+
+    /// The same of bytes that were read.
+    pub fn told(word: &OsStr, mut bytes: Vec<u8>, ids: bool) -> Result<Input, Failure> {
+        let (name, mut kind) = (name(word), kind(&bytes));
+        match kind {
+            Kind::Database => bytes = extract::stream(word, Some(&bytes), ids)?,
+            Kind::Object => bytes = extract::section(word, Some(&bytes))?,
+            Kind::Stream | Kind::Section => {}
+            Kind::Places => {
+                let why = "a places file, which goes with its stream: pdbtypes lookup STREAM PLACES INDEX";
+                return Err(Failure::File(name, why.to_string()));
+            }
+            Kind::Library => {
+                let why = format!("a library of object files; get them out by: ar x {}", extract::quoted(word));
+                return Err(Failure::File(name, why));
+            }
+            Kind::Program => {
+                let why = "a program or a DLL, whose types are in its program database, a file that ends in .pdb";
+                return Err(Failure::File(name, why.to_string()));
+            }
+        }
+        kind = match kind {
+            Kind::Object => Kind::Section,
+            Kind::Database => Kind::Stream,
+            kind => kind,
+        };
+        let ids = kind == Kind::Stream && (ids || is_ids(&bytes));
+        Ok(Input { name, bytes, kind, ids })
+    }
+
+    /// The same as a stream: a section is made into one, whose header counts its records.
+    pub fn into_stream(mut self) -> Result<Input, Failure> {
+        if self.kind == Kind::Section {
+            self.bytes = self.refused(Section::parse(&self.bytes).and_then(|section| section.to_stream()))?;
+        }
+        Ok(self)
+    }
+
+    /// The first file of a call as a stream.
+    pub fn stream_of(call: &Call) -> Result<Input, Failure> {
+        Input::of(call)?.into_stream()
+    }
+
+    /// An answer of the library, or its refusal with the file's name.
+    pub fn refused<T>(&self, answer: pdb_types::Result<T>) -> Result<T, Failure> {
+        answer.map_err(|e| Failure::Refused(self.name.clone(), e))
+    }
+}
+
+/// Whether a leaf is one of ids.
+pub fn is_id_leaf(leaf: u16) -> bool {
+    (0x1601..=0x1607).contains(&leaf) && Leaf(leaf).name().is_some()
+}
+
+/// Whether a stream has ids alone.
+fn is_ids(stream: &[u8]) -> bool {
+    let Ok(information) = ItemInformation::<TypeIndex>::parse(stream) else {
+        return false;
+    };
+    let is_id = |item: &Item<'_, TypeIndex>| item.raw_kind().is_ok_and(is_id_leaf);
+    let mut items = information.iter().map_while(Result::ok).peekable();
+    items.peek().is_some() && items.all(|item| is_id(&item))
+}
+
+#[cfg(test)]
+mod tests {
+    use super::*;
+
+    #[test]
+    fn kinds() {
+        let sample = |name: &str| std::fs::read(format!("../../samples/{name}")).expect(name);
+        assert_eq!(kind(&sample("rich-x64.tpi")), Kind::Stream);
+        assert_eq!(kind(&sample("rich-x64.debugT")), Kind::Section);
+        assert_eq!(kind(b"Microsoft C/C++ MSF 7.00\r\n"), Kind::Database);
+        assert_eq!(kind(b"\x64\x86\x08\0"), Kind::Object);
+        assert_eq!(kind(b"\0\0\xff\xff\x02\0"), Kind::Object);
+        assert_eq!(kind(b"!<arch>\n"), Kind::Library);
+        assert_eq!(kind(b"MZ\x90\0"), Kind::Program);
+        assert_eq!(kind(b""), Kind::Stream);
+        assert_eq!(kind(b"PTIX"), Kind::Stream);
+        assert_eq!(kind(b"\0\0\0\0\x0c\0\0\0PTIX"), Kind::Places);
+        assert!(is_ids(&sample("rich-x64.ipi")) && is_ids(&sample("hand.ipi")));
+        assert!(!is_ids(&sample("rich-x64.tpi")) && !is_ids(b""));
+    }
+}
