@@ -1,5 +1,5 @@
-//! Type records by the layouts of document 01, as compare/layouts.py has them, with the known reasons why the crate may differ. A second reading, written apart
-//! from the port's sources: the port's answer must be this one, whatever the crate says.
+//! Type records by the layouts of document 01, as compare/layouts.py has them, with the forms of numeric leaves (02's R-4) and the known reasons why the crate may
+//! differ. A second reading, written apart from the port's sources: the port's answer must be this one, whatever the crate says.
 use crate::answer::{Answer, NONE};
 
 /// The rules of docs/DIFFERENCES.md by name, as compare/compare.py has them.
@@ -19,6 +19,21 @@ pub(crate) struct Reader<'a> {
     pub s: &'a [u8],
     pub at: usize,
     pub why: u32,
+    pub forms: Vec<u64>,
+}
+
+/// The fewest bytes that carry a number, by trying every form.
+fn shortest(value: i128) -> u64 {
+    if (0..0x8000).contains(&value) {
+        return 2;
+    }
+    for (width, signed) in [(1, true), (2, true), (2, false), (4, true), (4, false), (8, true), (8, false)] {
+        let (low, high) = if signed { (-(1i128 << (8 * width - 1)), 1i128 << (8 * width - 1)) } else { (0, 1i128 << (8 * width)) };
+        if low <= value && value < high {
+            return 2 + width;
+        }
+    }
+    unreachable!()
 }
 
 fn is_record(leaf: u64) -> bool {
@@ -34,7 +49,7 @@ fn is_member(leaf: u64) -> bool {
 
 impl<'a> Reader<'a> {
     pub fn new(s: &'a [u8]) -> Self {
-        Reader { s, at: 0, why: 0 }
+        Reader { s, at: 0, why: 0, forms: Vec::new() }
     }
     fn note(&mut self, name: &str) {
         self.why |= reason(name);
@@ -70,7 +85,15 @@ impl<'a> Reader<'a> {
         }
         Ok(())
     }
+    /// A number, whose form is kept: the bytes that it took, and 256 more where fewer carry it.
     pub fn number(&mut self, may_be_negative: bool) -> Result<i128, Refused> {
+        let start = self.at;
+        let value = self.plain_number(may_be_negative)?;
+        let width = (self.at - start) as u64;
+        self.forms.push(if shortest(value) < width { width + 256 } else { width });
+        Ok(value)
+    }
+    fn plain_number(&mut self, may_be_negative: bool) -> Result<i128, Refused> {
         let prefix = self.u(2)?;
         if prefix < 0x8000 {
             return Ok(prefix.into());
@@ -280,21 +303,25 @@ impl<'a> Reader<'a> {
     fn list(&mut self, leaf: u64) -> Answer {
         let mut a = Answer::of(vec![leaf]);
         loop {
+            let before = self.forms.len();
             let got = if leaf == 0x1203 { self.next_member(a.elements.is_empty()) } else { self.next_method() };
             match got {
                 Ok(e) => {
                     let last = leaf == 0x1203 && e[0] == 0x1404;
                     a.elements.push(e);
-                    if last {
-                        a.end = (15, 0);
-                        return a;
+                    if !last {
+                        continue;
                     }
+                    a.end = (15, 0);
                 }
+                // an element that is refused shows no form
                 Err(end) => {
                     a.end = end;
-                    return a;
+                    self.forms.truncate(before);
                 }
             }
+            a.forms = std::mem::take(&mut self.forms);
+            return a;
         }
     }
     fn whole(&mut self) -> Result<Answer, Refused> {
@@ -318,7 +345,9 @@ impl<'a> Reader<'a> {
         if !is_record(leaf) {
             return Err(self.foreign(leaf, false));
         }
-        Ok(Answer::of(self.record(leaf)?))
+        let mut a = Answer::of(self.record(leaf)?);
+        a.forms = std::mem::take(&mut self.forms);
+        Ok(a)
     }
 }
 

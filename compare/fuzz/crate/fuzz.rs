@@ -414,6 +414,7 @@ fn numbers(s: &[u8]) {
     let n = unsafe { pdb_size(s.as_ptr(), s.len(), 0, out.as_mut_ptr()) };
     let ours = if n == 0 { Ok(i128::from(out[2])) } else { Err((n, out[0])) };
     hold(ours == wanted && (n != 0 || out[5] == r.at as u64), "a size is 01's", n.into(), out[2]);
+    hold(n != 0 || r.forms == [out[3] + 256 * out[4]], "a size's form is 02's", out[3], out[4]);
     match asked(|| data::unsigned(s)) {
         None => unsafe { PANICS_UNNAMED += 1 },
         Some(theirs) => {
@@ -430,6 +431,7 @@ fn numbers(s: &[u8]) {
     let n = unsafe { pdb_number(s.as_ptr(), s.len(), 0, out.as_mut_ptr()) };
     let ours = if n == 0 { Ok(if out[3] == 1 { i128::from(out[2] as i64) } else { i128::from(out[2]) }) } else { Err((n, out[0])) };
     hold(ours == wanted && (n != 0 || out[6] == r.at as u64), "a number is 01's", n.into(), out[2]);
+    hold(n != 0 || r.forms == [out[4] + 256 * out[5]], "a number's form is 02's", out[4], out[5]);
     match asked(|| flat::number(s)) {
         None => unsafe { PANICS_UNNAMED += 1 },
         Some(theirs) => {

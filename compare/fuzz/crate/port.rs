@@ -52,7 +52,8 @@ fn elements(s: &[u8], ids: u32, a: &mut Answer) {
             a.end = (number, out[0]);
             return;
         }
-        let [_, _, next, less, pads, member, word, t, other, value, more, _, _, name, length] = out;
+        let [_, _, next, less, pads, member, word, t, other, value, more, form, more_form, name, length] = out;
+        a.forms.extend([form, more_form].iter().filter(|f| **f != 0));
         a.elements.push(match leaf {
             0x1206 => vec![word, t, if more != 0 { value } else { NONE }],
             0x1203 => match member {
@@ -78,7 +79,7 @@ pub(crate) fn type_record(s: &[u8]) -> Answer {
     if number != 0 {
         return Answer::refused((number, out[0]));
     }
-    let [_, _, leaf, count, word, t, list, other, last, size, _, name, length, unique, unique_length] = out;
+    let [_, _, leaf, count, word, t, list, other, last, size, form, name, length, unique, unique_length] = out;
     let [m, k] = string(unique, unique_length);
     let mut a = Answer::of(match leaf {
         0x1001 => vec![leaf, t, word & 1, word >> 1 & 1, word >> 2 & 1],
@@ -96,6 +97,7 @@ pub(crate) fn type_record(s: &[u8]) -> Answer {
         0x1201 => vec![leaf, count],
         _ => vec![leaf],
     });
+    a.forms.extend([form].iter().filter(|f| **f != 0));
     if matches!(leaf, 0x1201 | 0x1203 | 0x1206) {
         elements(s, 0, &mut a);
     }
