@@ -1,9 +1,9 @@
 #!/usr/bin/env python3
 """Compiles the declarations of samples/plain-x64.tpi's types beside samples/src/plain.c, and has the compiler compare their sizes with those of the records.
 
-    compile_declarations.py [COMPILER..]      the program `declarations` must have been built: rt check declarations
+    compile_declarations.py [COMPILER..]      takes the declarations from `./run declare`
 
-COMPILER is `gcc` unless another is named, as `clang --target=x86_64-pc-windows-msvc`. Each line of the program is a C type name: it is given to `typedef`,
+COMPILER is `gcc` unless another is named, as `clang --target=x86_64-pc-windows-msvc`. Each line is a C type name: it is given to `typedef`,
 so that it must parse, and where the record has a size, to `sizeof`, which must be that. Procedures have no size, nor has `void`; an array whose length is
 unknown has none either. An array of such arrays, as `point [3][]`, is no C, and is left out. No part of the gate.
 """
@@ -14,7 +14,7 @@ import tempfile
 
 HERE = os.path.dirname(os.path.abspath(__file__))
 ROOT = os.path.dirname(HERE)
-sys.path.insert(0, HERE)
+sys.path.insert(0, os.path.join(ROOT, "model"))
 import declaring
 
 SAMPLE = os.path.join(ROOT, "samples", "plain-x64.tpi")
@@ -38,7 +38,7 @@ def main():
     with open(SAMPLE, "rb") as f:
         data = f.read()
     stream = declaring.Stream(data)
-    lines = subprocess.run(["tools/program", "declarations"], cwd=ROOT, input=data, capture_output=True, check=True).stdout.decode().split("\n")
+    lines = subprocess.run(["./run", "declare", SAMPLE], cwd=ROOT, capture_output=True, check=False).stdout.decode().split("\n")
     made, sized, refused, open_ended = [], 0, 0, 0
     for line in lines[:-1]:
         index, text = line.split(" ", 1)

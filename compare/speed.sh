@@ -63,9 +63,9 @@ for stream; do
       primitives) over=$((4096 * fewest)) ;;
     esac
     case $op in
-      load0) "$root/compare/places.py" save "$stream" "$places" 0; op=load name=load0 ;;
-      load6) "$root/compare/places.py" save "$stream" "$places" 6; op=load name=load6 ;;
-      load) "$root/compare/places.py" save "$stream" "$places" 3; name=load ;;
+      load0) "$root/model/places.py" save "$stream" "$places" 0; op=load name=load0 ;;
+      load6) "$root/model/places.py" save "$stream" "$places" 6; op=load name=load6 ;;
+      load) "$root/model/places.py" save "$stream" "$places" 3; name=load ;;
       *) name=$op ;;
     esac
     port=$(($(count "$measure" $op $((2 * n)) "$stream") - $(count "$measure" $op $n "$stream")))

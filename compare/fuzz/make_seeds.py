@@ -10,7 +10,7 @@ import shutil
 import struct
 import sys
 
-sys.path.insert(0, "compare")
+sys.path.insert(0, "model")
 import fitting
 
 TO = "compare/fuzz/seeds"
@@ -48,7 +48,7 @@ def one_of_each(names, most=300):
                 by_leaf.setdefault(payload[:2], set()).add(payload)
     for found in by_leaf.values():
         found = sorted(found, key=lambda p: (len(p), p))
-        yield from dict.fromkeys((found[0], found[len(found) // 2], found[-1]))
+        yield from sorted({found[0], found[len(found) // 2], found[-1]})
 
 
 def arrays():

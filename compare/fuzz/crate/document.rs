@@ -1,4 +1,4 @@
-//! Type records by the layouts of document 01, as compare/layouts.py has them, with the forms of numeric leaves (02's R-4) and the known reasons why the crate may
+//! Type records by the layouts of document 01, as model/layouts.py has them, with the forms of numeric leaves (02's R-4) and the known reasons why the crate may
 //! differ. A second reading, written apart from the port's sources: the port's answer must be this one, whatever the crate says.
 use crate::answer::{Answer, NONE};
 

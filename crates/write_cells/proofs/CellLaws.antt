@@ -1,5 +1,5 @@
 -- What a cell's kind says of its value. Assumes nothing.
-use Prim.Native.Nat.{ℕ, _+_, _<_, _%_, _/_}
+use Prim.Native.Nat.{ℕ, _+_, _<_, _%_, _/_, _^_}
 use native.Mathlib.Omega.{arith}
 use mathlib.Core.Bool.{Bool, true, false}
 use mathlib.Core.Path.{_≡_, refl}
@@ -7,16 +7,30 @@ use mathlib.Core.List.{List}
 use mathlib.Core.Option.{none, some}
 use lib.IntN.{ℤ, pos, negsuc}
 use lib.ListN.{length}
-use lib.Dec.{eqb, leb}
-use borrow.Author.Tests.{ne-eqb, eqb-false, leb-true}
+use lib.Dec.{eqb, leb, ltb}
+use borrow.Author.Tests.{ne-eqb, eqb-true, eqb-false, leb-true, ltb-true}
 use Rattle.answer.specs.Answer.{pick}
+use Rattle.answer.specs.Tables.{among}
+use Rattle.field.specs.Bytes.{bytes}
 use Rattle.field_number.specs.Forms.{Form}
 use Rattle.record_layout.specs.Fields.{number, numeral, absent, many, numberOr}
 use Rattle.word_attributes.specs.Pointers.{kindOf, modeOf, toMemberOf}
 use Rattle.write_layout.specs.Runs.{partAt}
-use Rattle.write_layout.specs.Fields.{ToWrite, given, bytesIn, Encoded, bad, only, ofNumber, ofNumeral, ofAbsent, ofMany, optionalBytes, sizeBytes}
+use Rattle.write_layout.specs.Fields.{ToWrite, given, bytesIn, Encoded, bad, only, ofNumber, ofNumeral, ofAbsent, ofMany, fixedBytes, optionalBytes, sizeBytes}
 use Rattle.write_layout.proofs.RunLaws.{part-length}
-use Rattle.write_cells.specs.Cells.{cellIn}
+use Rattle.write_cells.specs.Cells.{cellIn, good}
+
+never : {X : Type 0} → false ≡ true → X
+never h = let z : _≡_ {A = ℕ} 0 1 = cc in absurd (omega arith)
+
+-- a number that is good fits
+good-fits : (k n : ℕ) → good (fixedBytes k n) ≡ true → n < 256 ^ k
+unfolding fixedBytes
+good-fits k n e = go (ltb n (256 ^ k)) refl e
+  where
+    go : (b : Bool) → ltb n (256 ^ k) ≡ b → good (only b (bytes k n)) ≡ true → n < 256 ^ k
+    go true f g = ltb-true n (256 ^ k) f
+    go false f g = never g
 
 module _ (t : List ℕ) (kind value more : ℕ) where
   abbrev Cell : ToWrite
@@ -85,6 +99,27 @@ module _ (t : List ℕ) (kind value more : ℕ) where
       go false false false false true = refl
       go false false false false false = refl
 
+  -- what a good field says of its cell
+  pub good-number : (k : ℕ) → good (ofNumber Cell (fixedBytes k)) ≡ true → (kind ≡ 2) × (value < 256 ^ k)
+  good-number k e = go (eqb kind 2) refl
+    where
+      go : (b : Bool) → eqb kind 2 ≡ b → (kind ≡ 2) × (value < 256 ^ k)
+      go true f = (eqb-true kind 2 f, good-fits k value (rw (is-number (eqb-true kind 2 f)) at e))
+      go false f = never (rw (not-number (eqb-false kind 2 f) (fixedBytes k)) at e)
+
+  pub good-word : (k : ℕ) (test : ℕ → Bool) → good (ofNumber Cell (λ n. pick (test n) (fixedBytes k n) bad)) ≡ true → (kind ≡ 2) × (test value ≡ true) × (value < 256 ^ k)
+  good-word k test e = go (eqb kind 2) refl
+    where
+      by : (b : Bool) → test value ≡ b → good (pick b (fixedBytes k value) bad) ≡ true → (test value ≡ true) × (value < 256 ^ k)
+      by true f g = (f, good-fits k value g)
+      by false f g = never g
+
+      go : (b : Bool) → eqb kind 2 ≡ b → (kind ≡ 2) × (test value ≡ true) × (value < 256 ^ k)
+      go true f =
+          let z = by (test value) refl (rw (is-number (eqb-true kind 2 f)) at e) in
+          (eqb-true kind 2 f, z .0, z .1)
+      go false f = never (rw (not-number (eqb-false kind 2 f) (λ n. pick (test n) (fixedBytes k n) bad)) at e)
+
   pub not-optional : (kind ≡ 1 → ⊥) → (kind ≡ 2 → ⊥) → (nones : List ℕ) → optionalBytes nones Cell ≡ bad
   unfolding optionalBytes
   not-optional h k nones = rw (ne-eqb kind 1 h, ne-eqb kind 2 k) (go (eqb kind 3) (eqb kind 4) (eqb kind 5) (eqb kind 6))
@@ -95,6 +130,20 @@ module _ (t : List ℕ) (kind value more : ℕ) where
       go false false true f = refl
       go false false false true = refl
       go false false false false = refl
+
+  pub good-optional : (nones : List ℕ) → (kind ≡ 1 → ⊥) → good (optionalBytes nones Cell) ≡ true → (kind ≡ 2) × (among value nones ≡ false) × (value < 256 ^ 4)
+  unfolding optionalBytes
+  good-optional nones h e = go (eqb kind 2) refl
+    where
+      by : (b : Bool) → among value nones ≡ b → good (pick b bad (fixedBytes 4 value)) ≡ true → (among value nones ≡ false) × (value < 256 ^ 4)
+      by true f g = never g
+      by false f g = (f, good-fits 4 value g)
+
+      go : (b : Bool) → eqb kind 2 ≡ b → (kind ≡ 2) × (among value nones ≡ false) × (value < 256 ^ 4)
+      go true f =
+          let z = by (among value nones) refl (rw (is-number (eqb-true kind 2 f)) at e) in
+          (eqb-true kind 2 f, z .0, z .1)
+      go false f = never (rw (not-optional h (eqb-false kind 2 f) nones) at e)
 
   pub not-size : (kind ≡ 3 → ⊥) → (kind ≡ 4 → ⊥) → ofNumeral Cell sizeBytes ≡ bad
   unfolding sizeBytes

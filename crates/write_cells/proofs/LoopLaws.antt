@@ -1,68 +1,88 @@
--- The laws of a record's pieces, over every layout. Assumes nothing.
-use Prim.Native.Nat.{ℕ, zero, suc, _+_, _-_, _*_, _/_, _%_, _≤_, _<_}
+-- The laws of the two loops over a record's fields, over every layout. Assumes nothing.
+use Prim.Native.Nat.{ℕ, zero, suc, _+_, _-_, _*_, _/_, _%_, _≤_, _<_, min}
 use native.Mathlib.Omega.{arith}
 use native.Mathlib.Numerals.{add-one}
+use mathlib.Core.Bool.{Bool, true, false}
 use mathlib.Core.Path.{_≡_, refl, ap, sym, _∙_}
-use mathlib.Core.List.{List, [], _∷_, _++_, append-assoc, append-nil}
-use lib.ListN.{length, getD, take, drop, set, replicate, take-append-drop, length-set}
-use lib.Seq.{drop-cons, drop-drop, take-suc-set, drop-set-lt}
+use mathlib.Core.List.{List, [], _∷_, _++_}
+use lib.ListN.{length, getD, drop, length-append}
+use lib.Seq.{drop-cons}
 use borrow.Author.Tests.{ne-eqb}
-use Rattle.answer.specs.Answer.{answered, refused}
+use Rattle.answer.specs.Answer.{Answer, answered, refused, then}
+use Rattle.field_put.specs.Bytes.{put, Puts}
 use Rattle.record_layout.specs.Fields.{wordAfter}
 use Rattle.record_cells.specs.Codes.{fieldOf, decode}
 use Rattle.record_cells.specs.Cells.{valuesIn}
-use Rattle.write_layout.specs.Fields.{Encoded, bad, and-also, fixedBytes, writeField, writeFields}
+use Rattle.write_layout.specs.Fields.{ToWrite, givenAll, Encoded, bad, only, and-also, writeField, writeFields}
 use Rattle.write_pieces.specs.declared.Piece.{Piece}
-use Rattle.write_pieces.specs.declared.Piece.the-variants as piece
-use Rattle.write_pieces.specs.Pieces.{pieceOf, piecesOf}
-use Rattle.write_fit.proofs.FitLaws.{no-piece, bad-piece}
-use Rattle.write_cells.specs.Cells.{cellIn, leftBytes}
+use Rattle.write_pieces.specs.Pieces.{fine, raw, pieceOf}
+use Rattle.write_cells.specs.Cells.{cellIn, leftBytes, good, held}
 
--- One after the other ---------------------------------------------------------------------------------------------------------
+never : {X : Type 0} → false ≡ true → X
+never h = let z : _≡_ {A = ℕ} 0 1 = cc in absurd (omega arith)
 
-also-assoc : (a b c : Encoded) → and-also (and-also a b) c ≡ and-also a (and-also b c)
-also-assoc (refused n d) b c = refl
-also-assoc (answered x) (refused n d) c = refl
-also-assoc (answered x) (answered y) (refused n d) = refl
-also-assoc (answered x) (answered y) (answered z) = ap answered (append-assoc x y z)
+-- Good and held -----------------------------------------------------------------------------------------------------------------
 
-also-none : (a : Encoded) → and-also a (answered []) ≡ a
-also-none (refused n d) = refl
-also-none (answered x) = ap answered (append-nil x)
+pub good-is : (b : Encoded) → good b ≡ true → b ≡ answered (held b)
+good-is (answered bs) e = refl
+good-is (refused n d) e = never e
 
-none-also : (a : Encoded) → and-also (answered []) a ≡ a
-none-also (refused n d) = refl
-none-also (answered x) = refl
+pub good-first : (a b : Encoded) → good (and-also a b) ≡ true → good a ≡ true
+good-first (answered x) b e = refl
+good-first (refused n d) b e = never e
 
-module _ (t : List ℕ) where
-  pieces-append : (xs ys : List Piece) → piecesOf t (xs ++ ys) ≡ and-also (piecesOf t xs) (piecesOf t ys)
-  unfolding piecesOf
-  pieces-append [] ys = sym (none-also (piecesOf t ys))
-  pieces-append (x ∷ xs) ys = ap (and-also (pieceOf t x)) (pieces-append xs ys) ∙ sym (also-assoc (pieceOf t x) (piecesOf t xs) (piecesOf t ys))
+pub good-more : (a b : Encoded) → good (and-also a b) ≡ true → good b ≡ true
+good-more (answered x) (answered y) e = refl
+good-more (answered x) (refused n d) e = never e
+good-more (refused n d) b e = never e
 
-  nothings : (n : ℕ) → piecesOf t (replicate n piece.Nothing) ≡ answered []
-  unfolding piecesOf
-  nothings zero = refl
-  nothings (suc n) = rw (no-piece t, nothings n)
+pub held-both : (a b : Encoded) → good (and-also a b) ≡ true → held (and-also a b) ≡ held a ++ held b
+held-both (answered x) (answered y) e = refl
+held-both (answered x) (refused n d) e = never e
+held-both (refused n d) b e = never e
 
-  one-piece : (x : Piece) → piecesOf t (x ∷ []) ≡ pieceOf t x
-  unfolding piecesOf
-  one-piece x = also-none (pieceOf t x)
+-- a piece that is good is fine, and its bytes are held
+module _ (t : List ℕ) (x : Piece) where
+  pub piece-fine : good (pieceOf t x) ≡ true → fine t x ≡ true
+  unfolding pieceOf
+  piece-fine = go (fine t x)
+    where
+      go : (b : Bool) → good (only b (raw t x)) ≡ true → b ≡ true
+      go true e = refl
+      go false e = never e
 
-  -- up to number j, and nothing after it
-  pub all-pieces : (xs : List Piece) (j n : ℕ) → drop j xs ≡ replicate n piece.Nothing → piecesOf t xs ≡ piecesOf t (take j xs)
-  all-pieces xs j n e =
-      ap (piecesOf t) (sym (take-append-drop j xs)) ∙ pieces-append (take j xs) (drop j xs) ∙ rw (e, nothings n) (also-none (piecesOf t (take j xs)))
+  pub piece-held : good (pieceOf t x) ≡ true → held (pieceOf t x) ≡ raw t x
+  unfolding pieceOf
+  piece-held = go (fine t x)
+    where
+      go : (b : Bool) → good (only b (raw t x)) ≡ true → held (only b (raw t x)) ≡ raw t x
+      go true e = refl
+      go false e = never e
 
-  -- one more
-  pub more-pieces : (xs : List Piece) (j : ℕ) (x : Piece) → j < length xs → piecesOf t (take (j + 1) (set xs j x)) ≡ and-also (piecesOf t (take j xs)) (pieceOf t x)
-  more-pieces xs j x h =
-      rw (add-one j, take-suc-set xs j x h) (pieces-append (take j xs) (x ∷ []) ∙ ap (and-also (piecesOf t (take j xs))) (one-piece x))
+pub puts-none : (s : List ℕ) (p : ℕ) (bs : List ℕ) → bs ≡ [] → Puts s p bs p s
+unfolding put
+puts-none s p bs e = rw e (record { next = omega arith; left = refl })
 
--- the numbers after the next one stay
-pub rest-stays : (xs : List Piece) (j n : ℕ) (x : Piece) → drop j xs ≡ replicate (n + 1) piece.Nothing → drop (j + 1) (set xs j x) ≡ replicate n piece.Nothing
-rest-stays xs j n x e =
-    drop-set-lt (j + 1) xs j x (omega arith) ∙ sym (drop-drop 1 j xs) ∙ rw (e, add-one n)
+-- Measuring -------------------------------------------------------------------------------------------------------------------------
+
+-- so many bytes, and n before them, held at 65,536
+abbrev pub measureOf : Encoded → ℕ → Answer ℕ
+measureOf b n = then b (λ bs. answered (min (n + length bs) 65536))
+
+pub measure-more : (a b : Encoded) (n k : ℕ) → then a (λ bs. answered (length bs)) ≡ answered k → measureOf (and-also a b) n ≡ measureOf b (n + min (k + 0) 65536)
+measure-more (answered x) (answered y) n k e = let f : length x ≡ k = cc in ap answered (omega (arith, length-append x y))
+measure-more (answered x) (refused m d) n k e = refl
+measure-more (refused m d) b n k e = let z : _≡_ {A = ℕ} 0 1 = cc in absurd (omega arith)
+
+pub measure-stop : (a b : Encoded) (n : ℕ) → then a (λ bs. answered (length bs)) ≡ refused 17 [] → measureOf (and-also a b) n ≡ refused 17 []
+measure-stop (answered x) b n e = let z : _≡_ {A = ℕ} 0 1 = cc in absurd (omega arith)
+measure-stop (refused m d) b n e = let f : m ≡ 17 = cc in let g : d ≡ [] = cc in rw (f, g)
+
+pub measure-none : (b : Encoded) (n : ℕ) → b ≡ answered [] → measureOf b n ≡ answered (min (n + 0) 65536)
+measure-none b n e = rw e
+
+pub measure-bad : (b : Encoded) (n : ℕ) → b ≡ bad → measureOf b n ≡ refused 17 []
+measure-bad b n e = rw e
 
 -- Fields and cells --------------------------------------------------------------------------------------------------------------
 
@@ -97,82 +117,92 @@ pub none-left : (n w : ℕ) (t cells : List ℕ) → leftBytes 0 n w t cells ≡
 unfolding leftBytes decode valuesIn writeFields
 none-left n w t cells = refl
 
--- Where the loop stands -----------------------------------------------------------------------------------------------------------
+-- no field is left: whatever values are left are bad
+pub fields-done : (k n w : ℕ) (t cells : List ℕ) → n ≡ 0 → good (leftBytes k n w t cells) ≡ true → held (leftBytes k n w t cells) ≡ []
+unfolding leftBytes decode valuesIn writeFields
+fields-done zero n w t cells z e = refl
+fields-done (suc k) n w t cells z e = rw z (go (givenAll t (valuesIn (suc k) cells)) (rw z at e))
+  where
+    go : (vs : List ToWrite) → good (writeFields [] w vs) ≡ true → held (writeFields [] w vs) ≡ []
+    go [] f = refl
+    go (v ∷ vs) f = never f
 
-module _ (leaf layout : ℕ) (row : List ℕ) where
-  abbrev pub whole : List ℕ → Encoded
-  whole t = and-also (fixedBytes 2 leaf) (leftBytes 9 layout 0 t row)
+-- Where a loop stands: at field i, with n left of the layout and the word w -----------------------------------------------------------
 
-  -- what is in the pieces already, and what is left
-  pub record At (xs : List Piece) (i n w : ℕ) : Type 0 where
-    pub few : i ≤ 9
-    pub long : length row ≡ 27
-    pub size : length xs ≡ 16
-    pub bytes : (t : List ℕ) → and-also (piecesOf t (take (i + 1) xs)) (leftBytes (9 - i) n w t (drop (3 * i) row)) ≡ whole t
-    pub rest : drop (i + 1) xs ≡ replicate (15 - i) piece.Nothing
+-- what is left to do
+abbrev pub leftAt : List ℕ → List ℕ → ℕ → ℕ → ℕ → Encoded
+leftAt t row i n w = leftBytes (9 - i) n w t (drop (3 * i) row)
 
-  pub at-start : length row ≡ 27 → (x : Piece) → ((t : List ℕ) → pieceOf t x ≡ fixedBytes 2 leaf) → At (set (replicate 16 piece.Nothing) 0 x) 0 layout 0
-  at-start l x e = record {
-    few = omega arith;
-    long = l;
-    size = refl;
-    bytes = λ t. rw (one-piece t x, e t);
-    rest = refl;
-  }
+module _ (t row : List ℕ) (i n w : ℕ) (long : length row ≡ 27) where
+  pub over-nine : i ≡ 9 → leftAt t row i n w ≡ answered []
+  over-nine e = let z : 9 - i ≡ 0 = omega arith in rw z (none-left n w t _)
 
-  module _ (xs : List Piece) (i n w : ℕ) (at : At xs i n w) where
-    abbrev left : List ℕ → Encoded
-    left t = leftBytes (9 - i) n w t (drop (3 * i) row)
+  module _ (h : i < 9) where
+    first : drop (3 * i) row ≡ getD row (3 * i) 0 ∷ getD row (3 * i + 1) 0 ∷ getD row (3 * i + 2) 0 ∷ drop (3 * i + 3) row
+    first = row-cons row (3 * i) (omega arith)
 
-    pub end-good : ((t : List ℕ) → left t ≡ answered []) → (t : List ℕ) → piecesOf t xs ≡ whole t
-    end-good e t = all-pieces t xs (i + 1) (15 - i) (at .rest) ∙ sym (also-none (piecesOf t (take (i + 1) xs))) ∙ (rw (e t) at (at .bytes t))
+    one-less : 9 - i ≡ 8 - i + 1
+    one-less = omega arith
 
-    -- a piece more
-    later : i < 9 → (x : Piece) → drop (i + 1 + 1) (set xs (i + 1) x) ≡ replicate (14 - i) piece.Nothing
-    later h x = let f : 15 - i ≡ 14 - i + 1 = omega arith in rest-stays xs (i + 1) (14 - i) x (rw f at (at .rest))
+    pub missing-value : 0 < n → getD row (3 * i) 0 ≡ 0 → leftAt t row i n w ≡ bad
+    missing-value g e = rw (one-less, first) (value-missing (8 - i) n w t _ _ _ _ g e)
 
-    pub end-bad : i < 9 → ((t : List ℕ) → left t ≡ bad) → (t : List ℕ) → piecesOf t (set xs (i + 1) piece.Bad) ≡ whole t
-    end-bad h e t =
-        all-pieces t (set xs (i + 1) piece.Bad) (i + 1 + 1) (14 - i) (later h piece.Bad)
-        ∙ more-pieces t xs (i + 1) piece.Bad (omega (arith, at .size))
-        ∙ rw (bad-piece t) (rw (e t) at (at .bytes t))
+    pub value-left : n ≡ 0 → 0 < getD row (3 * i) 0 → leftAt t row i n w ≡ bad
+    value-left g e = rw (one-less, first) (value-over (8 - i) n w t _ _ _ _ g e)
 
-    pub first : i < 9 → drop (3 * i) row ≡ getD row (3 * i) 0 ∷ getD row (3 * i + 1) 0 ∷ getD row (3 * i + 2) 0 ∷ drop (3 * i + 3) row
-    first h = row-cons row (3 * i) (omega (arith, at .long))
+    pub no-value : n ≡ 0 → getD row (3 * i) 0 ≡ 0 → leftAt t row i n w ≡ answered []
+    no-value g e = rw (one-less, first) (both-end (8 - i) n w t _ _ _ _ g e)
 
-    pub missing-value : 0 < n → i < 9 → getD row (3 * i) 0 ≡ 0 → (t : List ℕ) → left t ≡ bad
-    missing-value g h e t =
-        let f : 9 - i ≡ 8 - i + 1 = omega arith in
-        rw (f, first h) (value-missing (8 - i) n w t _ _ _ _ g e)
-
-    pub value-left : n ≡ 0 → i < 9 → 0 < getD row (3 * i) 0 → (t : List ℕ) → left t ≡ bad
-    value-left g h e t =
-        let f : 9 - i ≡ 8 - i + 1 = omega arith in
-        rw (f, first h) (value-over (8 - i) n w t _ _ _ _ g e)
-
-    pub no-value : n ≡ 0 → i < 9 → getD row (3 * i) 0 ≡ 0 → (t : List ℕ) → left t ≡ answered []
-    no-value g h e t =
-        let f : 9 - i ≡ 8 - i + 1 = omega arith in
-        rw (f, first h) (both-end (8 - i) n w t _ _ _ _ g e)
-
-    pub at-turn : 0 < n → i < 9 → 0 < getD row (3 * i) 0 → (x : Piece)
-        → ((t : List ℕ) → pieceOf t x ≡ writeField (fieldOf (n % 32)) w (cellIn t (getD row (3 * i) 0) (getD row (3 * i + 1) 0) (getD row (3 * i + 2) 0)))
-        → (v : ℕ) → ((t : List ℕ) (more : ℕ) → v ≡ wordAfter (fieldOf (n % 32)) (cellIn t (getD row (3 * i) 0) (getD row (3 * i + 1) 0) more) w)
-        → At (set xs (i + 1) x) (i + 1) (n / 32) v
-    at-turn g h a x e v u = record {
-      few = omega arith;
-      long = at .long;
-      size = simp length-set (at .size);
-      bytes = λ t. on t;
-      rest = let f : 15 - (i + 1) ≡ 14 - i = omega arith in rw f (later h x);
-    }
+    -- where what is left is good there is a value
+    pub value-there : 0 < n → good (leftAt t row i n w) ≡ true → 0 < getD row (3 * i) 0
+    value-there g e = go (getD row (3 * i) 0) refl
       where
-        on : (t : List ℕ) → and-also (piecesOf t (take (i + 1 + 1) (set xs (i + 1) x))) (leftBytes (9 - (i + 1)) (n / 32) v t (drop (3 * (i + 1)) row)) ≡ whole t
-        on t =
-            let f : 9 - i ≡ 8 - i + 1 = omega arith in
-            let f2 : 9 - (i + 1) ≡ 8 - i = omega arith in
-            let f3 : 3 * (i + 1) ≡ 3 * i + 3 = omega arith in
-            let turned : left t ≡ and-also (pieceOf t x) (leftBytes (8 - i) (n / 32) v t (drop (3 * i + 3) row))
-            = rw (f, first h, e t, u t (getD row (3 * i + 2) 0)) (field-turn (8 - i) n w t _ _ _ _ g a) in
-            rw (f2, f3, more-pieces t xs (i + 1) x (omega (arith, at .size)))
-            (also-assoc (piecesOf t (take (i + 1) xs)) (pieceOf t x) (leftBytes (8 - i) (n / 32) v t (drop (3 * i + 3) row)) ∙ (rw turned at (at .bytes t)))
+        go : (a : ℕ) → getD row (3 * i) 0 ≡ a → 0 < a
+        go zero f = never (rw (missing-value g f) at e)
+        go (suc a) f = omega arith
+
+    -- the next field is good where all that is left is
+    pub this-good : 0 < n → 0 < getD row (3 * i) 0 → good (leftAt t row i n w) ≡ true
+        → good (writeField (fieldOf (n % 32)) w (cellIn t (getD row (3 * i) 0) (getD row (3 * i + 1) 0) (getD row (3 * i + 2) 0))) ≡ true
+    this-good g a fit =
+        let cell = cellIn t (getD row (3 * i) 0) (getD row (3 * i + 1) 0) (getD row (3 * i + 2) 0) in
+        let f = writeField (fieldOf (n % 32)) w cell in
+        let b = leftBytes (8 - i) (n / 32) (wordAfter (fieldOf (n % 32)) cell w) t (drop (3 * i + 3) row) in
+        let e : leftAt t row i n w ≡ and-also f b = rw (one-less, first) (field-turn (8 - i) n w t _ _ _ _ g a) in
+        good-first f b (sym (ap good e) ∙ fit)
+
+    -- x is the piece of the next field, and v the word after it
+    module _ (g : 0 < n) (a : 0 < getD row (3 * i) 0) (x : Piece)
+        (e : pieceOf t x ≡ writeField (fieldOf (n % 32)) w (cellIn t (getD row (3 * i) 0) (getD row (3 * i + 1) 0) (getD row (3 * i + 2) 0)))
+        (v : ℕ) (u : v ≡ wordAfter (fieldOf (n % 32)) (cellIn t (getD row (3 * i) 0) (getD row (3 * i + 1) 0) (getD row (3 * i + 2) 0)) w) where
+      abbrev now : Encoded
+      now = leftAt t row i n w
+
+      abbrev after : Encoded
+      after = leftAt t row (i + 1) (n / 32) v
+
+      turn : now ≡ and-also (pieceOf t x) after
+      turn =
+          let f2 : 9 - (i + 1) ≡ 8 - i = omega arith in
+          let f3 : 3 * (i + 1) ≡ 3 * i + 3 = omega arith in
+          rw (f2, f3, one-less, first, e, u) (field-turn (8 - i) n w t _ _ _ _ g a)
+
+      pub size-next : (m k : ℕ) → then (pieceOf t x) (λ bs. answered (length bs)) ≡ answered k
+          → measureOf (leftAt t row i n w) m ≡ measureOf (leftAt t row (i + 1) (n / 32) v) (m + min (k + 0) 65536)
+      size-next m k f = ap (λ (b : Encoded). measureOf b m) turn ∙ measure-more (pieceOf t x) after m k f
+
+      pub size-stop : (m : ℕ) → then (pieceOf t x) (λ bs. answered (length bs)) ≡ refused 17 [] → measureOf (leftAt t row i n w) m ≡ refused 17 []
+      size-stop m f = ap (λ (b : Encoded). measureOf b m) turn ∙ measure-stop (pieceOf t x) after m f
+
+      module _ (fit : good (leftAt t row i n w) ≡ true) where
+        both-good : good (and-also (pieceOf t x) after) ≡ true
+        both-good = sym (ap good turn) ∙ fit
+
+        pub next-good : good (leftAt t row (i + 1) (n / 32) v) ≡ true
+        next-good = good-more (pieceOf t x) after both-good
+
+        pub this-fine : fine t x ≡ true
+        this-fine = piece-fine t x (good-first (pieceOf t x) after both-good)
+
+        pub next-held : held (leftAt t row i n w) ≡ raw t x ++ held (leftAt t row (i + 1) (n / 32) v)
+        next-held = ap held turn ∙ held-both (pieceOf t x) after both-good ∙ ap (λ (l : List ℕ). l ++ held after) (piece-held t x (good-first (pieceOf t x) after both-good))

@@ -1,24 +1,32 @@
-// The pieces of any record from its row, by the layout of its leaf: one loop for every layout.
+// Any record from its row, by the layout of its leaf: one loop for every layout that measures, and one that puts each field's bytes into the buffer.
+mod put;
+
 ghost use mathlib.Core.Path.{_≡_};
-ghost use mathlib.Core.List.{List, []};
-ghost use Prim.Native.Nat.{ℕ, _<_};
+ghost use mathlib.Core.Bool.{true};
+ghost use mathlib.Core.List.{List, [], _++_};
+ghost use Prim.Native.Nat.{ℕ, _+_, _≤_, _<_, min};
 ghost use lib.IntN.{negsuc};
-ghost use Rattle.answer.specs.Answer.{answered};
+ghost use lib.ListN.{length};
+ghost use Rattle.answer.specs.Answer.{answered, then};
+ghost use Rattle.field.specs.Bytes.{bytes};
 ghost use Rattle.field.specs.Indices.{noType, noId};
+ghost use Rattle.field_put.specs.Bytes.{Puts, Room};
 ghost use Rattle.record_layout.specs.Fields.{gap, numeric, size, string, run, types, slots, numberOr, wordAfter};
 ghost use Rattle.record_layout.specs.Layouts.{pointer, S2, memberO, offset, idLeaves};
-ghost use Rattle.write_layout.specs.Fields.{and-also, fixedBytes, numericBytes, optionalBytes, ofNumber, ofAbsent, writeField, givenAll};
-ghost use Rattle.write_layout.specs.Records.{writeRecord};
+ghost use Rattle.write_layout.specs.Runs.{pads};
+ghost use Rattle.write_layout.specs.Fields.{fixedBytes, numericBytes, optionalBytes, ofNumber, ofAbsent, writeField, givenAll};
+ghost use Rattle.write_layout.specs.Records.{recordBytes, writeRecord};
 ghost use Rattle.write_layout.specs.Types.{writtenLeaves};
 ghost use Rattle.write_layout.specs.Buffer.{lay, Writes};
-ghost use Rattle.write_pieces.specs.Pieces.{pieceOf, piecesOf, saidWrite};
+ghost use Rattle.write_pieces.specs.Pieces.{pieceOf, saidMeasure, saidWrite};
 ghost use Rattle.record_cells.specs.Codes.{fieldOf, layoutIn};
-ghost use Rattle.write_cells.specs.Cells.{cellIn, leftBytes, cellBytes, cellValues};
+ghost use Rattle.write_cells.specs.Cells.{cellIn, leftBytes, cellBytes, cellValues, good, held};
 use answer::Refusal;
 use word_attributes::FlagAnswer;
 use word_attributes::KindAnswer;
 use word_attributes::ModeAnswer;
 use word_attributes::PointerAttributes;
+use write_pieces::Measure;
 use write_pieces::Piece;
 use write_pieces::WriteAnswer;
 
@@ -307,6 +315,73 @@ fn field_piece(code: u64, kind: u64, value: u64, more: u64, w: u64) -> Piece
     }
 }
 
+// Of a field that is known to be good, its piece without a test.
+
+fn good8(value: u64) -> Piece
+    ensures { λ r. ⌜ ((t : List ℕ) (kind more : ℕ) → good (ofNumber (cellIn t kind value more) (fixedBytes 1)) ≡ true → pieceOf t r ≡ ofNumber (cellIn t kind value more) (fixedBytes 1)) ⌝ }
+{
+    Piece::Byte((value % 0x100) as u8)
+}
+
+fn good16(value: u64) -> Piece
+    ensures { λ r. ⌜ ((t : List ℕ) (kind more : ℕ) → good (ofNumber (cellIn t kind value more) (fixedBytes 2)) ≡ true → pieceOf t r ≡ ofNumber (cellIn t kind value more) (fixedBytes 2)) ⌝ }
+{
+    Piece::Half((value % 0x1_0000) as u16)
+}
+
+fn good32(value: u64) -> Piece
+    ensures { λ r. ⌜ ((t : List ℕ) (kind more : ℕ) → good (ofNumber (cellIn t kind value more) (fixedBytes 4)) ≡ true → pieceOf t r ≡ ofNumber (cellIn t kind value more) (fixedBytes 4)) ⌝ }
+{
+    Piece::Word((value % 0x1_0000_0000) as u32)
+}
+
+fn good_pointer(value: u64) -> Piece
+    ensures { λ r. ⌜ ((t : List ℕ) (kind more w : ℕ) → good (writeField pointer w (cellIn t kind value more)) ≡ true → pieceOf t r ≡ writeField pointer w (cellIn t kind value more)) ⌝ }
+{
+    Piece::Word((value % 0x1_0000_0000) as u32)
+}
+
+fn good_index(kind: u64, value: u64) -> Piece
+    ensures { λ r. ⌜ ((t nones : List ℕ) (more : ℕ) → good (optionalBytes nones (cellIn t kind value more)) ≡ true → pieceOf t r ≡ optionalBytes nones (cellIn t kind value more)) ⌝ }
+{
+    if kind == 1 {
+        return Piece::Word(0);
+    }
+    Piece::Word((value % 0x1_0000_0000) as u32)
+}
+
+// The piece of the field of this code, where it is good.
+fn good_piece(code: u64, kind: u64, value: u64, more: u64, w: u64) -> Piece
+    requires { ⌜ 0 < kind ⌝ }
+    ensures { λ r. ⌜ ((t : List ℕ) → good (writeField (fieldOf code) w (cellIn t kind value more)) ≡ true → pieceOf t r ≡ writeField (fieldOf code) w (cellIn t kind value more)) ⌝ }
+{
+    match code {
+        1 => good8(value),
+        2 => good16(value),
+        3 => good32(value),
+        4 => good32(value),
+        5 => good_index(kind, value),
+        6 => good32(value),
+        7 => good_index(kind, value),
+        8 => good32(value),
+        9 => good16(value),
+        10 => good32(value),
+        11 => good_pointer(value),
+        12 => gap_piece(kind),
+        13 => numeric_piece(kind, value),
+        14 => size_piece(kind, value),
+        15 => text_piece(kind, value, more),
+        16 => types_piece(kind, value, more, w),
+        17 => types_piece(kind, value, more, w),
+        18 => slots_piece(kind, value, more, w),
+        19 => no_piece(kind),
+        20 => second_piece(kind, value, more, w),
+        21 => class_piece(kind, value, w),
+        22 => offset_piece(kind, value, w),
+        _ => no_piece(kind),
+    }
+}
+
 // The word after a number.
 fn number_or(kind: u64, value: u64, w: u64) -> u64
     ensures { λ r. ⌜ ((t : List ℕ) (more : ℕ) → r ≡ numberOr (cellIn t kind value more) w) ⌝ }
@@ -348,55 +423,124 @@ fn word_after(code: u64, kind: u64, value: u64, w: u64) -> u64
     }
 }
 
-// The pieces of a record: its leaf, and the fields of this layout from the cells of the row, one for each.
-fn pieces(leaf: u16, layout: u64, row: [u64; 27]) -> [Piece; 16]
-    ensures { λ xs. ⌜ ((t : List ℕ) → piecesOf t xs ≡ and-also (fixedBytes 2 leaf) (leftBytes 9 layout 0 t row)) ⌝ }
+// How many bytes the leaf and the fields of this layout take, from the cells of the row, one for each, held at 65,536; 17 where they would not read back.
+fn measure_fields(text: &[u8], layout: u64, row: &[u64; 27]) -> Measure
+    requires { ⌜ length (now row) ≡ 27 ⌝ }
+    ensures { λ r. ⌜ saidMeasure r ≡ then (leftBytes 9 layout 0 (now (text .entry)) (now (row .entry))) (λ bs. answered (min (2 + length bs) 65536)) ⌝ }
 {
-    let mut xs = [Piece::Nothing; 16];
-    xs[0] = write_fit::half(leaf);
+    let mut n: usize = 2;
     let mut i: usize = 0;
     let mut rest = layout;
     let mut word: u64 = 0;
     while 0 < rest {
         if i == 9 {
-            return xs;
+            return Measure::Size(write_pieces::held_sum(n, 0));
         }
         let k = 3 * i;
         let kind = row[k];
         if kind == 0 {
-            xs[i + 1] = Piece::Bad;
-            return xs;
+            return Measure::Bad;
         }
         let value = row[k + 1];
         let more = row[k + 2];
         let code = rest % 32;
-        xs[i + 1] = field_piece(code, kind, value, more, word);
+        let x = field_piece(code, kind, value, more, word);
+        let Measure::Size(size) = put::size_of(text, x) else {
+            return Measure::Bad;
+        };
+        n += write_pieces::held_sum(size, 0);
         word = word_after(code, kind, value, word);
         rest /= 32;
         i += 1;
     }
     if i == 9 {
-        return xs;
+        return Measure::Size(write_pieces::held_sum(n, 0));
     }
     let k = 3 * i;
     if row[k] != 0 {
-        xs[i + 1] = Piece::Bad;
-        return xs;
+        return Measure::Bad;
     }
-    xs
+    Measure::Size(write_pieces::held_sum(n, 0))
 }
 
-// The pieces of a record of a leaf whose layout is this, 0 for none; 17 if it is none.
-fn pieces_by(leaf: u16, layout: u64, row: [u64; 27]) -> [Piece; 16]
-    ensures { λ xs. ⌜ ((t : List ℕ) → piecesOf t xs ≡ cellBytes (layoutIn layout) leaf t row) ⌝ }
+// The fields of this layout, where they are good and there is room for them; the place after them.
+fn put_fields(text: &[u8], layout: u64, row: &[u64; 27], out: &mut [u8], p: usize) -> usize
+    requires { ⌜ (length (now row) ≡ 27) × (good (leftBytes 9 layout 0 (now text) (now row)) ≡ true) × (Room (now out) p (held (leftBytes 9 layout 0 (now text) (now row)))) ⌝ }
+    ensures { λ r. ⌜ Puts (now (out .entry)) p (held (leftBytes 9 layout 0 (now (text .entry)) (now (row .entry)))) r (now (out .exit)) ⌝ }
+{
+    let mut to = p;
+    let mut i: usize = 0;
+    let mut rest = layout;
+    let mut w: u64 = 0;
+    while 0 < rest {
+        if i == 9 {
+            return to;
+        }
+        let k = 3 * i;
+        let kind = row[k];
+        let value = row[k + 1];
+        let more = row[k + 2];
+        let code = rest % 32;
+        let x = good_piece(code, kind, value, more, w);
+        to = put::put_piece(text, x, out, to);
+        w = word_after(code, kind, value, w);
+        rest /= 32;
+        i += 1;
+    }
+    to
+}
+
+// A length, the leaf, the fields and pad bytes, where there is room for them.
+fn put_record(
+    text: &[u8],
+    leaf: u16,
+    layout: u64,
+    row: &[u64; 27],
+    out: &mut [u8],
+    at: usize,
+    size: u16,
+    pad: u8,
+) -> usize
+    requires { ⌜ (length (now row) ≡ 27) × (good (leftBytes 9 layout 0 (now text) (now row)) ≡ true) × (pad ≤ 3) × (Room (now out) at (bytes 2 size ++ (bytes 2 leaf ++ (held (leftBytes 9 layout 0 (now text) (now row)) ++ pads pad)))) ⌝ }
+    ensures { λ r. ⌜ Puts (now (out .entry)) at (bytes 2 size ++ (bytes 2 leaf ++ (held (leftBytes 9 layout 0 (now (text .entry)) (now (row .entry))) ++ pads pad))) r (now (out .exit)) ⌝ }
+{
+    let p = put::put16(out, at, size);
+    let q = put::put16(out, p, leaf);
+    let e = put_fields(text, layout, row, out, q);
+    put::put_pads(out, e, pad)
+}
+
+// A record of a leaf whose layout is this, 0 for none; 17 if it is none. 17, 18 and 19 before the first byte is written.
+fn write_by(
+    text: &[u8],
+    leaf: u16,
+    layout: u64,
+    row: &[u64; 27],
+    out: &mut [u8],
+    at: usize,
+) -> WriteAnswer
+    requires { ⌜ length (now row) ≡ 27 ⌝ }
+    ensures { λ r. ⌜ Writes (now (out .entry)) (lay (recordBytes (cellBytes (layoutIn layout) leaf (now (text .entry)) (now (row .entry)))) (now (out .entry)) at) (saidWrite r) (now (out .exit)) ⌝ }
 {
     if layout == 0 {
-        let mut xs = [Piece::Nothing; 16];
-        xs[0] = write_fit::half(leaf);
-        xs[1] = Piece::Bad;
-        return xs;
+        return WriteAnswer::Refused(Refusal::WouldNotReadBack);
     }
-    pieces(leaf, layout, row)
+    let Measure::Size(n) = measure_fields(text, layout, row) else {
+        return WriteAnswer::Refused(Refusal::WouldNotReadBack);
+    };
+    let pad = put::pad_count(n + 2);
+    let length = n + (pad as usize);
+    if 65535 < length {
+        return WriteAnswer::Refused(Refusal::RecordTooLong);
+    }
+    if out.len() < at {
+        return WriteAnswer::Refused(Refusal::NoRoom);
+    }
+    if out.len() - at < length + 2 {
+        return WriteAnswer::Refused(Refusal::NoRoom);
+    }
+    let e = put_record(text, leaf, layout, row, out, at, length as u16, pad);
+    WriteAnswer::Written(e)
 }
 
 // A record of the type stream, and of the id stream, from its leaf and its row, at a place of a lent buffer. Its strings are parts of the text. A field list and
@@ -412,14 +556,12 @@ pub fn write_type(text: &[u8], leaf: u16, row: [u64; 27], out: &mut [u8], at: us
         return WriteAnswer::Refused(Refusal::WouldNotReadBack);
     }
     let layout = record_cells::layout::type_layout(leaf);
-    let xs = pieces_by(leaf, layout, row);
-    write_pieces::write_record(text, xs, out, at)
+    write_by(text, leaf, layout, &row, out, at)
 }
 
 pub fn write_id(text: &[u8], leaf: u16, row: [u64; 27], out: &mut [u8], at: usize) -> WriteAnswer
     ensures { λ r. ⌜ Writes (now (out .entry)) (lay (writeRecord idLeaves (givenAll (now (text .entry)) (cellValues leaf row))) (now (out .entry)) at) (saidWrite r) (now (out .exit)) ⌝ }
 {
     let layout = record_cells::layout::id_layout(leaf);
-    let xs = pieces_by(leaf, layout, row);
-    write_pieces::write_record(text, xs, out, at)
+    write_by(text, leaf, layout, &row, out, at)
 }

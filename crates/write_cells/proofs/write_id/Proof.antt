@@ -6,8 +6,7 @@ use Rattle.write_cells.proofs.write_id.Tie as tie
 
 returns : tie.Need-returns
 unfolding writeRecord writeLeaf
-returns c =
-    rw (← c .before .before .before .before .before .id-layout .ensures .0, ← c .before .before .before .before .pieces-by .ensures (c .before .before .before .before .before .before .before .before .args .text .now)) (c .before .before .write-record .ensures)
+returns c = rw (← c .before .before .before .before .before .id-layout .ensures .0) (c .before .before .write-by .ensures)
 
 pub write-id-spec : {M : Type 1} → statement M
-write-id-spec = tie.close (tie.spec (λ c κs. search needs) (λ c κs. search needs) (λ c κs. search needs) (λ c. search needs) returns)
+write-id-spec = tie.close (tie.spec (λ c κs. search needs) (λ c κs. search needs) (λ c. search needs) returns)

@@ -1,5 +1,5 @@
 #!/usr/bin/env python3
-"""The text of a stream and the stream of a text, as docs/TEXT.md has them, by writing.py: what `compose` and `decompose` are held to (tools/compose_cases).
+"""The text of a stream and the stream of a text, as docs/TEXT.md has them, by writing.py: what `compose` and `decompose` are checked against (tools/pdbtypes_cases).
 Apart from the Rattle sources.
 
     lines.py compose < TEXT > STREAM         each bad line on the standard error
