@@ -1,7 +1,7 @@
 #!/usr/bin/env python3
-"""Writes the seeds of every target anew, out of samples/ and of streams that are made here.
+"""Writes seeds of targets anew, out of samples/ and of streams that are made here.
 
-    compare/fuzz/make_seeds.py           in the root of the repository: replaces compare/fuzz/seeds/TARGET/ and compare/fuzz/leaves.dict
+    compare/fuzz/make_seeds.py TARGET..  in the root of the repository: replaces compare/fuzz/seeds/TARGET/ and compare/fuzz/leaves.dict; `all` for every target
 
 A seed is a target's choosing bytes and then what it reads: each target's first comment says which. One record of each leaf stands for all of its kind.
 """
@@ -149,6 +149,15 @@ def calls():
     yield from (seed(44, section, b"", 0, 0, 0, 0, 0, 999), seed(45, e, b"", 1, 4097, 0, 0, 0, 402), seed(46, e), seed(47, b"", b"", 0, 0x1001))
 
 
+def words():
+    """Each choice of crate_words, with an index, a word or a leaf, and bytes."""
+    for numeral in NUMERALS.values():
+        yield b"\1\0\0\0\0" + numeral
+    yield from (bytes([which]) + struct.pack("<I", w) for which in (0, 3, 4, 0x80) for w in (0x74, 0x674, 0x67C, 0xFFF, 0x1000, 0xFFFF, 0x1000C, 0x4008D, 0xC0000))
+    yield from (b"\2" + struct.pack("<I", leaf) + s for leaf in (0x1500, 0x1501) for s in (b"\4name", b"name\0", b"\xf3\xf2\xf1", b""))
+    yield from (bytes([5]) + struct.pack("<I", index) + s for index in (0x74, 0x67C) for s in (b"", b"\1", b"\1\x10"))
+
+
 def targets():
     yield "cells", cells()
     yield "rows", rows()
@@ -160,6 +169,10 @@ def targets():
     yield "report", (bytes([255 if i % 2 else 128, i]) + s + (s if i % 2 == 0 else b"") for i, s in enumerate(both_streams(3000)))
     yield "find", (bytes([i % 7, 255 if i % 4 else 2, i]) + s for i, s in enumerate(both_streams()))
     yield "calls", calls()
+    yield "crate_type", list(one_of_each(TYPES)) + list(arrays()) + [struct.pack("<HIIH", 0x1201, 0, 0, 0)]
+    yield "crate_id", one_of_each(IDS)
+    yield "crate_stream", (bytes([i % 4, 255 if i % 3 else 9]) + s for i, s in enumerate(both_streams(3000)))
+    yield "crate_words", words()
 
 
 def dictionary():
@@ -173,9 +186,14 @@ def dictionary():
 
 
 def main():
-    shutil.rmtree(TO, ignore_errors=True)
+    if not sys.argv[1:]:
+        print(__doc__)
+        return 2
     total = 0
     for target, seeds in targets():
+        if target not in sys.argv[1:] and sys.argv[1:] != ["all"]:
+            continue
+        shutil.rmtree(f"{TO}/{target}", ignore_errors=True)
         os.makedirs(f"{TO}/{target}")
         for i, seed in enumerate(seeds):
             with open(f"{TO}/{target}/{i:03}", "wb") as f:
@@ -185,6 +203,7 @@ def main():
         f.write("# The leaves of records and members, the prefixes of numeric leaves, pads, and indices at a border. Written by compare/fuzz/make_seeds.py.\n")
         f.write(dictionary())
     print(f"make_seeds: {total} bytes")
+    return 0
 
 
-main()
+sys.exit(main())
