@@ -2,7 +2,8 @@
 """Writes tests/vectors/replay.in and replay.out: a fixed list of commands of PROTOCOL.md and the answers that ./test holds the program `replay` to. The same
 seed gives the same files.
 
-    make_vectors.py ORACLE REPLAY [--seed N]
+    make_vectors.py ORACLE REPLAY [--seed N]            exit status 1 if the two files are not what it would write
+    make_vectors.py ORACLE REPLAY [--seed N] --write    writes them
         ORACLE   the crate, built by build.sh (its release build)
         REPLAY   the port's program, target/replay, built by tools/replay
 
@@ -25,10 +26,8 @@ a command of PROTOCOL.md; a number 0 to 22, 25 or 26; every shift 0 to 7; a leaf
 by 17 and by 19; 18; a record of the crate's tests; the largest counts; a table exactly full and one short; bytes that are none, in every way, and as many bytes as there may be.
 """
 import os
-import random
 import re
 import struct
-import subprocess
 import sys
 
 sys.path.insert(0, os.path.dirname(os.path.abspath(__file__)))
@@ -1078,7 +1077,7 @@ def lacking(vectors):
 
 
 def main():
-    words, seed = sys.argv[1:], 1
+    words, seed, write = [word for word in sys.argv[1:] if word != "--write"], 1, "--write" in sys.argv
     if "--seed" in words:
         at = words.index("--seed")
         seed = int(words[at + 1])
@@ -1129,11 +1128,14 @@ def main():
     if problems:
         print("\n".join(problems[:40]) + f"\n{len(problems)} problems; nothing is written")
         return 1
-    home = os.path.join(HERE, "..", "tests", "vectors")
-    with open(os.path.join(home, "replay.in"), "w", encoding="ascii") as f:
-        f.writelines(f"{c}\n" for c, _ in vectors)
-    with open(os.path.join(home, "replay.out"), "w", encoding="ascii") as f:
-        f.writelines(f"{line}\n" for _, lines in vectors for line in lines)
+    made = {"replay.in": "".join(f"{c}\n" for c, _ in vectors), "replay.out": "".join(f"{line}\n" for _, lines in vectors for line in lines)}
+    for name, text in made.items():
+        with open(os.path.join(HERE, "..", "tests", "vectors", name), "w" if write else "r", encoding="ascii") as f:
+            if write:
+                f.write(text)
+            elif f.read() != text:
+                print(f"tests/vectors/{name} is not what is made here; --write writes it")
+                return 1
     asked = sum(c in lines_of for c, _ in vectors)
     count = sum(len(lines) for _, lines in vectors)
     print(f"{len(vectors)} commands, {count} lines; the crate was asked {asked} of the commands, 01's rules {len(vectors) - asked}")

@@ -11,7 +11,6 @@ import struct
 import sys
 
 sys.path.insert(0, os.path.dirname(os.path.abspath(__file__)))
-import layouts
 import writing
 from layouts import Refused
 

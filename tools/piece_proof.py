@@ -1,18 +1,21 @@
 """Writes proofs/FN/Proof.antt of functions that make the pieces of a record, from their source.
 
-    python3 tools/piece_proof.py CRATE [FN..]       run in the root of a repository (the folder of crates.txt)
+    python3 tools/piece_proof.py CRATE [FN..]          in the root of the repository; exit status 1 if a proof that stands there is not what it would write
+    python3 tools/piece_proof.py CRATE [FN..] --write  writes them
 
-Two forms of function are taken, FN or all of the crate's that have one of them:
+Without FN they are the crate's functions that tools/generated.txt lists; another one's proof may have been written by hand. Two forms of function are taken:
   - pieces: `let mut xs = [Piece::Nothing; 16];` and then `xs[i] = CALL(..);` for i from 0 up. Each return is one `rw` by what each call
     ensures, first to last (of a call of write_fit the second part, which says the bytes), and by `no-piece` for the places that are left;
   - choice: a `match` on a local whose arms `E::V(a) => f(a),` call such a function, or `E::V => f(),`; each return is one `rw` by the variant.
 The names that the returns unfold are in UNFOLD below, by the word that the contract has.
 It is an edit tool: `rt check` is the verdict, and `rt fmt` the layout. A proof says in its first line that this tool wrote it; add its function to
-tools/generated.txt, which tools/generated holds to such lines.
+tools/generated.txt, by which tools/generated checks that it still is what this tool writes.
 """
 import os
 import re
 import sys
+
+from written import held, text_of
 
 ROWS = ["baseClass", "directBase", "indirectBase", "continuation", "tablePointer", "enumerate", "dataMember", "staticMember", "overloads", "nested", "oneMethod"]
 UNFOLD = [
@@ -53,16 +56,11 @@ def used(head):
     return [(u, n) for word, u, n in UNFOLD if re.search(rf"\b{word}\b", head)]
 
 
-def written(crate, fn, doc, uses, body, spec):
+def proof(crate, fn, doc, uses, body, spec):
     name = fn.replace("_", "-")
     lines = ["-- Written by tools/piece_proof.py.", f"-- `{crate}::{fn}` meets its contract: {doc} Assumes nothing.", "use borrow.Author.Needs.{needs}"] + uses
     lines += [f"use Rattle.{crate}.proofs.{fn}.Statement.{{statement}}", f"use Rattle.{crate}.proofs.{fn}.Tie as tie", ""]
-    lines += body + ["", f"pub {name}-spec : {{M : Type 1}} → statement M", f"{name}-spec =", f"    tie.close (tie.spec {spec})", ""]
-    folder = f"crates/{crate}/proofs/{fn}"
-    os.makedirs(folder, exist_ok=True)
-    with open(f"{folder}/Proof.antt", "w", encoding="utf-8") as f:
-        f.write("\n".join(lines))
-    print(f"wrote {folder}/Proof.antt")
+    return "\n".join(lines + body + ["", f"pub {name}-spec : {{M : Type 1}} → statement M", f"{name}-spec =", f"    tie.close (tie.spec {spec})", ""])
 
 
 def pieces(crate, fn, head, body):
@@ -71,18 +69,17 @@ def pieces(crate, fn, head, body):
     names = used(head)
     unfold = " ".join(["piecesOf"] + [n for _, n in names] + ["writeFields", "writeField", "sizeBytes"])
     steps = [f"{path(len(calls) - 1 - k)} .{p} .ensures{' .1' if found[k][0] else ''} t{MORE.get(calls[k], '')}" for k, p in enumerate(places(calls))]
-    proof = ["returns : tie.Need-returns", f"unfolding {unfold}", "returns c = λ t. rw ("] + [f"  {s}," for s in steps] + ["  no-piece t,", ")"]
+    returns = ["returns : tie.Need-returns", f"unfolding {unfold}", "returns c = λ t. rw ("] + [f"  {s}," for s in steps] + ["  no-piece t,", ")"]
     # an element of an array among the arguments is one need more
     reads = [len(re.findall(r"\w\[\d+\]", line.split("=", 1)[1])) for line in body.split("\n") if re.match(r"\s+xs\[\d+\] = ", line)]
     spec = "".join("(λ c. search needs) " * n + "(λ c κs. search needs) (λ c. search needs) " for n in reads) + "returns"
-    written(crate, fn, "the pieces are those of its layout.", [f"use {u}" for u, _ in names] + FIELDS, proof, spec)
+    return proof(crate, fn, "the pieces are those of its layout.", [f"use {u}" for u, _ in names] + FIELDS, returns, spec)
 
 
-def choice(crate, fn, head, body):
+def choice(crate, fn, body):
     local = re.search(r"match (\w+) \{", body).group(1)
     arms = re.findall(r"^\s+\w+::\w+(\(\w+\))? => \{?\s*(\w+)\(", body, re.M)
-    names = used(head)
-    proof, spec, bound, told = [], [], 0, 0
+    returns, spec, bound, told = [], [], 0, 0
     seen = {}
     for k, (binds, callee) in enumerate(arms):
         seen[callee] = seen.get(callee, 0) + 1
@@ -94,28 +91,44 @@ def choice(crate, fn, head, body):
             told += 1
             fact = f"{path(1)} .enum-told{'' if told == 1 else told} .given .1"
         n = "" if k == 0 else f"-{k + 1}"
-        proof += [f"returns{n} : tie.Need-returns{n}", f"returns{n} c = λ t. rw ({fact}) (c .{call} .ensures t)", ""]
+        returns += [f"returns{n} : tie.Need-returns{n}", f"returns{n} c = λ t. rw ({fact}) (c .{call} .ensures t)", ""]
         spec += ["(λ c. search needs)", "(λ c κs. search needs)"]
     spec += [f"returns{'' if k == 0 else f'-{k + 1}'}" for k in range(len(arms))]
-    written(crate, fn, "each variant is written by its own function.", [], proof[:-1], " ".join(spec))
+    return proof(crate, fn, "each variant is written by its own function.", [], returns[:-1], " ".join(spec))
+
+
+def proofs(crate):
+    """function: the text of its proof, of each that has one of the two forms."""
+    found = {}
+    for name in sorted(os.listdir(f"crates/{crate}/src")):
+        for fn, head, body in functions(text_of(f"crates/{crate}/src/{name}")):
+            if "[Piece::Nothing; 16]" in body:
+                found[fn] = pieces(crate, fn, head, body)
+            elif re.search(r"match \w+ \{", body) and "-> [Piece; 16]" in head:
+                found[fn] = choice(crate, fn, body)
+    return found
 
 
 def main():
-    if len(sys.argv) < 2 or sys.argv[1].startswith("-"):
+    write, words = "--write" in sys.argv, [w for w in sys.argv[1:] if w != "--write"]
+    if not words or any(w.startswith("-") for w in words):
         print(__doc__)
         return 2
-    crate, only = sys.argv[1], sys.argv[2:]
-    for name in sorted(os.listdir(f"crates/{crate}/src")):
-        with open(f"crates/{crate}/src/{name}", encoding="utf-8") as f:
-            source = f.read()
-        for fn, head, body in functions(source):
-            if only and fn not in only:
-                continue
-            if "[Piece::Nothing; 16]" in body:
-                pieces(crate, fn, head, body)
-            elif re.search(r"match \w+ \{", body) and "-> [Piece; 16]" in head:
-                choice(crate, fn, head, body)
-    return 0
+    crate, made = words[0], proofs(words[0])
+    listed = re.search(rf"^{crate}:(.*)$", text_of("tools/generated.txt"), re.M)
+    asked = words[1:] or (listed[1].split() if listed else [])
+    wrong = [f"{crate}::{fn} has neither of the two forms" for fn in asked if fn not in made]
+    for fn in asked:
+        folder = f"crates/{crate}/proofs/{fn}"
+        if write and fn in made:
+            os.makedirs(folder, exist_ok=True)
+        wrong += held(f"{folder}/Proof.antt", made[fn], write, laid_out=True, by=f"piece_proof.py {crate} {fn}") if fn in made else []
+    for line in wrong:
+        print(f"piece_proof: {line}")
+    if not wrong:
+        print(f"piece_proof: {len(asked)} proofs of {crate} are {'written' if write else 'what the tool writes'}")
+    return 1 if wrong else 0
 
 
-sys.exit(main())
+if __name__ == "__main__":
+    sys.exit(main())

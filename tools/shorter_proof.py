@@ -2,13 +2,16 @@
 """Makes proofs of functions shorter: what is closed by `search needs` or `omega arith` alone is said where it is used, and `tie.spec`'s arguments
 stand several to a line.
 
-    shorter_proof.py FILE..       Proof.antt files, changed in place; then `rt fmt`
+    python3 tools/shorter_proof.py FILE..            of Proof.antt files: exit status 1 if one can be shorter
+    python3 tools/shorter_proof.py FILE.. --write    changes them in place; then `rt fmt`
 
 The check prints a proof file with a declaration for each need. Those that carry no thought are noise: `(λ c. search needs)` in the last term says
 the same. Imports that nothing names any more go. A proof of another form (a walk by hand) is left alone.
 """
 import re
 import sys
+
+from written import held, text_of
 
 NEED = re.compile(
     r"(?:-- src/[^\n]*\n)?(?P<name>[^\s:]+) : tie\.Need-[^\n]*\n(?P=name) c(?P<more>(?: κs)?) = (?P<by>search needs|omega arith)\n\n")
@@ -62,10 +65,21 @@ def shorter(text):
     return text
 
 
-for path in sys.argv[1:]:
-    with open(path, encoding="utf-8") as f:
-        before = f.read()
-    after = shorter(before)
-    if after != before:
-        with open(path, "w", encoding="utf-8") as f:
-            f.write(after)
+def main():
+    write, files, left = "--write" in sys.argv, [word for word in sys.argv[1:] if word != "--write"], 0
+    if not files or any(word.startswith("-") for word in files):
+        print(__doc__)
+        return 2
+    for path in files:
+        before = text_of(path)
+        after = shorter(before)
+        fewer = len(before.split()) - len(after.split())    # lines are the layout's
+        if write:
+            held(path, after, write)
+        elif fewer > 0:
+            print(f"shorter_proof: {path} can be shorter by {fewer} words; --write makes it so")
+            left += 1
+    return 1 if left else 0
+
+
+sys.exit(main())

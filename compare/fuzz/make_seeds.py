@@ -1,7 +1,9 @@
 #!/usr/bin/env python3
-"""Writes seeds of targets anew, out of samples/ and of streams that are made here.
+"""Writes the seeds of targets, out of samples/ and of streams that are made here, and the dictionary.
 
-    compare/fuzz/make_seeds.py TARGET..  in the root of the repository: replaces compare/fuzz/seeds/TARGET/ and compare/fuzz/leaves.dict; `all` for every target
+    compare/fuzz/make_seeds.py [TARGET..]           in the root of the repository: exit status 1 if compare/fuzz/seeds/TARGET/, of every target without a word,
+                                                    or compare/fuzz/leaves.dict is not what it would write
+    compare/fuzz/make_seeds.py [TARGET..] --write   writes them
 
 A seed is a target's choosing bytes and then what it reads: each target's first comment says which. One record of each leaf stands for all of its kind.
 """
@@ -13,7 +15,7 @@ import sys
 sys.path.insert(0, "model")
 import fitting
 
-TO = "compare/fuzz/seeds"
+TO, DICTIONARY = "compare/fuzz/seeds", "compare/fuzz/leaves.dict"
 TYPES = ("e.tpi", "hand.tpi", "plain-x64.tpi", "rich-x64.tpi")
 IDS = ("hand.ipi", "plain-x64.ipi", "rich-x64.ipi")
 MEMBERS = (0x1400, 0x1401, 0x1402, 0x1404, 0x1409, 0x1502, 0x150D, 0x150E, 0x150F, 0x1510, 0x1511)
@@ -185,25 +187,35 @@ def dictionary():
     return "".join(f'{name}="{"".join(f"{chr(92)}x{b:02x}" for b in word)}"\n' for name, word in words.items())
 
 
+def held(folder):
+    """name: content of the files in a folder, or none."""
+    return {name: open(f"{folder}/{name}", "rb").read() for name in os.listdir(folder)} if os.path.isdir(folder) else {}
+
+
 def main():
-    if not sys.argv[1:]:
+    write, only = "--write" in sys.argv, [word for word in sys.argv[1:] if word != "--write"]
+    wanted = {f"{TO}/{target}": {f"{i:03}": seed for i, seed in enumerate(seeds)} for target, seeds in targets() if target in only or not only}
+    if len(wanted) < len(only):
         print(__doc__)
         return 2
-    total = 0
-    for target, seeds in targets():
-        if target not in sys.argv[1:] and sys.argv[1:] != ["all"]:
-            continue
-        shutil.rmtree(f"{TO}/{target}", ignore_errors=True)
-        os.makedirs(f"{TO}/{target}")
-        for i, seed in enumerate(seeds):
-            with open(f"{TO}/{target}/{i:03}", "wb") as f:
-                f.write(seed)
-            total += len(seed)
-    with open("compare/fuzz/leaves.dict", "w", encoding="ascii") as f:
-        f.write("# The leaves of records and members, the prefixes of numeric leaves, pads, and indices at a border. Written by compare/fuzz/make_seeds.py.\n")
-        f.write(dictionary())
-    print(f"make_seeds: {total} bytes")
-    return 0
+    said = "# The leaves of records and members, the prefixes of numeric leaves, pads, and indices at a border. Written by compare/fuzz/make_seeds.py.\n" + dictionary()
+    if write:
+        for folder, seeds in wanted.items():
+            shutil.rmtree(folder, ignore_errors=True)
+            os.makedirs(folder)
+            for name, seed in seeds.items():
+                with open(f"{folder}/{name}", "wb") as f:
+                    f.write(seed)
+        with open(DICTIONARY, "w", encoding="ascii") as f:
+            f.write(said)
+    wrong = [folder for folder, seeds in wanted.items() if held(folder) != seeds]
+    with open(DICTIONARY, encoding="ascii") as f:
+        wrong += [DICTIONARY] if f.read() != said else []
+    for path in wrong:
+        print(f"make_seeds: {path} is not what is made here; --write writes it")
+    if not wrong:
+        print(f"make_seeds: {sum(len(seed) for seeds in wanted.values() for seed in seeds.values())} bytes of seeds, as they are made here")
+    return 1 if wrong else 0
 
 
 sys.exit(main())
