@@ -94,7 +94,8 @@ errors! {
     WouldNotReadBack = 17,
     /// 18: a record to be written has more than 65,535 bytes.
     RecordTooLong = 18,
-    /// 19: a buffer is too small. The methods of this crate take a longer one; only a declaration over their limit comes to it.
+    /// 19: a buffer is too small. The methods of this crate take a longer one; only a declaration over their limit comes to it, and a buffer or a table that
+    /// there is no memory for.
     NoRoom = 19,
     /// 20: this is no places file, or it is cut.
     FileWrong = 20,
