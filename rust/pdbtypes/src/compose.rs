@@ -347,7 +347,7 @@ fn composed(text: &[u8]) -> std::result::Result<Vec<u8>, Vec<(u64, Error)>> {
 
 pub fn run(call: &Call) -> std::result::Result<(), Failure> {
     let file = call.file();
-    let stream = composed(&input::bytes(file)?).map_err(|bad| {
+    let stream = composed(&input::text(file)?).map_err(|bad| {
         let name = input::name(file);
         Failure::No(bad.iter().map(|(number, e)| format!("{name}: line {number}: {e}")).collect())
     })?;

@@ -11,7 +11,7 @@ pub fn run(call: &Call) -> Result<(), Failure> {
     let named = call.indices_from(1)?;
     let input = Input::stream_of(call)?;
     let types = input.refused(Types::parse(&input.bytes))?;
-    let mut out = output::standard();
+    let mut out = output::standard()?;
     if named.is_empty() {
         // what has no declaration says so in its place: argument lists, field lists and others have none
         let progress = Progress::of("declaring", types.len() as u64);

@@ -194,7 +194,7 @@ pub fn run(call: &Call) -> Result<(), Failure> {
     let input = Input::stream_of(call)?;
     let dump = Dump::of(&input)?;
     let progress = Progress::of("dumping", dump.types.len() as u64);
-    let mut out = output::standard();
+    let mut out = output::standard()?;
     if call.json {
         let head = header_json(input.ids, dump.types.information().header(), input.bytes.len());
         write!(out, "{{{head},\"records\":")?;

@@ -235,7 +235,8 @@ which compose takes for a bad line; then the status is 1.
 const FILES: &str = "\
 A FILE is a raw type or id stream, a whole program database (.pdb), a section .debug$T or an object file (x86-64, x86,
 Arm64), told apart by what it holds; `-`, or none where none is named, is standard input. Out of a database the type
-stream is taken by llvm-pdbutil, out of an object file its section by objcopy, where they are installed.
+stream is taken by llvm-pdbutil, out of an object file its section by objcopy, where they are installed. A stream has
+at most 4,294,967,294 bytes: a longer file is refused by 16, and is not read.
 ";
 
 const OPTIONS: &[(Choice, &str)] = &[

@@ -32,7 +32,7 @@ use std::process::ExitCode;
 fn run() -> Result<(), Failure> {
     match args::parse(std::env::args_os().skip(1))? {
         Asked::Text(text) => {
-            let mut out = output::standard();
+            let mut out = output::standard()?;
             out.write_all(text.as_bytes())?;
             Ok(out.flush()?)
         }

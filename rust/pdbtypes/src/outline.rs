@@ -182,7 +182,7 @@ pub fn run(call: &Call) -> Result<(), Failure> {
     let copy = Definitions::of(&types).resolved(&types);
     let resolved = input.refused(Types::parse(&copy))?;
     let outline = Outline { types, resolved };
-    let mut out = output::standard();
+    let mut out = output::standard()?;
     let mut missing: Vec<&String> = names.iter().collect();
     for item in outline.types.iter().map_while(Result::ok) {
         progress.step();

@@ -1,13 +1,20 @@
 //! Standard output, and files that are written whole.
 use crate::fail::{reason, Failure};
 use std::ffi::OsStr;
-use std::io::{self, BufWriter, IsTerminal, StdoutLock, Write};
+use std::fs::File;
+use std::io::{self, BufWriter, IsTerminal, Write};
+use std::os::fd::AsFd;
 
 /// Standard output, in large pieces. Who writes to it flushes it at the end, so that a full disk is told.
-pub type Out = BufWriter<StdoutLock<'static>>;
+pub type Out = BufWriter<File>;
 
-pub fn standard() -> Out {
-    BufWriter::with_capacity(1 << 16, io::stdout().lock())
+/// As a file of its own: std's would pass over it in silence if it cannot be written at all.
+fn opened() -> io::Result<File> {
+    Ok(File::from(io::stdout().as_fd().try_clone_to_owned()?))
+}
+
+pub fn standard() -> io::Result<Out> {
+    Ok(BufWriter::with_capacity(1 << 16, opened()?))
 }
 
 /// Writes bytes into the file of a name, or to standard output where there is none or it is `-`. A terminal gets no bytes that are no text.
@@ -20,11 +27,7 @@ pub fn write_bytes(name: Option<&OsStr>, bytes: &[u8]) -> Result<(), Failure> {
         _ if io::stdout().is_terminal() => Err(Failure::Usage(
             "what is written is no text, and standard output is a terminal: give -o FILE".to_string(),
         )),
-        _ => {
-            let mut out = io::stdout().lock();
-            out.write_all(bytes)?;
-            Ok(out.flush()?)
-        }
+        _ => Ok(opened()?.write_all(bytes)?),
     }
 }
 

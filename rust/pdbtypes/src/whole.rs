@@ -32,7 +32,7 @@ pub fn fit(call: &Call) -> Result<(), Failure> {
     let progress = Progress::of("checking", information.len() as u64);
     let answer = input.refused(information.fit())?;
     drop(progress);
-    let mut out = output::standard();
+    let mut out = output::standard()?;
     match (answer, call.json) {
         (Fit::Yes, false) => writeln!(out, "fit")?,
         (Fit::Yes, true) => writeln!(out, "{{\"fit\":true}}")?,
@@ -123,7 +123,7 @@ pub fn drop_(call: &Call) -> Result<(), Failure> {
     if into == "-" {
         return Ok(());
     }
-    let (lowest, mut out) = (information.header().minimum_index, output::standard());
+    let (lowest, mut out) = (information.header().minimum_index, output::standard()?);
     for (root, word) in roots {
         // an index below the stream's lowest has no record, and stays
         let at = root.0.checked_sub(lowest).and_then(|k| dropped.table.get(k as usize));
@@ -146,7 +146,7 @@ pub fn drop_(call: &Call) -> Result<(), Failure> {
 }
 
 fn put_report(report: &Report, files: &[String], refused: &[(String, pdb_types::Error)]) -> Result<(), Failure> {
-    let mut out = output::standard();
+    let mut out = output::standard()?;
     writeln!(out, "streams {}, refused {}", report.taken(), report.refused())?;
     writeln!(
         out,
@@ -170,7 +170,7 @@ fn put_report(report: &Report, files: &[String], refused: &[(String, pdb_types::
 }
 
 fn report_json(report: &Report, files: &[String], refused: &[(String, pdb_types::Error)]) -> Result<(), Failure> {
-    let mut out = output::standard();
+    let mut out = output::standard()?;
     write!(
         out,
         "{{\"streams\":{},\"refused\":{},\"header_bytes\":{},\"records\":{},\"bytes\":{}",
@@ -228,8 +228,8 @@ pub fn report(call: &Call) -> Result<(), Failure> {
     }
     let (mut report, mut files, mut refused, mut wrong) = (Report::new(), Vec::new(), Vec::new(), Vec::new());
     for word in words {
-        let input = match Input::open(word, call.ids)?.into_stream() {
-            // a section of which no stream can be made
+        let input = match Input::open(word, call.ids).and_then(Input::into_stream) {
+            // a file that is too long, or a section of which no stream can be made
             Err(Failure::Refused(file, e)) => {
                 refused.push((file, e));
                 continue;
