@@ -75,7 +75,7 @@ impl<'s> Dump<'s> {
             Value::Id(index) => self.id_text(*index),
             Value::Types(all) => all.iter().map(|index| self.type_text(*index)).collect::<Vec<_>>().join("; "),
             Value::Ids(all) => all.iter().map(|index| self.id_text(*index)).collect::<Vec<_>>().join("; "),
-            Value::Name(name) => shown(name.as_bytes()),
+            Value::Name(name) => shown(name.as_bytes()).to_string(),
             Value::Bytes(bytes) => bytes.iter().map(|b| format!("{b:02x}")).collect(),
             Value::Elements(all) => format!("{} elements", all.len()),
         }

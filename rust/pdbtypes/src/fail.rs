@@ -1,6 +1,7 @@
 //! Why the program ends without having done what was asked, and the status that says so.
+use crate::output::shown;
 use pdb_types::Error;
-use std::io;
+use std::io::{self, Write};
 
 /// Why a command is not done.
 #[derive(Debug)]
@@ -35,16 +36,22 @@ impl Failure {
         }
     }
 
-    /// What is said on standard error.
-    pub fn lines(&self) -> Vec<String> {
+    /// Says on standard error what is wrong.
+    pub fn say(&self) {
         match self {
-            Failure::Usage(line) => vec![line.clone()],
-            Failure::File(file, why) => vec![format!("{file}: {why}")],
-            Failure::Refused(file, e) => vec![format!("{file}: {e}")],
-            Failure::No(lines) => lines.clone(),
-            Failure::Pipe => Vec::new(),
+            Failure::Usage(line) => say(line),
+            Failure::File(file, why) => say(&format!("{file}: {why}")),
+            Failure::Refused(file, e) => say(&format!("{file}: {e}")),
+            Failure::No(lines) => lines.iter().for_each(|line| say(line)),
+            Failure::Pipe => {}
         }
     }
+}
+
+/// Says a line on standard error; it stays one, whatever a file's name has in it. Where standard error is closed there is nobody to tell.
+fn say(line: &str) {
+    let line = format!("pdbtypes: {}\n", shown(line.as_bytes()));
+    let _ = io::stderr().write_all(line.as_bytes());
 }
 
 /// What an error of the system says, without its number.

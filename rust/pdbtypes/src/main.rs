@@ -44,10 +44,7 @@ fn main() -> ExitCode {
     match run() {
         Ok(()) => ExitCode::SUCCESS,
         Err(failure) => {
-            // where standard error is closed there is nobody to tell
-            for line in failure.lines() {
-                let _ = writeln!(std::io::stderr(), "pdbtypes: {line}");
-            }
+            failure.say();
             ExitCode::from(failure.status())
         }
     }

@@ -20,7 +20,7 @@ struct Outline<'s, 'r> {
 fn named(name: RawString<'_>) -> String {
     match name.as_bytes() {
         b"" => "(no name)".to_string(),
-        bytes => shown(bytes),
+        bytes => shown(bytes).to_string(),
     }
 }
 
@@ -37,7 +37,7 @@ impl<'s> Outline<'s, '_> {
     /// The declaration of a type; its index as `#4123` where it has none, or one that is too long.
     fn declared(&self, index: TypeIndex) -> String {
         match short_declaration(&self.resolved, index) {
-            Ok(text) => shown(&text),
+            Ok(text) => shown(&text).to_string(),
             Err(_) => format!("#{}", index.0),
         }
     }

@@ -157,6 +157,7 @@ fn put_report(report: &Report, files: &[String], refused: &[(String, pdb_types::
     )?;
     if report.records() > 0 {
         let file = files.get(report.largest_stream() as usize).map_or("", String::as_str);
+        let file = shown(file.as_bytes());
         writeln!(out, "largest record: {} bytes, {} of {file}", report.largest(), report.largest_index())?;
     }
     for row in report.rows() {
@@ -164,7 +165,7 @@ fn put_report(report: &Report, files: &[String], refused: &[(String, pdb_types::
         writeln!(out, "{:04x} {name:19} {:>10} records {:>12} bytes", row.leaf.0, row.records, row.bytes)?;
     }
     for (file, e) in refused {
-        writeln!(out, "not counted: {file}: {e}")?;
+        writeln!(out, "not counted: {}: {e}", shown(file.as_bytes()))?;
     }
     Ok(out.flush()?)
 }
