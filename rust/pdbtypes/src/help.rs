@@ -260,8 +260,8 @@ pub fn whole() -> String {
     text += &format!("\n{FILES}\n");
     text += "\
 pdbtypes COMMAND --help says more of a command, with an example. pdbtypes --version says which this is.
-Status: 0 done; 1 refused, or not fit; 2 called wrong, or a file cannot be read or written. What is refused is said on
-standard error by its number and name: docs/NUMBERS.md has them.
+Status: 0 done; 1 refused, or not fit; 2 called wrong, a file cannot be read or written, or there is no memory for it.
+What is wrong is said on standard error, a refusal by its number and name: docs/NUMBERS.md has them.
 ";
     text
 }

@@ -2,7 +2,8 @@
 use crate::args::Call;
 use crate::extract;
 use crate::fail::{reason, Failure};
-use pdb_types::{Error, Item, ItemInformation, Leaf, Section, TypeIndex};
+use crate::memory;
+use pdb_types::{Error, Item, ItemInformation, Leaf, Section, TypeIndex, Types};
 use std::ffi::OsStr;
 use std::fs::File;
 use std::io::{self, IsTerminal, Read, Seek};
@@ -154,7 +155,7 @@ impl Input {
         if is_database_file(word) {
             let bytes = extract::stream(word, None, ids)?;
             let (name, kind, ids) = (name(word), Kind::Stream, ids || is_ids(&bytes));
-            return Ok(Input { name, bytes, kind, ids });
+            return Input { name, bytes, kind, ids }.with_room();
         }
         Input::told(word, bytes(word, Error::TooLong)?, ids)
     }
@@ -185,7 +186,13 @@ impl Input {
             kind => kind,
         };
         let ids = kind == Kind::Stream && (ids || is_ids(&bytes));
-        Ok(Input { name, bytes, kind, ids })
+        Input { name, bytes, kind, ids }.with_room()
+    }
+
+    /// The same, if there is memory left for a record of it.
+    fn with_room(self) -> Result<Input, Failure> {
+        self.refused(memory::left(memory::RECORD))?;
+        Ok(self)
     }
 
     /// The same as a stream: a section is made into one, whose header counts its records.
@@ -193,7 +200,7 @@ impl Input {
         if self.kind == Kind::Section {
             self.bytes = self.refused(Section::parse(&self.bytes).and_then(|section| section.to_stream()))?;
         }
-        Ok(self)
+        self.with_room()
     }
 
     /// The first file of a call as a stream.
@@ -201,9 +208,16 @@ impl Input {
         Input::of(call)?.into_stream()
     }
 
+    /// The types of a stream, all of which are found by their index, if there is memory left for a record of it.
+    pub fn types(&self) -> Result<Types<'_>, Failure> {
+        let types = self.refused(Types::parse(&self.bytes))?;
+        self.refused(memory::left(memory::RECORD))?;
+        Ok(types)
+    }
+
     /// An answer of the library, or its refusal with the file's name.
     pub fn refused<T>(&self, answer: pdb_types::Result<T>) -> Result<T, Failure> {
-        answer.map_err(|e| Failure::Refused(self.name.clone(), e))
+        answer.map_err(|e| Failure::of(&self.name, e))
     }
 }
 

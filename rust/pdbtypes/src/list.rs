@@ -78,7 +78,7 @@ pub fn put_records<'s, I: ItemIndex>(input: &Input, json: bool, head: (&str, &st
     out.flush()?;
     drop(progress);
     match refused {
-        Some(e) => Err(Failure::Refused(input.name.clone(), e)),
+        Some(e) => Err(Failure::of(&input.name, e)),
         None => Ok(()),
     }
 }

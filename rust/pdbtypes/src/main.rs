@@ -14,6 +14,7 @@ mod help;
 mod input;
 mod json;
 mod list;
+mod memory;
 mod outline;
 mod output;
 mod places;

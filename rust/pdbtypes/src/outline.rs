@@ -3,6 +3,7 @@ use crate::args::Call;
 use crate::dump::short_declaration;
 use crate::fail::Failure;
 use crate::input::Input;
+use crate::memory;
 use crate::output::{self, shown, Out};
 use crate::progress::Progress;
 use crate::resolve::Definitions;
@@ -177,10 +178,11 @@ impl<'s> Outline<'s, '_> {
 pub fn run(call: &Call) -> Result<(), Failure> {
     let names = call.texts_from(1);
     let input = Input::stream_of(call)?;
-    let types = input.refused(Types::parse(&input.bytes))?;
+    let types = input.types()?;
     let progress = Progress::of("outlining", types.len() as u64);
-    let copy = Definitions::of(&types).resolved(&types);
+    let copy = input.refused(Definitions::of(&types).and_then(|definitions| definitions.resolved(&types)))?;
     let resolved = input.refused(Types::parse(&copy))?;
+    input.refused(memory::left(memory::RECORD))?;
     let outline = Outline { types, resolved };
     let mut out = output::standard()?;
     let mut missing: Vec<&String> = names.iter().collect();

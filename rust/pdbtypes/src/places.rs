@@ -3,6 +3,7 @@ use crate::args::Call;
 use crate::fail::Failure;
 use crate::input::{self, Input};
 use crate::list::put_line;
+use crate::memory;
 use crate::output;
 use crate::progress::Progress;
 use pdb_types::{Error, TypeIndex, TypeInformation};
@@ -28,7 +29,8 @@ pub fn lookup(call: &Call) -> Result<(), Failure> {
     let places = call.words.get(1).map(|word| word.as_os_str()).unwrap_or_default();
     let file = input::bytes(places, Error::FileWrong)?;
     let information: TypeInformation<'_> = input.refused(TypeInformation::parse(&input.bytes))?;
-    let finder = information.load(&file).map_err(|e| Failure::Refused(input::name(places), e))?;
+    let loaded = information.load(&file).and_then(|finder| memory::left(memory::RECORD).map(|()| finder));
+    let finder = loaded.map_err(|e| Failure::of(&input::name(places), e))?;
     let mut out = output::standard()?;
     let mut wrong = Vec::new();
     for index in named {

@@ -3,6 +3,7 @@ use crate::args::{self, Call};
 use crate::fail::Failure;
 use crate::input::Input;
 use crate::json;
+use crate::memory;
 use crate::output::{self, shown};
 use crate::progress::Progress;
 use crate::resolve::Definitions;
@@ -54,7 +55,7 @@ pub fn fit(call: &Call) -> Result<(), Failure> {
 }
 
 /// The records that have a name, definitions before forward references.
-fn named(types: &Types<'_>, wanted: &[String]) -> HashMap<String, Vec<TypeIndex>> {
+fn named(types: &Types<'_>, wanted: &[String]) -> pdb_types::Result<HashMap<String, Vec<TypeIndex>>> {
     let (mut definitions, mut forwards) = (HashMap::<String, Vec<TypeIndex>>::new(), HashMap::<String, Vec<TypeIndex>>::new());
     for item in types.iter().map_while(Result::ok) {
         let Ok(data) = item.parse() else { continue };
@@ -64,28 +65,28 @@ fn named(types: &Types<'_>, wanted: &[String]) -> HashMap<String, Vec<TypeIndex>
         names.dedup();
         for name in names.iter().map(|name| name.to_string()) {
             if wanted.iter().any(|w| *w == name) {
-                into.entry(name.into_owned()).or_default().push(item.index());
+                memory::push(into.entry(name.into_owned()).or_default(), item.index())?;
             }
         }
     }
     for (name, all) in forwards {
         definitions.entry(name).or_insert(all);
     }
-    definitions
+    Ok(definitions)
 }
 
 /// What some roots reach, and what the definitions of the forward references among it reach in turn.
 fn dropped_whole(information: &TypeInformation<'_>, mut roots: Vec<TypeIndex>) -> pdb_types::Result<Dropped> {
-    let definitions = Definitions::of(&Types::parse(information.bytes())?);
+    let definitions = Definitions::of(&Types::parse(information.bytes())?)?;
     let lowest = information.header().minimum_index;
     loop {
         let dropped = information.drop(&roots)?;
         let at = |index: TypeIndex| index.0.checked_sub(lowest).and_then(|k| dropped.table.get(k as usize));
-        let missing = definitions.missing(|index| at(index).is_some_and(|n| *n != 0));
+        let missing = definitions.missing(|index| at(index).is_some_and(|n| *n != 0))?;
         if missing.is_empty() {
             return Ok(dropped);
         }
-        roots.extend(missing);
+        memory::extend(&mut roots, &missing)?;
     }
 }
 
@@ -100,25 +101,31 @@ pub fn drop_(call: &Call) -> Result<(), Failure> {
     let names: Vec<String> = words.iter().filter(|word| args::index(word).is_none()).cloned().collect();
     let mut found = HashMap::new();
     if !names.is_empty() {
-        found = named(&input.refused(Types::parse(&input.bytes))?, &names);
+        found = input.refused(named(&input.types()?, &names))?;
     }
     let (mut roots, mut wrong) = (Vec::new(), Vec::new());
     for word in &words {
         match (args::index(word), found.get(word)) {
             (Some(index), _) => roots.push((TypeIndex(index), word)),
-            (None, Some(all)) => roots.extend(all.iter().map(|index| (*index, word))),
+            (None, Some(all)) => {
+                input.refused(memory::room(&mut roots, all.len()))?;
+                roots.extend(all.iter().map(|index| (*index, word)));
+            }
             (None, None) => wrong.push(format!("{}: no class, union or enumeration is named {word}", input.name)),
         }
     }
     Failure::of_lines(wrong)?;
     let progress = Progress::of("dropping", information.len() as u64);
-    let indices: Vec<TypeIndex> = roots.iter().map(|root| root.0).collect();
+    let mut indices = Vec::new();
+    input.refused(memory::room(&mut indices, roots.len()))?;
+    indices.extend(roots.iter().map(|root| root.0));
     let dropped = input.refused(if call.whole {
         dropped_whole(&information, indices)
     } else {
         information.drop(&indices)
     })?;
     drop(progress);
+    input.refused(memory::left(memory::RECORD))?;
     output::write_bytes(Some(into), &dropped.stream)?;
     if into == "-" {
         return Ok(());
