@@ -141,9 +141,11 @@ impl Error {
 impl fmt::Display for Error {
     fn fmt(&self, f: &mut fmt::Formatter<'_>) -> fmt::Result {
         write!(f, "refused {}, {}", self.number(), self.name())?;
-        match self.details() {
-            [Some(n), Some(m)] => write!(f, ": {n}, {m}"),
-            [Some(n), None] => write!(f, ": {n}"),
+        match (self, self.details()) {
+            // a leaf as leaves are written everywhere
+            (Error::LeafUnknown(leaf), _) => write!(f, ": {leaf:#06x}"),
+            (_, [Some(n), Some(m)]) => write!(f, ": {n}, {m}"),
+            (_, [Some(n), None]) => write!(f, ": {n}"),
             _ => Ok(()),
         }
     }
