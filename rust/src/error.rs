@@ -94,7 +94,8 @@ errors! {
     WouldNotReadBack = 17,
     /// 18: a record to be written has more than 65,535 bytes.
     RecordTooLong = 18,
-    /// 19: a buffer is too small. The methods of this crate take a longer one; only a declaration over their limit comes to it.
+    /// 19: a buffer is too small. The methods of this crate take a longer one; only a declaration over their limit comes to it, and a buffer or a table that
+    /// there is no memory for.
     NoRoom = 19,
     /// 20: this is no places file, or it is cut.
     FileWrong = 20,
@@ -140,9 +141,11 @@ impl Error {
 impl fmt::Display for Error {
     fn fmt(&self, f: &mut fmt::Formatter<'_>) -> fmt::Result {
         write!(f, "refused {}, {}", self.number(), self.name())?;
-        match self.details() {
-            [Some(n), Some(m)] => write!(f, ": {n}, {m}"),
-            [Some(n), None] => write!(f, ": {n}"),
+        match (self, self.details()) {
+            // a leaf as leaves are written everywhere
+            (Error::LeafUnknown(leaf), _) => write!(f, ": {leaf:#06x}"),
+            (_, [Some(n), Some(m)]) => write!(f, ": {n}, {m}"),
+            (_, [Some(n), None]) => write!(f, ": {n}"),
             _ => Ok(()),
         }
     }

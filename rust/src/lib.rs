@@ -46,6 +46,7 @@ mod id;
 mod list;
 mod names;
 mod primitive;
+mod room;
 mod section;
 mod stream;
 mod types;

@@ -4,6 +4,7 @@ use crate::error::Result;
 use crate::ffi::{self, row, Numbers};
 use crate::id::IdData;
 use crate::primitive::numbered_type;
+use crate::room;
 use crate::stream::{Item, ItemFinder, ItemIter, SectionIndex};
 use std::marker::PhantomData;
 
@@ -94,7 +95,7 @@ impl<'s> Section<'s> {
 
     /// The type stream that is made of the section: a header, and the records as they are.
     pub fn to_stream(&self) -> Result<Vec<u8>> {
-        let mut stream = vec![0; self.bytes.len() + 52];
+        let mut stream = room::zeros(self.bytes.len() + 52)?;
         let bytes = ffi::section_stream(self.bytes, &mut stream)?;
         stream.truncate(bytes);
         Ok(stream)

@@ -2,6 +2,7 @@
 use crate::error::{Error, Result};
 use crate::ffi::{self, row, Numbers};
 use crate::names::Leaf;
+use crate::room;
 use std::fmt;
 use std::marker::PhantomData;
 
@@ -266,7 +267,7 @@ impl<'s, I: ItemIndex> ItemInformation<'s, I> {
     /// The finder whose places a file keeps: see [`ItemFinder::save`]. Each place is looked at; a file of another stream, a cut and a changed one are refused.
     pub fn load(&self, file: &[u8]) -> Result<ItemFinder<'s, I>> {
         // a file of n places has 4 n + 28 bytes or two more
-        let mut table = vec![0; file.len() / 4];
+        let mut table = room::zeros(file.len() / 4)?;
         let numbers = ffi::load(self.stream, file, &mut table)?;
         table.truncate(numbers.held);
         Ok(ItemFinder {
@@ -517,7 +518,10 @@ impl<'s, I: ItemIndex> ItemFinder<'s, I> {
                     return Ok(());
                 }
                 // a place is due, and the table is full: it grows, and the same update is made again
-                Err(Error::TableFull) => self.table.push(0),
+                Err(Error::TableFull) => {
+                    room::more(&mut self.table, 1)?;
+                    self.table.push(0);
+                }
                 Err(e) => return Err(e),
             }
         }
@@ -531,11 +535,11 @@ impl<'s, I: ItemIndex> ItemFinder<'s, I> {
         // a record takes four bytes or more, whatever the header counts
         let most = self.stream.len() / 4;
         let call = if self.section { ffi::section_index } else { ffi::index };
-        let mut table = vec![0; (counted.min(most) >> shift) + 2];
+        let mut table = room::zeros((counted.min(most) >> shift) + 2)?;
         let mut o = call(self.stream, &mut table, shift)?;
         if o[row::INDEX_END] == 13 {
             // there are more records than the header counts
-            table = vec![0; (most >> shift) + 2];
+            room::grow(&mut table, (most >> shift) + 2)?;
             o = call(self.stream, &mut table, shift)?;
         }
         self.numbers = Numbers {
@@ -603,7 +607,7 @@ impl<'s, I: ItemIndex> ItemFinder<'s, I> {
     /// # Ok::<(), pdb_types::Error>(())
     /// ```
     pub fn save(&self) -> Result<Vec<u8>> {
-        let mut file = vec![0; 4 * self.numbers.held + 30];
+        let mut file = room::zeros(4 * self.numbers.held + 30)?;
         let bytes = ffi::save(self.stream, &self.table, self.numbers, &mut file)?;
         file.truncate(bytes);
         Ok(file)

@@ -3,6 +3,7 @@ use crate::data::{Member, TypeData};
 use crate::error::{Error, Result};
 use crate::ffi;
 use crate::list::FieldIter;
+use crate::room;
 use crate::stream::{ItemInformation, TypeIndex};
 use crate::{Type, TypeFinder, TypeInformation, TypeIter};
 use std::fmt;
@@ -33,7 +34,11 @@ impl<'s> Types<'s> {
     pub fn parse(stream: &'s [u8]) -> Result<Types<'s>> {
         let information = ItemInformation::parse(stream)?;
         let mut finder = information.finder_by(3)?;
-        let end = finder.index().err();
+        let end = match finder.index() {
+            // there is no memory for its table, and nothing would be found
+            Err(Error::NoRoom) => return Err(Error::NoRoom),
+            answer => answer.err(),
+        };
         Ok(Types { information, finder, end })
     }
 
@@ -131,10 +136,13 @@ impl<'s> Types<'s> {
 
     /// The same as its bytes: a name may be no UTF-8.
     pub fn declare_bytes(&self, index: TypeIndex) -> Result<Vec<u8>> {
-        let mut buffer = vec![0; 128];
+        let mut buffer = room::zeros(128)?;
         loop {
             match self.declare_into(index, &mut buffer) {
-                Err(Error::NoRoom) if buffer.len() < DECLARATION_LIMIT => buffer = vec![0; (4 * buffer.len()).min(DECLARATION_LIMIT)],
+                Err(Error::NoRoom) if buffer.len() < DECLARATION_LIMIT => {
+                    let longer = (4 * buffer.len()).min(DECLARATION_LIMIT);
+                    room::grow(&mut buffer, longer)?;
+                }
                 answer => {
                     buffer.truncate(answer?);
                     return Ok(buffer);

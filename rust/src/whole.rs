@@ -3,6 +3,7 @@ use crate::error::Result;
 use crate::ffi::{self, row};
 use crate::names::Leaf;
 use crate::primitive::numbered;
+use crate::room;
 use crate::stream::TypeIndex;
 use crate::TypeInformation;
 use std::fmt;
@@ -86,10 +87,12 @@ impl TypeInformation<'_> {
     /// ```
     pub fn drop(&self, roots: &[TypeIndex]) -> Result<Dropped> {
         // a record takes four bytes or more: a header that counts more records than that is not fit, and is refused before the table is asked for
-        let roots: Vec<u32> = roots.iter().map(|root| root.0).collect();
-        let mut table = vec![0; self.len().min(self.bytes().len() / 4 + 1)];
-        let mut stream = vec![0; self.bytes().len()];
-        let bytes = ffi::drop(self.bytes(), &roots, &mut table, &mut stream)?;
+        let mut table = room::zeros(self.len().min(self.bytes().len() / 4 + 1))?;
+        let mut stream = room::zeros(self.bytes().len())?;
+        let mut numbers = Vec::new();
+        room::more(&mut numbers, roots.len())?;
+        numbers.extend(roots.iter().map(|root| root.0));
+        let bytes = ffi::drop(self.bytes(), &numbers, &mut table, &mut stream)?;
         stream.truncate(bytes);
         Ok(Dropped { stream, table })
     }

@@ -5,6 +5,7 @@ use crate::ffi::{self, row};
 use crate::list::{FieldList, MethodList};
 use crate::names::Leaf;
 use crate::primitive::numbered;
+use crate::room;
 use crate::stream::{Header, IdIndex, TypeIndex};
 use crate::{Id, Type};
 use std::fmt;
@@ -286,7 +287,8 @@ impl Writer {
     fn push(&mut self, write: impl FnOnce(&mut [u8], usize) -> Result<usize>) -> Result<u32> {
         let index = self.header.minimum_index.checked_add(self.count).ok_or(Error::IndicesUsedUp)?;
         if self.buffer.len() < self.at + LONGEST {
-            self.buffer.resize(2 * self.buffer.len() + LONGEST, 0);
+            let longer = 2 * self.buffer.len() + LONGEST;
+            room::grow(&mut self.buffer, longer)?;
         }
         self.at = write(&mut self.buffer, self.at)?;
         self.count += 1;
@@ -318,14 +320,17 @@ impl Writer {
     /// Writes a field list. A continuation can only be its last member.
     pub fn push_fields<'m>(&mut self, members: impl IntoIterator<Item = Member<'m>>) -> Result<TypeIndex> {
         let (mut rows, mut text) = self.taken();
-        rows.extend(members.into_iter().map(|member| member_row(&member, &mut text)));
+        for member in members {
+            room::more(&mut rows, 1)?;
+            rows.push(member_row(&member, &mut text)?);
+        }
         self.push_rows(false, rows, text)
     }
 
     /// Writes a method list.
     pub fn push_methods(&mut self, methods: impl IntoIterator<Item = MethodListEntry>) -> Result<TypeIndex> {
         let (mut rows, text) = self.taken();
-        rows.extend(methods.into_iter().map(|m| {
+        for m in methods {
             let offset = m.vtable_offset;
             let numbers = [
                 m.attributes.0.into(),
@@ -333,8 +338,9 @@ impl Writer {
                 offset.is_some().into(),
                 offset.unwrap_or(0).into(),
             ];
-            filled(&numbers)
-        }));
+            room::more(&mut rows, 1)?;
+            rows.push(filled(&numbers));
+        }
         self.push_rows(true, rows, text)
     }
 
@@ -426,13 +432,14 @@ fn filled(numbers: &[u64]) -> [u64; row::ROW] {
 }
 
 /// The row of a member, whose name goes behind the text.
-fn member_row(member: &Member<'_>, text: &mut Vec<u8>) -> [u64; row::ROW] {
-    let mut part = |name: RawString<'_>| {
+fn member_row(member: &Member<'_>, text: &mut Vec<u8>) -> Result<[u64; row::ROW]> {
+    let mut part = |name: RawString<'_>| -> Result<[u64; 2]> {
         let place = text.len() as u64;
+        room::more(text, name.len())?;
         text.extend_from_slice(name.as_bytes());
-        [place, name.len() as u64]
+        Ok([place, name.len() as u64])
     };
-    match member {
+    Ok(match member {
         Member::BaseClass(m) => filled(&[0x1400, m.attributes.0.into(), m.base_class.0.into(), m.offset]),
         Member::VirtualBaseClass(m) => filled(&[
             if m.direct { 0x1401 } else { 0x1402 },
@@ -445,7 +452,7 @@ fn member_row(member: &Member<'_>, text: &mut Vec<u8>) -> [u64; row::ROW] {
         Member::Continuation(index) => filled(&[0x1404, index.0.into()]),
         Member::VirtualFunctionTablePointer(m) => filled(&[0x1409, m.table.0.into()]),
         Member::Enumerate(m) => {
-            let [place, length] = part(m.name);
+            let [place, length] = part(m.name)?;
             let (sign, n) = match m.value {
                 Variant::Natural(n) => (0, n),
                 Variant::Negative(n) => (1, !(n as u64)),
@@ -453,25 +460,25 @@ fn member_row(member: &Member<'_>, text: &mut Vec<u8>) -> [u64; row::ROW] {
             filled(&[0x1502, m.attributes.0.into(), sign, n, place, length])
         }
         Member::Member(m) => {
-            let [place, length] = part(m.name);
+            let [place, length] = part(m.name)?;
             filled(&[0x150d, m.attributes.0.into(), m.field_type.0.into(), m.offset, place, length])
         }
         Member::StaticMember(m) => {
-            let [place, length] = part(m.name);
+            let [place, length] = part(m.name)?;
             filled(&[0x150e, m.attributes.0.into(), m.field_type.0.into(), place, length])
         }
         Member::OverloadedMethod(m) => {
-            let [place, length] = part(m.name);
+            let [place, length] = part(m.name)?;
             filled(&[0x150f, m.count.into(), m.method_list.0.into(), place, length])
         }
         Member::Nested(m) => {
-            let [place, length] = part(m.name);
+            let [place, length] = part(m.name)?;
             filled(&[0x1510, m.attributes.0.into(), m.nested_type.0.into(), place, length])
         }
         Member::Method(m) => {
-            let [place, length] = part(m.name);
+            let [place, length] = part(m.name)?;
             let (mark, offset) = (m.vtable_offset.is_some().into(), m.vtable_offset.unwrap_or(0).into());
             filled(&[0x1511, m.attributes.0.into(), m.method_type.0.into(), mark, offset, place, length])
         }
-    }
+    })
 }

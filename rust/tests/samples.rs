@@ -176,6 +176,9 @@ fn primitives() {
 fn errors_by_name_and_number() {
     let e: Box<dyn std::error::Error> = Box::new(Error::NotIndexed(0x1004, 0x1003));
     assert_eq!(e.to_string(), "refused 9, not indexed: 4100, 4099");
+    // a leaf in hex, as lists, dumps and papers have it
+    assert_eq!(Error::LeafUnknown(0x1516).to_string(), "refused 10, leaf unknown: 0x1516");
+    assert_eq!(Error::LeafUnknown(0xa).to_string(), "refused 10, leaf unknown: 0x000a");
     assert_eq!(Error::EndedAfter(0).number(), 1);
     assert_eq!(Error::Shift.number(), 26);
 }

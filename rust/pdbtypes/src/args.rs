@@ -2,6 +2,7 @@
 use crate::fail::Failure;
 use crate::help;
 use std::ffi::{OsStr, OsString};
+use std::os::unix::ffi::OsStrExt;
 
 /// What a command is called with.
 #[derive(Debug, Default)]
@@ -86,19 +87,20 @@ fn usage(command: Option<&Command>, what: &str) -> Failure {
     Failure::Usage(format!("{what}; pdbtypes {asked}--help says how it is used"))
 }
 
-/// The option of a word, and the value that stands behind `=` in it. A lone `-` is a file, and an option comes before `--`.
-fn choice(word: &str) -> Option<(Choice, Option<&str>)> {
-    let (name, value) = match word.split_once('=') {
-        Some((name, value)) => (name, Some(value)),
-        None => (word, None),
+/// The option of a word, and the value that stands behind `=` in it, whose bytes may be no text. A lone `-` is a file, and an option comes before `--`.
+fn choice(word: &OsStr) -> Option<(Choice, Option<&OsStr>)> {
+    let bytes = word.as_bytes();
+    let (name, value) = match bytes.iter().position(|c| *c == b'=') {
+        Some(at) => (&bytes[..at], Some(OsStr::from_bytes(&bytes[at + 1..]))),
+        None => (bytes, None),
     };
     let choice = match name {
-        "--json" => Choice::Json,
-        "--ids" => Choice::Ids,
-        "--stream" => Choice::Stream,
-        "--whole" => Choice::Whole,
-        "-o" | "--out" | "--output" => Choice::Out,
-        "--shift" => Choice::Shift,
+        b"--json" => Choice::Json,
+        b"--ids" => Choice::Ids,
+        b"--stream" => Choice::Stream,
+        b"--whole" => Choice::Whole,
+        b"-o" | b"--out" | b"--output" => Choice::Out,
+        b"--shift" => Choice::Shift,
         _ => return None,
     };
     Some((choice, value))
@@ -138,12 +140,12 @@ pub fn parse(words: impl Iterator<Item = OsString>) -> Result<Asked, Failure> {
             }
             "-" => call.words.push(word),
             text if text.starts_with('-') && !text.is_empty() => {
-                let known = choice(text).filter(|(choice, _)| command.choices.contains(choice));
+                let known = choice(&word).filter(|(choice, _)| command.choices.contains(choice));
                 let Some((choice, value)) = known else {
                     return Err(usage(Some(command), &format!("{text}: no option of {}", command.name)));
                 };
                 let mut take = |what: &str| match value {
-                    Some(value) => Ok(OsString::from(value)),
+                    Some(value) => Ok(value.to_owned()),
                     None => words.next().ok_or_else(|| usage(Some(command), &format!("{text}: {what} is missing"))),
                 };
                 match choice {

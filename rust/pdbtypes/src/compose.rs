@@ -1,8 +1,8 @@
 //! `compose`: a stream from lines of text (docs/TEXT.md). The values of a line are put into the cells of its record, or into its elements; what a reader would
 //! not give back the library refuses.
 use crate::args::Call;
-use crate::fail::Failure;
-use crate::{input, output};
+use crate::fail::{say, Failure};
+use crate::{input, memory, output};
 use pdb_types::{
     layout, BaseClassType, Cell, ClassKind, Code, EnumerateType, Error, FieldAttributes, Form, Header, Layouts, Leaf, Member, MemberType, MethodListEntry,
     MethodType, NestedType, OverloadedMethodType, RawString, Result, Slice, StaticMemberType, TypeIndex, Variant, VirtualBaseClassType,
@@ -30,17 +30,22 @@ fn number<N: TryFrom<i128>>(word: &[u8]) -> Result<N> {
     N::try_from(integer(word)?).map_err(|_| BAD)
 }
 
-/// The bytes of `=` and hex, in lower case.
-fn bytes(word: &[u8]) -> Result<Vec<u8>> {
+/// The bytes of `=` and hex, in lower case, behind those that are there.
+fn put_bytes(word: &[u8], text: &mut Vec<u8>) -> Result<()> {
     let nibble = |c: u8| match c {
         b'0'..=b'9' => Ok(c - b'0'),
         b'a'..=b'f' => Ok(c - b'a' + 10),
         _ => Err(BAD),
     };
-    match word {
-        [b'=', hex @ ..] if hex.len() % 2 == 0 => hex.chunks_exact(2).map(|two| Ok(nibble(two[0])? << 4 | nibble(two[1])?)).collect(),
-        _ => Err(BAD),
+    let hex = match word {
+        [b'=', hex @ ..] if hex.len() % 2 == 0 => hex,
+        _ => return Err(BAD),
+    };
+    memory::room(text, hex.len() / 2)?;
+    for two in hex.chunks_exact(2) {
+        text.push(nibble(two[0])? << 4 | nibble(two[1])?);
     }
+    Ok(())
 }
 
 /// A leaf: four hex digits, in lower case.
@@ -58,9 +63,12 @@ fn cell(code: Code, word: &[u8], text: &mut Vec<u8>) -> Result<Cell> {
     match code {
         Code::OptionalType | Code::OptionalId | Code::MemberClass | Code::Offset | Code::SecondString if word == b"-" => Ok(Cell::Absent),
         Code::String | Code::SecondString | Code::Slots => {
-            let (place, part) = (text.len(), bytes(word)?);
-            text.extend_from_slice(&part);
-            Ok(Cell::Part { place, length: part.len() })
+            let place = text.len();
+            put_bytes(word, text)?;
+            Ok(Cell::Part {
+                place,
+                length: text.len() - place,
+            })
         }
         Code::Size => number(word).map(Cell::natural),
         _ => number(word).map(Cell::Number),
@@ -70,7 +78,11 @@ fn cell(code: Code, word: &[u8], text: &mut Vec<u8>) -> Result<Cell> {
 /// The cells of a run of indices: their count, and their bytes. More than a record holds are refused as what they are: a count is not cut to its field.
 fn run_cells(words: &[&[u8]], text: &mut Vec<u8>) -> Result<Vec<Cell>> {
     for word in words {
-        text.extend_from_slice(&number::<u32>(word)?.to_le_bytes());
+        let index = number::<u32>(word)?;
+        // what is more is looked at, and not kept
+        if text.len() <= usize::from(u16::MAX) {
+            memory::extend(text, &index.to_le_bytes())?;
+        }
     }
     if text.len() > usize::from(u16::MAX) {
         return Err(Error::RecordTooLong);
@@ -82,14 +94,13 @@ fn run_cells(words: &[&[u8]], text: &mut Vec<u8>) -> Result<Vec<Cell>> {
 /// The cells of a record that is no list of members or methods.
 fn record_cells(leaf: Leaf, codes: &[Code], words: &[&[u8]], text: &mut Vec<u8>) -> Result<Vec<Cell>> {
     if leaf == Leaf::MODIFIER {
-        let [t, flags @ ..] = words else { return Err(BAD) };
-        let bits: Vec<u64> = flags.iter().map(|word| number(word)).collect::<Result<_>>()?;
-        return match bits[..] {
-            [c @ 0..=1, v @ 0..=1, u @ 0..=1] if flags.iter().all(|word| word.len() == 1) => {
-                Ok(vec![Cell::Number(number(t)?), Cell::Number(c + 2 * v + 4 * u)])
-            }
+        let [t, c, v, u] = words else { return Err(BAD) };
+        let flag = |word: &[u8]| match word {
+            b"0" => Ok(0),
+            b"1" => Ok(1),
             _ => Err(BAD),
         };
+        return Ok(vec![Cell::Number(number(t)?), Cell::Number(flag(c)? + 2 * flag(v)? + 4 * flag(u)?)]);
     }
     if matches!(codes, [_, Code::Types | Code::Ids]) {
         return run_cells(words, text);
@@ -212,12 +223,12 @@ fn member<'n>(words: &[&[u8]], name: &'n [u8]) -> Result<Member<'n>> {
     })
 }
 
-/// The bytes of a member's name, its last word; none where its leaf has no name.
-fn member_name(words: &[&[u8]]) -> Result<Vec<u8>> {
+/// The bytes of a member's name, its last word, behind those of the others; none where its leaf has no name.
+fn put_member_name(words: &[&[u8]], text: &mut Vec<u8>) -> Result<()> {
     let named = |code: Code| code == Code::String;
     match words {
-        [first, .., last] if layout(Layouts::Members, leaf(first)?).any(named) => bytes(last),
-        _ => Ok(Vec::new()),
+        [first, .., last] if layout(Layouts::Members, leaf(first)?).any(named) => put_bytes(last, text),
+        _ => Ok(()),
     }
 }
 
@@ -227,13 +238,24 @@ fn push(writer: &mut Writer, words: &[&[u8]]) -> Result<()> {
     let leaf = leaf(first)?;
     match leaf {
         Leaf::METHODLIST => {
-            let methods: Vec<MethodListEntry> = elements(values)?.map(method).collect::<Result<_>>()?;
+            let mut methods = Vec::new();
+            for words in elements(values)? {
+                memory::push(&mut methods, method(words)?)?;
+            }
             writer.push_methods(methods)?;
         }
         Leaf::FIELDLIST => {
-            let all: Vec<&[&[u8]]> = elements(values)?.collect();
-            let names: Vec<Vec<u8>> = all.iter().map(|words| member_name(words)).collect::<Result<_>>()?;
-            let members: Vec<Member<'_>> = all.iter().zip(&names).map(|(words, name)| member(words, name)).collect::<Result<_>>()?;
+            // all names, and where each ends
+            let (mut text, mut ends) = (Vec::new(), Vec::new());
+            for words in elements(values)? {
+                put_member_name(words, &mut text)?;
+                memory::push(&mut ends, text.len())?;
+            }
+            let (mut members, mut from) = (Vec::new(), 0);
+            for (words, end) in elements(values)?.zip(ends) {
+                memory::push(&mut members, member(words, &text[from..end])?)?;
+                from = end;
+            }
             writer.push_fields(members)?;
         }
         leaf => {
@@ -295,25 +317,28 @@ fn header(words: &[&[u8]]) -> Result<Header> {
     })
 }
 
-/// The words of a line without its comment.
-fn words_of(line: &[u8]) -> Vec<&[u8]> {
-    let words = line.split(|c| *c == b' ' || *c == b'\t').filter(|word| !word.is_empty());
-    words.take_while(|word| word[0] != b'#').collect()
+/// The words of a line without its comment, in place of another's.
+fn put_words<'t>(line: &'t [u8], words: &mut Vec<&'t [u8]>) -> Result<()> {
+    words.clear();
+    let all = line.split(|c| *c == b' ' || *c == b'\t').filter(|word| !word.is_empty());
+    all.take_while(|word| word[0] != b'#').try_for_each(|word| memory::push(words, word))
 }
 
-/// The stream of a text, or of each bad line its number and what is wrong with it.
-fn composed(text: &[u8]) -> std::result::Result<Vec<u8>, Vec<(u64, Error)>> {
+/// The stream of a text; none where a line is bad, of which its number is said, and what is wrong with it. Refused is what there is no memory for.
+fn composed(text: &[u8], mut bad: impl FnMut(u64, Error)) -> Result<Option<Vec<u8>>> {
     // until a header is read there is a plain one, so that the lines behind a bad header are looked at too
     let mut head = Header {
         header_size: 56,
         minimum_index: 4096,
         ..Header::default()
     };
-    let mut writer = Writer::new(head).map_err(|e| vec![(1, e)])?;
-    let (mut begun, mut bad) = (false, Vec::new());
+    memory::left(memory::RECORD)?;
+    let mut writer = Writer::new(head)?;
+    let (mut begun, mut good, mut words) = (false, true, Vec::new());
     for (number, line) in (1..).zip(text.split(|c| *c == b'\n')) {
+        memory::left(memory::LINE)?;
         let mut halves = line.splitn(2, |c| *c == b'\r');
-        let words = words_of(halves.next().unwrap_or_default());
+        put_words(halves.next().unwrap_or_default(), &mut words)?;
         let made = match (words.is_empty(), begun) {
             (true, _) => Ok(()),
             (false, true) => push(&mut writer, &words),
@@ -330,28 +355,35 @@ fn composed(text: &[u8]) -> std::result::Result<Vec<u8>, Vec<(u64, Error)>> {
         } else {
             Ok(())
         });
-        if let Err(e) = made {
-            bad.push((number, e));
+        match made {
+            Ok(()) => {}
+            Err(Error::NoRoom) => return Err(Error::NoRoom),
+            Err(e) => {
+                bad(number, e);
+                good = false;
+            }
         }
         begun |= !words.is_empty();
     }
-    if !bad.is_empty() {
-        return Err(bad);
+    if !good {
+        return Ok(None);
     }
     if !begun {
-        return Ok(Vec::new());
+        return Ok(Some(Vec::new()));
     }
     // the header as it stands in its line, whatever it counts
-    writer.finish_with(&head).map_err(|e| vec![(1, e)])
+    let stream = writer.finish_with(&head);
+    Ok(stream.map_err(|e| bad(1, e)).ok())
 }
 
 pub fn run(call: &Call) -> std::result::Result<(), Failure> {
-    let file = call.file();
-    let stream = composed(&input::bytes(file)?).map_err(|bad| {
-        let name = input::name(file);
-        Failure::No(bad.iter().map(|(number, e)| format!("{name}: line {number}: {e}")).collect())
-    })?;
-    output::write_bytes(call.out.as_deref(), &stream)
+    let (file, name) = (call.file(), input::name(call.file()));
+    // each bad line is said when it is met: there may be more of them than can be held
+    let said = |number: u64, e: Error| say(&format!("{name}: line {number}: {e}"));
+    match composed(&input::text(file)?, said).map_err(|e| Failure::of(&name, e))? {
+        Some(stream) => output::write_bytes(call.out.as_deref(), &stream),
+        None => Err(Failure::No(Vec::new())),
+    }
 }
 
 #[cfg(test)]
@@ -369,7 +401,9 @@ mod tests {
 
     #[test]
     fn no_text_is_no_stream() {
-        assert_eq!(composed(b"# a comment\n\n \t\n"), Ok(Vec::new()));
-        assert_eq!(composed(b"1001 116 1 0 0\n"), Err(vec![(1, BAD)]));
+        let mut wrong = Vec::new();
+        assert_eq!(composed(b"# a comment\n\n \t\n", |number, e| wrong.push((number, e))), Ok(Some(Vec::new())));
+        assert_eq!(composed(b"1001 116 1 0 0\n", |number, e| wrong.push((number, e))), Ok(None));
+        assert_eq!(wrong, [(1, BAD)]);
     }
 }

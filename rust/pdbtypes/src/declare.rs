@@ -4,14 +4,14 @@ use crate::fail::Failure;
 use crate::input::Input;
 use crate::output::{self, shown};
 use crate::progress::Progress;
-use pdb_types::{TypeIndex, Types};
+use pdb_types::TypeIndex;
 use std::io::Write;
 
 pub fn run(call: &Call) -> Result<(), Failure> {
     let named = call.indices_from(1)?;
     let input = Input::stream_of(call)?;
-    let types = input.refused(Types::parse(&input.bytes))?;
-    let mut out = output::standard();
+    let types = input.types()?;
+    let mut out = output::standard()?;
     if named.is_empty() {
         // what has no declaration says so in its place: argument lists, field lists and others have none
         let progress = Progress::of("declaring", types.len() as u64);

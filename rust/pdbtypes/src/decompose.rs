@@ -163,7 +163,7 @@ pub fn run(call: &Call) -> std::result::Result<(), Failure> {
     }
     let information: TypeInformation<'_> = input.refused(TypeInformation::parse(&input.bytes))?;
     let progress = Progress::of("decomposing", information.len() as u64);
-    let mut out = output::standard();
+    let mut out = output::standard()?;
     writeln!(out, "{}", header_line(information.header()))?;
     let (mut line, mut refused, mut end) = (String::new(), 0u64, None);
     for item in &information {

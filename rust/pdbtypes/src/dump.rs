@@ -8,7 +8,7 @@ use crate::list::header_json;
 use crate::output::{self, shown, Out};
 use crate::progress::Progress;
 use pdb_types::{Error, IdData, Type, TypeIndex, Types, Variant};
-use std::io::Write;
+use std::io::{self, Write};
 
 /// The longest declaration that stands beside an index. Types that name one another many times over can stand for texts of any length, and here they are
 /// printed once for each reference.
@@ -30,8 +30,10 @@ pub struct Dump<'s> {
 
 impl<'s> Dump<'s> {
     pub fn of(input: &'s Input) -> Result<Dump<'s>, Failure> {
-        let types = input.refused(Types::parse(&input.bytes))?;
-        Ok(Dump { types, ids: input.ids })
+        Ok(Dump {
+            types: input.types()?,
+            ids: input.ids,
+        })
     }
 
     /// The declaration of a type, if it has one here.
@@ -73,11 +75,10 @@ impl<'s> Dump<'s> {
             Value::Plain(word) => word.to_string(),
             Value::Type(index) => self.type_text(*index),
             Value::Id(index) => self.id_text(*index),
-            Value::Types(all) => all.iter().map(|index| self.type_text(*index)).collect::<Vec<_>>().join("; "),
-            Value::Ids(all) => all.iter().map(|index| self.id_text(*index)).collect::<Vec<_>>().join("; "),
-            Value::Name(name) => shown(name.as_bytes()),
+            Value::Name(name) => shown(name.as_bytes()).to_string(),
             Value::Bytes(bytes) => bytes.iter().map(|b| format!("{b:02x}")).collect(),
-            Value::Elements(all) => format!("{} elements", all.len()),
+            // each is printed by itself
+            Value::Types(_) | Value::Ids(_) | Value::Elements(_) => String::new(),
         }
     }
 
@@ -91,29 +92,43 @@ impl<'s> Dump<'s> {
         format!("{leaf}{}", fields.join(", "))
     }
 
-    fn put_field(&self, out: &mut Out, (name, value): &Field<'_>) -> Result<(), Failure> {
-        let Value::Elements(all) = value else {
-            writeln!(out, "    {}", format!("{name}: {}", self.value_text(value)).trim_end())?;
-            return Ok(());
-        };
-        writeln!(out, "    {name}:")?;
-        for element in all {
-            match element {
-                Ok(element) => writeln!(out, "        {}", self.element_text(element).trim_end())?,
-                Err(e) => writeln!(out, "        {e}")?,
-            }
+    /// Indices behind one another. Their declarations may be too long together to be held.
+    fn put_indices(&self, out: &mut Out, name: &str, texts: impl Iterator<Item = String>) -> io::Result<()> {
+        write!(out, "    {name}:")?;
+        let mut texts = texts.peekable();
+        let mut before = " ";
+        while let Some(text) = texts.next() {
+            // what ends the line has no blanks at its end
+            let text = if texts.peek().is_none() { text.trim_end() } else { &text };
+            write!(out, "{before}{text}")?;
+            before = "; ";
         }
-        Ok(())
+        writeln!(out)
+    }
+
+    fn put_field(&self, out: &mut Out, (name, value): &Field<'_>) -> io::Result<()> {
+        match value {
+            Value::Types(all) => self.put_indices(out, name, all.iter().map(|index| self.type_text(*index))),
+            Value::Ids(all) => self.put_indices(out, name, all.iter().map(|index| self.id_text(*index))),
+            Value::Elements(all) => {
+                writeln!(out, "    {name}:")?;
+                all.iter().try_for_each(|element| match element {
+                    Ok(element) => writeln!(out, "        {}", self.element_text(element).trim_end()),
+                    Err(e) => writeln!(out, "        {e}"),
+                })
+            }
+            value => writeln!(out, "    {}", format!("{name}: {}", self.value_text(value)).trim_end()),
+        }
     }
 
     /// A record: a line with its index, leaf, length and declaration, and a line for each field. What refuses it stands where its fields would.
-    pub fn put_text(&self, out: &mut Out, item: &Type<'s>) -> Result<(), Failure> {
+    pub fn put_text(&self, out: &mut Out, item: &Type<'s>) -> io::Result<()> {
         let leaf = item.leaf().map_or("no leaf".to_string(), |leaf| leaf.to_string());
         let declaration = self.record_declaration(item).map_or(String::new(), |text| format!(": {}", shown(&text)));
         writeln!(out, "{} {leaf}, {} bytes{declaration}", item.index().0, item.len())?;
         match fields::of_record(item) {
             Ok(fields) => fields.iter().try_for_each(|field| self.put_field(out, field)),
-            Err(e) => Ok(writeln!(out, "    {e}")?),
+            Err(e) => writeln!(out, "    {e}"),
         }
     }
 
@@ -135,58 +150,75 @@ impl<'s> Dump<'s> {
         format!("{{\"index\":{index},\"name\":{name}}}")
     }
 
-    fn value_json(&self, value: &Value<'_>) -> String {
-        let list = |all: Vec<String>| format!("[{}]", all.join(","));
+    /// A value of a field, a list of them one by one.
+    fn put_value_json(&self, out: &mut Out, value: &Value<'_>) -> io::Result<()> {
         match value {
-            Value::None => "null".to_string(),
-            Value::Flag(yes) => yes.to_string(),
-            Value::Number(n) => n.to_string(),
-            Value::Numeric(n, form) => format!("{{\"value\":{},\"width\":{},\"shorter\":{}}}", Variant::as_i128(*n), form.width, form.shorter),
-            Value::Word(n, _, said) => format!("{{\"value\":{n},\"says\":{}}}", list(said.iter().map(|word| json::text(word)).collect())),
-            Value::Plain(word) => json::text(word),
-            Value::Type(index) => self.type_json(*index),
-            Value::Id(index) => self.id_json(*index),
-            Value::Types(all) => list(all.iter().map(|index| self.type_json(*index)).collect()),
-            Value::Ids(all) => list(all.iter().map(|index| self.id_json(*index)).collect()),
-            Value::Name(name) => json::bytes(name.as_bytes()),
-            Value::Bytes(_) => json::text(&self.value_text(value)),
-            Value::Elements(all) => list(all.iter().map(|element| self.element_json(element)).collect()),
+            Value::None => write!(out, "null"),
+            Value::Flag(yes) => write!(out, "{yes}"),
+            Value::Number(n) => write!(out, "{n}"),
+            Value::Numeric(n, form) => write!(
+                out,
+                "{{\"value\":{},\"width\":{},\"shorter\":{}}}",
+                Variant::as_i128(*n),
+                form.width,
+                form.shorter
+            ),
+            Value::Word(n, _, said) => {
+                let said: Vec<String> = said.iter().map(|word| json::text(word)).collect();
+                write!(out, "{{\"value\":{n},\"says\":[{}]}}", said.join(","))
+            }
+            Value::Plain(word) => write!(out, "{}", json::text(word)),
+            Value::Type(index) => write!(out, "{}", self.type_json(*index)),
+            Value::Id(index) => write!(out, "{}", self.id_json(*index)),
+            Value::Types(all) => json::put_list(out, all, |out, index| write!(out, "{}", self.type_json(*index))),
+            Value::Ids(all) => json::put_list(out, all, |out, index| write!(out, "{}", self.id_json(*index))),
+            Value::Name(name) => write!(out, "{}", json::bytes(name.as_bytes())),
+            Value::Bytes(_) => write!(out, "{}", json::text(&self.value_text(value))),
+            Value::Elements(all) => json::put_list(out, all, |out, element| self.put_element_json(out, element)),
         }
     }
 
-    fn fields_json(&self, fields: &[Field<'_>]) -> String {
-        let pairs: Vec<String> = fields
-            .iter()
-            .map(|(name, value)| format!("{}:{}", json::text(name), self.value_json(value)))
-            .collect();
-        format!("{{{}}}", pairs.join(","))
+    fn put_fields_json(&self, out: &mut Out, fields: &[Field<'_>]) -> io::Result<()> {
+        write!(out, "{{")?;
+        for (k, (name, value)) in fields.iter().enumerate() {
+            write!(out, "{}{}:", if k > 0 { "," } else { "" }, json::text(name))?;
+            self.put_value_json(out, value)?;
+        }
+        write!(out, "}}")
     }
 
-    fn element_json(&self, element: &Result<Element<'_>, Error>) -> String {
+    fn put_element_json(&self, out: &mut Out, element: &Result<Element<'_>, Error>) -> io::Result<()> {
         match element {
-            Err(e) => format!("{{\"refused\":{}}}", json::refusal(e)),
+            Err(e) => write!(out, "{{\"refused\":{}}}", json::refusal(e)),
             Ok(element) => {
                 let leaf = element.leaf.map_or("null".to_string(), |leaf| format!("\"0x{:04x}\"", leaf.0));
                 let name = element.leaf.and_then(|leaf| leaf.name()).map_or("null".to_string(), json::text);
-                format!("{{\"leaf\":{leaf},\"leaf_name\":{name},\"fields\":{}}}", self.fields_json(&element.fields))
+                write!(out, "{{\"leaf\":{leaf},\"leaf_name\":{name},\"fields\":")?;
+                self.put_fields_json(out, &element.fields)?;
+                write!(out, "}}")
             }
         }
     }
 
     /// A record as an object.
-    pub fn record_json(&self, item: &Type<'s>) -> String {
+    pub fn put_json(&self, out: &mut Out, item: &Type<'s>) -> io::Result<()> {
         let leaf = item.leaf().map_or("null".to_string(), |leaf| format!("\"0x{:04x}\"", leaf.0));
         let name = item.leaf().ok().and_then(|leaf| leaf.name()).map_or("null".to_string(), json::text);
         let declaration = self.record_declaration(item).map_or("null".to_string(), |text| json::bytes(&text));
-        let fields = match fields::of_record(item) {
-            Ok(fields) => format!("\"fields\":{}", self.fields_json(&fields)),
-            Err(e) => format!("\"refused\":{}", json::refusal(&e)),
-        };
-        format!(
-            "{{\"index\":{},\"leaf\":{leaf},\"leaf_name\":{name},\"length\":{},\"declaration\":{declaration},{fields}}}",
+        write!(
+            out,
+            "{{\"index\":{},\"leaf\":{leaf},\"leaf_name\":{name},\"length\":{},\"declaration\":{declaration},",
             item.index().0,
             item.len()
-        )
+        )?;
+        match fields::of_record(item) {
+            Ok(fields) => {
+                write!(out, "\"fields\":")?;
+                self.put_fields_json(out, &fields)?;
+            }
+            Err(e) => write!(out, "\"refused\":{}", json::refusal(&e))?,
+        }
+        write!(out, "}}")
     }
 }
 
@@ -194,13 +226,14 @@ pub fn run(call: &Call) -> Result<(), Failure> {
     let input = Input::stream_of(call)?;
     let dump = Dump::of(&input)?;
     let progress = Progress::of("dumping", dump.types.len() as u64);
-    let mut out = output::standard();
+    let mut out = output::standard()?;
     if call.json {
         let head = header_json(input.ids, dump.types.information().header(), input.bytes.len());
         write!(out, "{{{head},\"records\":")?;
         let mut array = json::Array::open(&mut out)?;
         for item in dump.types.iter().map_while(Result::ok) {
-            array.element(&mut out, &dump.record_json(&item))?;
+            array.before(&mut out)?;
+            dump.put_json(&mut out, &item)?;
             progress.step();
         }
         array.close(&mut out)?;

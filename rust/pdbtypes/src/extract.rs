@@ -77,8 +77,11 @@ fn taken(word: &OsStr, bytes: Option<&[u8]>, tools: &[String], words: impl Fn(&P
         Ran::Taken(bytes) => Ok(bytes),
         Ran::Missing => Err(Failure::File(name, missing)),
         Ran::Failed(tool, said) => {
-            let said = String::from_utf8_lossy(&said).replace(&*given.to_string_lossy(), &name);
-            let line = said.lines().next().unwrap_or("it gave no reason");
+            let first = said.split(|c| *c == b'\n').next().unwrap_or_default();
+            let line = match String::from_utf8_lossy(first).trim_end() {
+                "" => "it gave no reason".to_string(),
+                line => line.replace(&*given.to_string_lossy(), &name),
+            };
             Err(Failure::File(name, format!("{tool} takes nothing out of it: {line}")))
         }
     }

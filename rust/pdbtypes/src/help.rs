@@ -235,7 +235,8 @@ which compose takes for a bad line; then the status is 1.
 const FILES: &str = "\
 A FILE is a raw type or id stream, a whole program database (.pdb), a section .debug$T or an object file (x86-64, x86,
 Arm64), told apart by what it holds; `-`, or none where none is named, is standard input. Out of a database the type
-stream is taken by llvm-pdbutil, out of an object file its section by objcopy, where they are installed.
+stream is taken by llvm-pdbutil, out of an object file its section by objcopy, where they are installed. A stream has
+at most 4,294,967,294 bytes: a longer file is refused by 16, and is not read.
 ";
 
 const OPTIONS: &[(Choice, &str)] = &[
@@ -259,8 +260,8 @@ pub fn whole() -> String {
     text += &format!("\n{FILES}\n");
     text += "\
 pdbtypes COMMAND --help says more of a command, with an example. pdbtypes --version says which this is.
-Status: 0 done; 1 refused, or not fit; 2 called wrong, or a file cannot be read or written. What is refused is said on
-standard error by its number and name: docs/NUMBERS.md has them.
+Status: 0 done; 1 refused, or not fit; 2 called wrong, a file cannot be read or written, or there is no memory for it.
+What is wrong is said on standard error, a refusal by its number and name: docs/NUMBERS.md has them.
 ";
     text
 }

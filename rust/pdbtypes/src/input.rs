@@ -2,9 +2,12 @@
 use crate::args::Call;
 use crate::extract;
 use crate::fail::{reason, Failure};
-use pdb_types::{Item, ItemInformation, Leaf, Section, TypeIndex};
+use crate::memory;
+use pdb_types::{Error, Item, ItemInformation, Leaf, Section, TypeIndex, Types};
 use std::ffi::OsStr;
-use std::io::{self, IsTerminal, Read};
+use std::fs::File;
+use std::io::{self, IsTerminal, Read, Seek};
+use std::os::fd::AsFd;
 
 /// What a file holds.
 #[derive(Debug, Clone, Copy, PartialEq, Eq)]
@@ -29,6 +32,8 @@ pub enum Kind {
 const DATABASE: &[u8] = b"Microsoft C/C++ MSF";
 /// The machines whose object files are known: x86-64, x86 and Arm64.
 const MACHINES: [u16; 3] = [0x8664, 0x014c, 0xaa64];
+/// No stream, section or places file has more bytes.
+const LONGEST: u64 = u32::MAX as u64 - 1;
 
 fn number(bytes: &[u8], at: usize) -> Option<u32> {
     let four = bytes.get(at..at.checked_add(4)?)?;
@@ -79,18 +84,54 @@ fn is_database_file(word: &OsStr) -> bool {
     word != "-" && std::fs::metadata(word).is_ok_and(|about| about.is_file()) && begins().unwrap_or(false)
 }
 
-/// The bytes of a file, or of standard input for `-`.
-pub fn bytes(word: &OsStr) -> Result<Vec<u8>, Failure> {
-    let cannot = |e: io::Error| Failure::File(name(word), format!("cannot be read: {}", reason(&e)));
+/// What is said of a file that the system does not give.
+fn cannot(word: &OsStr) -> impl Fn(io::Error) -> Failure + '_ {
+    |e| Failure::File(name(word), format!("cannot be read: {}", reason(&e)))
+}
+
+/// A file, or standard input for `-`: as a file of its own, since std's would be empty where it cannot be read at all.
+fn opened(word: &OsStr) -> Result<File, Failure> {
     if word != "-" {
-        return std::fs::read(word).map_err(cannot);
+        return File::open(word).map_err(cannot(word));
     }
     if io::stdin().is_terminal() {
         return Err(Failure::Usage("no file; give one, or pipe it in".to_string()));
     }
+    let input = io::stdin().as_fd().try_clone_to_owned();
+    Ok(File::from(input.map_err(cannot(word))?))
+}
+
+/// The bytes of a file of any length.
+pub fn text(word: &OsStr) -> Result<Vec<u8>, Failure> {
     let mut bytes = Vec::new();
-    io::stdin().lock().read_to_end(&mut bytes).map_err(cannot)?;
+    opened(word)?.read_to_end(&mut bytes).map_err(cannot(word))?;
     Ok(bytes)
+}
+
+/// The bytes of a file that is to be a stream, a section or a places file, and by what a longer one than any of these is refused. Of that one no more is read
+/// than tells what it is; a pipe, which does not say how long it is, is read up to there.
+pub fn bytes(word: &OsStr, too_long: Error) -> Result<Vec<u8>, Failure> {
+    let (mut file, mut bytes) = (opened(word)?, Vec::new());
+    let read = |file: &mut File, most: u64, bytes: &mut Vec<u8>| file.take(most).read_to_end(bytes).map_err(cannot(word));
+    // 0 of a pipe, and of what is made while it is read
+    let whole = file.metadata().map_or(0, |about| about.len());
+    let length = whole.saturating_sub(file.stream_position().unwrap_or(0));
+    if length <= LONGEST {
+        bytes.try_reserve_exact(length as usize).map_err(|e| cannot(word)(e.into()))?;
+        read(&mut file, LONGEST + 1, &mut bytes)?;
+    } else {
+        read(&mut file, 64, &mut bytes)?;
+    }
+    if length.max(bytes.len() as u64) <= LONGEST {
+        return Ok(bytes);
+    }
+    match kind(&bytes) {
+        // a database is longer than its streams
+        Kind::Database => read(&mut file, u64::MAX, &mut bytes).map(|_| bytes),
+        // which is all that is said of it
+        Kind::Library | Kind::Program => Ok(bytes),
+        _ => Err(Failure::Refused(name(word), too_long)),
+    }
 }
 
 /// A stream or a section: what every command but `lookup` and `compose` starts from.
@@ -114,9 +155,9 @@ impl Input {
         if is_database_file(word) {
             let bytes = extract::stream(word, None, ids)?;
             let (name, kind, ids) = (name(word), Kind::Stream, ids || is_ids(&bytes));
-            return Ok(Input { name, bytes, kind, ids });
+            return Input { name, bytes, kind, ids }.with_room();
         }
-        Input::told(word, bytes(word)?, ids)
+        Input::told(word, bytes(word, Error::TooLong)?, ids)
     }
 
     /// The same of bytes that were read.
@@ -145,7 +186,13 @@ impl Input {
             kind => kind,
         };
         let ids = kind == Kind::Stream && (ids || is_ids(&bytes));
-        Ok(Input { name, bytes, kind, ids })
+        Input { name, bytes, kind, ids }.with_room()
+    }
+
+    /// The same, if there is memory left for a record of it.
+    fn with_room(self) -> Result<Input, Failure> {
+        self.refused(memory::left(memory::RECORD))?;
+        Ok(self)
     }
 
     /// The same as a stream: a section is made into one, whose header counts its records.
@@ -153,7 +200,7 @@ impl Input {
         if self.kind == Kind::Section {
             self.bytes = self.refused(Section::parse(&self.bytes).and_then(|section| section.to_stream()))?;
         }
-        Ok(self)
+        self.with_room()
     }
 
     /// The first file of a call as a stream.
@@ -161,9 +208,16 @@ impl Input {
         Input::of(call)?.into_stream()
     }
 
+    /// The types of a stream, all of which are found by their index, if there is memory left for a record of it.
+    pub fn types(&self) -> Result<Types<'_>, Failure> {
+        let types = self.refused(Types::parse(&self.bytes))?;
+        self.refused(memory::left(memory::RECORD))?;
+        Ok(types)
+    }
+
     /// An answer of the library, or its refusal with the file's name.
     pub fn refused<T>(&self, answer: pdb_types::Result<T>) -> Result<T, Failure> {
-        answer.map_err(|e| Failure::Refused(self.name.clone(), e))
+        answer.map_err(|e| Failure::of(&self.name, e))
     }
 }
 

@@ -31,6 +31,18 @@ pub fn refusal(e: &pdb_types::Error) -> String {
     format!("{{\"number\":{},\"name\":{},\"details\":[{}]}}", e.number(), text(e.name()), details.join(","))
 }
 
+/// An array on one line, of which each element is written by itself.
+pub fn put_list<W: Write, T>(out: &mut W, all: &[T], put: impl Fn(&mut W, &T) -> io::Result<()>) -> io::Result<()> {
+    out.write_all(b"[")?;
+    for (k, one) in all.iter().enumerate() {
+        if k > 0 {
+            out.write_all(b",")?;
+        }
+        put(out, one)?;
+    }
+    out.write_all(b"]")
+}
+
 /// An array that is written element by element, each on a line of its own.
 pub struct Array {
     begun: bool,
@@ -42,9 +54,15 @@ impl Array {
         Ok(Array { begun: false })
     }
 
-    pub fn element(&mut self, out: &mut impl Write, json: &str) -> io::Result<()> {
+    /// What stands before each element.
+    pub fn before(&mut self, out: &mut impl Write) -> io::Result<()> {
         out.write_all(if self.begun { b",\n" } else { b"\n" })?;
         self.begun = true;
+        Ok(())
+    }
+
+    pub fn element(&mut self, out: &mut impl Write, json: &str) -> io::Result<()> {
+        self.before(out)?;
         out.write_all(json.as_bytes())
     }
 

@@ -66,7 +66,7 @@ fn put_json<'s, I: ItemIndex>(out: &mut Out, records: ItemIter<'s, I>, progress:
 
 /// The records of an input, from its first line on.
 pub fn put_records<'s, I: ItemIndex>(input: &Input, json: bool, head: (&str, &str), records: ItemIter<'s, I>, count: u64) -> Result<(), Failure> {
-    let mut out = output::standard();
+    let mut out = output::standard()?;
     let progress = Progress::of("listing", count);
     let refused = if json {
         write!(out, "{{{},\"records\":", head.1)?;
@@ -78,7 +78,7 @@ pub fn put_records<'s, I: ItemIndex>(input: &Input, json: bool, head: (&str, &st
     out.flush()?;
     drop(progress);
     match refused {
-        Some(e) => Err(Failure::Refused(input.name.clone(), e)),
+        Some(e) => Err(Failure::of(&input.name, e)),
         None => Ok(()),
     }
 }

@@ -14,6 +14,7 @@ mod help;
 mod input;
 mod json;
 mod list;
+mod memory;
 mod outline;
 mod output;
 mod places;
@@ -32,7 +33,7 @@ use std::process::ExitCode;
 fn run() -> Result<(), Failure> {
     match args::parse(std::env::args_os().skip(1))? {
         Asked::Text(text) => {
-            let mut out = output::standard();
+            let mut out = output::standard()?;
             out.write_all(text.as_bytes())?;
             Ok(out.flush()?)
         }
@@ -44,10 +45,7 @@ fn main() -> ExitCode {
     match run() {
         Ok(()) => ExitCode::SUCCESS,
         Err(failure) => {
-            // where standard error is closed there is nobody to tell
-            for line in failure.lines() {
-                let _ = writeln!(std::io::stderr(), "pdbtypes: {line}");
-            }
+            failure.say();
             ExitCode::from(failure.status())
         }
     }

@@ -3,6 +3,7 @@ use crate::args::Call;
 use crate::dump::short_declaration;
 use crate::fail::Failure;
 use crate::input::Input;
+use crate::memory;
 use crate::output::{self, shown, Out};
 use crate::progress::Progress;
 use crate::resolve::Definitions;
@@ -20,7 +21,7 @@ struct Outline<'s, 'r> {
 fn named(name: RawString<'_>) -> String {
     match name.as_bytes() {
         b"" => "(no name)".to_string(),
-        bytes => shown(bytes),
+        bytes => shown(bytes).to_string(),
     }
 }
 
@@ -37,7 +38,7 @@ impl<'s> Outline<'s, '_> {
     /// The declaration of a type; its index as `#4123` where it has none, or one that is too long.
     fn declared(&self, index: TypeIndex) -> String {
         match short_declaration(&self.resolved, index) {
-            Ok(text) => shown(&text),
+            Ok(text) => shown(&text).to_string(),
             Err(_) => format!("#{}", index.0),
         }
     }
@@ -177,12 +178,13 @@ impl<'s> Outline<'s, '_> {
 pub fn run(call: &Call) -> Result<(), Failure> {
     let names = call.texts_from(1);
     let input = Input::stream_of(call)?;
-    let types = input.refused(Types::parse(&input.bytes))?;
+    let types = input.types()?;
     let progress = Progress::of("outlining", types.len() as u64);
-    let copy = Definitions::of(&types).resolved(&types);
+    let copy = input.refused(Definitions::of(&types).and_then(|definitions| definitions.resolved(&types)))?;
     let resolved = input.refused(Types::parse(&copy))?;
+    input.refused(memory::left(memory::RECORD))?;
     let outline = Outline { types, resolved };
-    let mut out = output::standard();
+    let mut out = output::standard()?;
     let mut missing: Vec<&String> = names.iter().collect();
     for item in outline.types.iter().map_while(Result::ok) {
         progress.step();

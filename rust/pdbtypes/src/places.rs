@@ -3,9 +3,10 @@ use crate::args::Call;
 use crate::fail::Failure;
 use crate::input::{self, Input};
 use crate::list::put_line;
+use crate::memory;
 use crate::output;
 use crate::progress::Progress;
-use pdb_types::{TypeIndex, TypeInformation};
+use pdb_types::{Error, TypeIndex, TypeInformation};
 use std::io::Write;
 
 pub fn keep(call: &Call) -> Result<(), Failure> {
@@ -26,10 +27,11 @@ pub fn lookup(call: &Call) -> Result<(), Failure> {
     let input = Input::stream_of(call)?;
     // call.words has three words at least
     let places = call.words.get(1).map(|word| word.as_os_str()).unwrap_or_default();
-    let file = input::bytes(places)?;
+    let file = input::bytes(places, Error::FileWrong)?;
     let information: TypeInformation<'_> = input.refused(TypeInformation::parse(&input.bytes))?;
-    let finder = information.load(&file).map_err(|e| Failure::Refused(input::name(places), e))?;
-    let mut out = output::standard();
+    let loaded = information.load(&file).and_then(|finder| memory::left(memory::RECORD).map(|()| finder));
+    let finder = loaded.map_err(|e| Failure::of(&input::name(places), e))?;
+    let mut out = output::standard()?;
     let mut wrong = Vec::new();
     for index in named {
         match finder.find(TypeIndex(index)) {

@@ -33,9 +33,11 @@ impl Progress {
                     let _ = write!(io::stderr(), "\r\x1b[K");
                 }
             };
-            (stop, std::thread::spawn(watch))
+            // where the system gives no thread, nothing is said
+            let thread = std::thread::Builder::new().spawn(watch);
+            thread.ok().map(|thread| (stop, thread))
         });
-        Progress { done, clock }
+        Progress { done, clock: clock.flatten() }
     }
 
     /// One more record is done.

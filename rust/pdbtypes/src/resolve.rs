@@ -3,8 +3,10 @@
 //! A stream names a type by a forward reference where its definition comes later. Its declaration is the same by name, but the length of an array is not to be
 //! had: a forward reference has no size. So that the library's own declarations have it, they are asked of a copy of the stream, in which arrays and modifiers
 //! name the definition. In the copy a member function is a plain function too: that one has a declaration, and it is the same but for its class.
-use pdb_types::{Leaf, RawString, TypeData, TypeIndex, Types};
+use crate::memory;
+use pdb_types::{Error, Leaf, RawString, Result, TypeData, TypeIndex, Types};
 use std::collections::HashMap;
+use std::hash::Hash;
 
 /// Where the types of a stream are defined.
 pub struct Definitions<'s> {
@@ -17,8 +19,13 @@ fn key<'s>(data: &TypeData<'s>) -> Option<RawString<'s>> {
     data.unique_name().or(data.name())
 }
 
+/// Makes room for one more.
+fn room<K: Eq + Hash, V>(map: &mut HashMap<K, V>) -> Result<()> {
+    map.try_reserve(1).map_err(|_| Error::NoRoom)
+}
+
 impl<'s> Definitions<'s> {
-    pub fn of(types: &Types<'s>) -> Definitions<'s> {
+    pub fn of(types: &Types<'s>) -> Result<Definitions<'s>> {
         let mut found = Definitions {
             by_name: HashMap::new(),
             by_forward: HashMap::new(),
@@ -29,12 +36,14 @@ impl<'s> Definitions<'s> {
                 continue;
             };
             if properties.forward_reference() {
+                room(&mut found.by_forward)?;
                 found.by_forward.insert(item.index(), name);
             } else {
+                room(&mut found.by_name)?;
                 found.by_name.entry(name).or_insert(item.index());
             }
         }
-        found
+        Ok(found)
     }
 
     /// The definition of a forward reference, if the stream has it.
@@ -43,17 +52,21 @@ impl<'s> Definitions<'s> {
     }
 
     /// The definitions of those forward references that are kept and whose definition is not.
-    pub fn missing(&self, is_kept: impl Fn(TypeIndex) -> bool) -> Vec<TypeIndex> {
+    pub fn missing(&self, is_kept: impl Fn(TypeIndex) -> bool) -> Result<Vec<TypeIndex>> {
         let kept = self.by_forward.keys().filter(|index| is_kept(**index));
-        let mut found: Vec<TypeIndex> = kept.filter_map(|index| self.get(*index)).filter(|index| !is_kept(*index)).collect();
+        let mut found = Vec::new();
+        for index in kept.filter_map(|index| self.get(*index)).filter(|index| !is_kept(*index)) {
+            memory::push(&mut found, index)?;
+        }
         found.sort_unstable();
         found.dedup();
-        found
+        Ok(found)
     }
 
     /// The copy of the stream: as long as it is, with its records where they are.
-    pub fn resolved(&self, types: &Types<'s>) -> Vec<u8> {
-        let mut copy = types.information().bytes().to_vec();
+    pub fn resolved(&self, types: &Types<'s>) -> Result<Vec<u8>> {
+        let mut copy = Vec::new();
+        memory::extend(&mut copy, types.information().bytes())?;
         for item in types.iter().map_while(Result::ok) {
             let (Some(place), Ok(leaf)) = (item.place(), item.leaf()) else {
                 continue;
@@ -78,6 +91,6 @@ impl<'s> Definitions<'s> {
                 _ => {}
             }
         }
-        copy
+        Ok(copy)
     }
 }

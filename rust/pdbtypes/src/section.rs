@@ -3,13 +3,13 @@ use crate::args::Call;
 use crate::fail::Failure;
 use crate::input::{self, Input, Kind};
 use crate::{list, output};
-use pdb_types::Section;
+use pdb_types::{Error, Section};
 
 pub fn run(call: &Call) -> Result<(), Failure> {
     if call.out.is_some() && !call.stream {
         return Err(Failure::Usage("-o is for --stream, which writes a type stream".to_string()));
     }
-    let bytes = input::bytes(call.file())?;
+    let bytes = input::bytes(call.file(), Error::TooLong)?;
     if input::kind(&bytes) == Kind::Database {
         let why = "a whole program database, which has no section .debug$T";
         return Err(Failure::File(input::name(call.file()), why.to_string()));

@@ -11,7 +11,7 @@ pub fn run(call: &Call) -> Result<(), Failure> {
     let named = call.indices_from(1)?;
     let input = Input::stream_of(call)?;
     let dump = Dump::of(&input)?;
-    let mut out = output::standard();
+    let mut out = output::standard()?;
     let mut wrong = Vec::new();
     for index in named.into_iter().map(TypeIndex) {
         match dump.types.get(index) {

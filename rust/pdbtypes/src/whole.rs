@@ -3,6 +3,7 @@ use crate::args::{self, Call};
 use crate::fail::Failure;
 use crate::input::Input;
 use crate::json;
+use crate::memory;
 use crate::output::{self, shown};
 use crate::progress::Progress;
 use crate::resolve::Definitions;
@@ -32,7 +33,7 @@ pub fn fit(call: &Call) -> Result<(), Failure> {
     let progress = Progress::of("checking", information.len() as u64);
     let answer = input.refused(information.fit())?;
     drop(progress);
-    let mut out = output::standard();
+    let mut out = output::standard()?;
     match (answer, call.json) {
         (Fit::Yes, false) => writeln!(out, "fit")?,
         (Fit::Yes, true) => writeln!(out, "{{\"fit\":true}}")?,
@@ -54,7 +55,7 @@ pub fn fit(call: &Call) -> Result<(), Failure> {
 }
 
 /// The records that have a name, definitions before forward references.
-fn named(types: &Types<'_>, wanted: &[String]) -> HashMap<String, Vec<TypeIndex>> {
+fn named(types: &Types<'_>, wanted: &[String]) -> pdb_types::Result<HashMap<String, Vec<TypeIndex>>> {
     let (mut definitions, mut forwards) = (HashMap::<String, Vec<TypeIndex>>::new(), HashMap::<String, Vec<TypeIndex>>::new());
     for item in types.iter().map_while(Result::ok) {
         let Ok(data) = item.parse() else { continue };
@@ -64,28 +65,28 @@ fn named(types: &Types<'_>, wanted: &[String]) -> HashMap<String, Vec<TypeIndex>
         names.dedup();
         for name in names.iter().map(|name| name.to_string()) {
             if wanted.iter().any(|w| *w == name) {
-                into.entry(name.into_owned()).or_default().push(item.index());
+                memory::push(into.entry(name.into_owned()).or_default(), item.index())?;
             }
         }
     }
     for (name, all) in forwards {
         definitions.entry(name).or_insert(all);
     }
-    definitions
+    Ok(definitions)
 }
 
 /// What some roots reach, and what the definitions of the forward references among it reach in turn.
 fn dropped_whole(information: &TypeInformation<'_>, mut roots: Vec<TypeIndex>) -> pdb_types::Result<Dropped> {
-    let definitions = Definitions::of(&Types::parse(information.bytes())?);
+    let definitions = Definitions::of(&Types::parse(information.bytes())?)?;
     let lowest = information.header().minimum_index;
     loop {
         let dropped = information.drop(&roots)?;
         let at = |index: TypeIndex| index.0.checked_sub(lowest).and_then(|k| dropped.table.get(k as usize));
-        let missing = definitions.missing(|index| at(index).is_some_and(|n| *n != 0));
+        let missing = definitions.missing(|index| at(index).is_some_and(|n| *n != 0))?;
         if missing.is_empty() {
             return Ok(dropped);
         }
-        roots.extend(missing);
+        memory::extend(&mut roots, &missing)?;
     }
 }
 
@@ -100,30 +101,36 @@ pub fn drop_(call: &Call) -> Result<(), Failure> {
     let names: Vec<String> = words.iter().filter(|word| args::index(word).is_none()).cloned().collect();
     let mut found = HashMap::new();
     if !names.is_empty() {
-        found = named(&input.refused(Types::parse(&input.bytes))?, &names);
+        found = input.refused(named(&input.types()?, &names))?;
     }
     let (mut roots, mut wrong) = (Vec::new(), Vec::new());
     for word in &words {
         match (args::index(word), found.get(word)) {
             (Some(index), _) => roots.push((TypeIndex(index), word)),
-            (None, Some(all)) => roots.extend(all.iter().map(|index| (*index, word))),
+            (None, Some(all)) => {
+                input.refused(memory::room(&mut roots, all.len()))?;
+                roots.extend(all.iter().map(|index| (*index, word)));
+            }
             (None, None) => wrong.push(format!("{}: no class, union or enumeration is named {word}", input.name)),
         }
     }
     Failure::of_lines(wrong)?;
     let progress = Progress::of("dropping", information.len() as u64);
-    let indices: Vec<TypeIndex> = roots.iter().map(|root| root.0).collect();
+    let mut indices = Vec::new();
+    input.refused(memory::room(&mut indices, roots.len()))?;
+    indices.extend(roots.iter().map(|root| root.0));
     let dropped = input.refused(if call.whole {
         dropped_whole(&information, indices)
     } else {
         information.drop(&indices)
     })?;
     drop(progress);
+    input.refused(memory::left(memory::RECORD))?;
     output::write_bytes(Some(into), &dropped.stream)?;
     if into == "-" {
         return Ok(());
     }
-    let (lowest, mut out) = (information.header().minimum_index, output::standard());
+    let (lowest, mut out) = (information.header().minimum_index, output::standard()?);
     for (root, word) in roots {
         // an index below the stream's lowest has no record, and stays
         let at = root.0.checked_sub(lowest).and_then(|k| dropped.table.get(k as usize));
@@ -146,7 +153,7 @@ pub fn drop_(call: &Call) -> Result<(), Failure> {
 }
 
 fn put_report(report: &Report, files: &[String], refused: &[(String, pdb_types::Error)]) -> Result<(), Failure> {
-    let mut out = output::standard();
+    let mut out = output::standard()?;
     writeln!(out, "streams {}, refused {}", report.taken(), report.refused())?;
     writeln!(
         out,
@@ -157,6 +164,7 @@ fn put_report(report: &Report, files: &[String], refused: &[(String, pdb_types::
     )?;
     if report.records() > 0 {
         let file = files.get(report.largest_stream() as usize).map_or("", String::as_str);
+        let file = shown(file.as_bytes());
         writeln!(out, "largest record: {} bytes, {} of {file}", report.largest(), report.largest_index())?;
     }
     for row in report.rows() {
@@ -164,13 +172,13 @@ fn put_report(report: &Report, files: &[String], refused: &[(String, pdb_types::
         writeln!(out, "{:04x} {name:19} {:>10} records {:>12} bytes", row.leaf.0, row.records, row.bytes)?;
     }
     for (file, e) in refused {
-        writeln!(out, "not counted: {file}: {e}")?;
+        writeln!(out, "not counted: {}: {e}", shown(file.as_bytes()))?;
     }
     Ok(out.flush()?)
 }
 
 fn report_json(report: &Report, files: &[String], refused: &[(String, pdb_types::Error)]) -> Result<(), Failure> {
-    let mut out = output::standard();
+    let mut out = output::standard()?;
     write!(
         out,
         "{{\"streams\":{},\"refused\":{},\"header_bytes\":{},\"records\":{},\"bytes\":{}",
@@ -228,8 +236,8 @@ pub fn report(call: &Call) -> Result<(), Failure> {
     }
     let (mut report, mut files, mut refused, mut wrong) = (Report::new(), Vec::new(), Vec::new(), Vec::new());
     for word in words {
-        let input = match Input::open(word, call.ids)?.into_stream() {
-            // a section of which no stream can be made
+        let input = match Input::open(word, call.ids).and_then(Input::into_stream) {
+            // a file that is too long, or a section of which no stream can be made
             Err(Failure::Refused(file, e)) => {
                 refused.push((file, e));
                 continue;
