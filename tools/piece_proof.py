@@ -5,7 +5,7 @@
 
 Without FN they are the crate's functions that tools/generated.txt lists; another one's proof may have been written by hand. Two forms of function are taken:
   - pieces: `let mut xs = [Piece::Nothing; 16];` and then `xs[i] = CALL(..);` for i from 0 up. Each return is one `rw` by what each call
-    ensures, first to last (of a call of write_fit the second part, which says the bytes), and by `no-piece` for the places that are left;
+    ensures, first to last (of a call of write_pieces::fields the second part, which says the bytes), and by `no-piece` for the places that are left;
   - choice: a `match` on a local whose arms `E::V(a) => f(a),` call such a function, or `E::V => f(),`; each return is one `rw` by the variant.
 The names that the returns unfold are in UNFOLD below, by the word that the contract has.
 It is an edit tool: `rt check` is the verdict, and `rt fmt` the layout. A proof says in its first line that this tool wrote it; add its function to
@@ -24,15 +24,15 @@ UNFOLD = [
     ("typeLeaves", "Rattle.record_layout.specs.Layouts.{typeLeaves}", "typeLeaves"),
     ("idLeaves", "Rattle.record_layout.specs.Layouts.{idLeaves}", "idLeaves"),
     ("memberLeaves", "Rattle.record_layout.specs.Layouts.{memberLeaves}", "memberLeaves"),
-    ("listMethod", "Rattle.write_row.specs.Rows.{listMethod}", "listMethod"),
-] + [(row, f"Rattle.write_row.specs.Rows.{{{row}}}", row) for row in ROWS]
+    ("listMethod", "Rattle.write_list.specs.Rows.{listMethod}", "listMethod"),
+] + [(row, f"Rattle.write_list.specs.Rows.{{{row}}}", row) for row in ROWS]
 FIELDS = [
     "use Rattle.write_layout.specs.Fields.{writeFields, writeField, sizeBytes}",
     "use Rattle.write_pieces.specs.Pieces.{piecesOf}",
-    "use Rattle.write_fit.proofs.FitLaws.{no-piece}",
+    "use Rattle.write_pieces.proofs.FitLaws.{no-piece}",
 ]
 # what a callee's `ensures` is asked at besides the text
-MORE = {"text": " 0", "part_text": " 0"}
+MORE = {"string": " 0", "part_text": " 0"}
 
 
 def functions(source):
@@ -64,7 +64,7 @@ def proof(crate, fn, doc, uses, body, spec):
 
 
 def pieces(crate, fn, head, body):
-    found = re.findall(r"xs\[\d+\] = (write_fit::)?(\w+)\(", body)
+    found = re.findall(r"xs\[\d+\] = (write_pieces::fields::)?(\w+)\(", body)
     calls = [name for _, name in found]
     names = used(head)
     unfold = " ".join(["piecesOf"] + [n for _, n in names] + ["writeFields", "writeField", "sizeBytes"])

@@ -48,11 +48,11 @@ nameText refusal.LeavesFull = quoted "leaves full"
 nameText refusal.NotFit = quoted "not fit"
 nameText refusal.ReadsAsNone = quoted "reads as none"
 
-unfoldable pub spaces : ℕ → List ℕ
-spaces zero = []
-spaces (suc n) = 32 ∷ spaces n
+unfoldable pub blanks : ℕ → List ℕ
+blanks zero = []
+blanks (suc n) = 32 ∷ blanks n
 
 -- a text in 20 bytes: its own, and spaces behind it
 pub record Holds (w : Name) (text : List ℕ) : Type 0 where
   pub count : w .n ≡ length text
-  pub whole : w .bytes ≡ text ++ spaces (20 - length text)
+  pub whole : w .bytes ≡ text ++ blanks (20 - length text)

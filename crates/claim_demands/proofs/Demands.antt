@@ -16,7 +16,7 @@ use Rattle.stream_report.proofs.MadeSums.{made-sums}
 use Rattle.write_layout.proofs.RoundTripProof.{fields-read-back, record-reads-back}
 use Rattle.write_layout.proofs.Rewrite.{exactly-17}
 use Rattle.write_layout.proofs.TypeLaws.{types-written}
-use Rattle.write_row.proofs.RowLaws.{rows-show}
+use Rattle.write_list.proofs.RowLaws.{rows-show}
 use Rattle.write_list.proofs.ListBack.{lists-read-back}
 use Rattle.write_list.proofs.Lists17.{lists-exactly-17}
 use Rattle.write_header.proofs.HeaderBack.{header-reads-back}

@@ -4,8 +4,6 @@ use mathlib.Core.Path.{refl}
 use Rattle.answer.proofs.Refusal.details.Met as answer-refusal-details
 use Rattle.answer.proofs.Refusal.number.Met as answer-refusal-number
 use Rattle.answer_name.proofs.name_of.Met as answer-name-name-of
-use Rattle.declare_kind.proofs.kind.Met as declare-kind-kind
-use Rattle.declare_kind.proofs.size.Met as declare-kind-size
 use Rattle.declare_node.proofs.index_at.Met as declare-node-index-at
 use Rattle.declare_node.proofs.list_of.Met as declare-node-list-of
 use Rattle.declare_node.proofs.node_of.Met as declare-node-node-of
@@ -14,8 +12,10 @@ use Rattle.declare_piece.proofs.put.Met as declare-piece-put
 use Rattle.declare_step.proofs.start.Met as declare-step-start
 use Rattle.declare_step.proofs.step_of.Met as declare-step-step-of
 use Rattle.declare_type.proofs.declare.Met as declare-type-declare
-use Rattle.declare_walk.proofs.declarator.Met as declare-walk-declarator
-use Rattle.declare_word.proofs.by.Met as declare-word-by
+use Rattle.declare_walk.proofs.measure_declarator.Met as declare-walk-measure-declarator
+use Rattle.declare_word.proofs.indirection.Met as declare-word-indirection
+use Rattle.declare_word.proofs.kind.size.Met as declare-word-kind-size
+use Rattle.declare_word.proofs.kind.spelled.Met as declare-word-kind-spelled
 use Rattle.declare_word.proofs.mode.Met as declare-word-mode
 use Rattle.declare_word.proofs.qualifiers.Met as declare-word-qualifiers
 use Rattle.field.proofs.fixed.u16_at.Met as field-fixed-u16-at
@@ -126,7 +126,6 @@ use Rattle.record_reader.proofs.ListReader.element.Met as record-reader-list-re
 use Rattle.record_reader.proofs.ListReader.new.Met as record-reader-list-reader-new
 use Rattle.record_reader.proofs.ListReader.step.Met as record-reader-list-reader-step
 use Rattle.record_reader.proofs.nth.Met as record-reader-nth
-use Rattle.record_reader.proofs.step_of.Met as record-reader-step-of
 use Rattle.record_reference.proofs.element_references.Met as record-reference-element-references
 use Rattle.record_reference.proofs.record_references.Met as record-reference-record-references
 use Rattle.section_finder.proofs.create.Met as section-finder-create
@@ -147,7 +146,6 @@ use Rattle.stream_finder.proofs.create.Met as stream-finder-create
 use Rattle.stream_finder.proofs.create_by.Met as stream-finder-create-by
 use Rattle.stream_finder.proofs.find_id.Met as stream-finder-find-id
 use Rattle.stream_finder.proofs.find_type.Met as stream-finder-find-type
-use Rattle.stream_finder.proofs.lent.update_local.Met as stream-finder-lent-update-local
 use Rattle.stream_finder.proofs.update.Met as stream-finder-update
 use Rattle.stream_fit.proofs.fit.Met as stream-fit-fit
 use Rattle.stream_header.proofs.Header.count.Met as stream-header-header-count
@@ -155,7 +153,7 @@ use Rattle.stream_header.proofs.Header.parse.Met as stream-header-header-parse
 use Rattle.stream_index.proofs.index_all.Met as stream-index-index-all
 use Rattle.stream_index.proofs.index_all_by.Met as stream-index-index-all-by
 use Rattle.stream_index.proofs.index_on.Met as stream-index-index-on
-use Rattle.stream_index.proofs.turn.Met as stream-index-turn
+use Rattle.stream_index.proofs.next_and_update.Met as stream-index-next-and-update
 use Rattle.stream_item.proofs.Entry.index.Met as stream-item-entry-index
 use Rattle.stream_item.proofs.Entry.is_empty.Met as stream-item-entry-is-empty
 use Rattle.stream_item.proofs.Entry.len.Met as stream-item-entry-len
@@ -175,7 +173,7 @@ use Rattle.stream_report.proofs.new.Met as stream-report-new
 use Rattle.stream_view.proofs.bytes_of.Met as stream-view-bytes-of
 use Rattle.stream_view.proofs.raw_kind.Met as stream-view-raw-kind
 use Rattle.stream_view.proofs.view.Met as stream-view-view
-use Rattle.stream_view.proofs.why.Met as stream-view-why
+use Rattle.stream_view.proofs.view_answer.Met as stream-view-view-answer
 use Rattle.word_attributes.proofs.FieldAttributes.access.Met as word-attributes-field-attributes-access
 use Rattle.word_attributes.proofs.FieldAttributes.is_intro_virtual.Met as word-attributes-field-attributes-is-intro-virtual
 use Rattle.word_attributes.proofs.FieldAttributes.is_pure_virtual.Met as word-attributes-field-attributes-is-pure-virtual
@@ -217,24 +215,18 @@ use Rattle.word_attributes.proofs.TypeProperties.sealed.Met as word-attributes-
 use Rattle.word_primitive.proofs.primitive.Met as word-primitive-primitive
 use Rattle.write_cells.proofs.write_id.Met as write-cells-write-id
 use Rattle.write_cells.proofs.write_type.Met as write-cells-write-type
-use Rattle.write_fit.proofs.gap.Met as write-fit-gap
-use Rattle.write_fit.proofs.half.Met as write-fit-half
-use Rattle.write_fit.proofs.natural.Met as write-fit-natural
-use Rattle.write_fit.proofs.text.Met as write-fit-text
-use Rattle.write_fit.proofs.types.Met as write-fit-types
-use Rattle.write_fit.proofs.word.Met as write-fit-word
 use Rattle.write_header.proofs.write_header.Met as write-header-write-header
-use Rattle.write_id.proofs.write_id.Met as write-id-write-id
+use Rattle.write_list.proofs.rows.of_member.Met as write-list-rows-of-member
+use Rattle.write_list.proofs.rows.of_method.Met as write-list-rows-of-method
 use Rattle.write_list.proofs.write_field_list.Met as write-list-write-field-list
 use Rattle.write_list.proofs.write_method_list.Met as write-list-write-method-list
-use Rattle.write_pieces.proofs.held_sum.Met as write-pieces-held-sum
+use Rattle.write_pieces.proofs.capped_sum.Met as write-pieces-capped-sum
+use Rattle.write_pieces.proofs.fields.natural.Met as write-pieces-fields-natural
+use Rattle.write_pieces.proofs.fields.two_bytes.Met as write-pieces-fields-two-bytes
+use Rattle.write_pieces.proofs.fields.unnamed.Met as write-pieces-fields-unnamed
 use Rattle.write_pieces.proofs.measured.Met as write-pieces-measured
 use Rattle.write_pieces.proofs.write_filled.Met as write-pieces-write-filled
 use Rattle.write_pieces.proofs.write_plain.Met as write-pieces-write-plain
-use Rattle.write_pieces.proofs.write_record.Met as write-pieces-write-record
-use Rattle.write_row.proofs.of_member.Met as write-row-of-member
-use Rattle.write_row.proofs.of_method.Met as write-row-of-method
-use Rattle.write_type.proofs.write_type.Met as write-type-write-type
 use Rattle.claim_demands.specs.Tied.{Tied}
 
 pub tied : Tied
@@ -242,8 +234,6 @@ tied = record {
   answer-refusal-number = record { says = λ M 𝓤 H A mem run. refl; meets = λ M. answer-refusal-number.met };
   answer-refusal-details = record { says = λ M 𝓤 H A mem run. refl; meets = λ M. answer-refusal-details.met };
   answer-name-name-of = record { says = λ M 𝓤 H A mem run. refl; meets = λ M. answer-name-name-of.met };
-  declare-kind-kind = record { says = λ M 𝓤 H A mem run. refl; meets = λ M. declare-kind-kind.met };
-  declare-kind-size = record { says = λ M 𝓤 H A mem run. refl; meets = λ M. declare-kind-size.met };
   declare-node-node-of = record { says = λ M 𝓤 H A mem run. refl; meets = λ M. declare-node-node-of.met };
   declare-node-list-of = record { says = λ M 𝓤 H A mem run. refl; meets = λ M. declare-node-list-of.met };
   declare-node-index-at = record { says = λ M 𝓤 H A mem run. refl; meets = λ M. declare-node-index-at.met };
@@ -252,10 +242,12 @@ tied = record {
   declare-step-start = record { says = λ M 𝓤 H A mem run. refl; meets = λ M. declare-step-start.met };
   declare-step-step-of = record { says = λ M 𝓤 H A mem run. refl; meets = λ M. declare-step-step-of.met };
   declare-type-declare = record { says = λ M 𝓤 H A mem run. refl; meets = λ M. declare-type-declare.met };
-  declare-walk-declarator = record { says = λ M 𝓤 H A mem run. refl; meets = λ M. declare-walk-declarator.met };
-  declare-word-by = record { says = λ M 𝓤 H A mem run. refl; meets = λ M. declare-word-by.met };
+  declare-walk-measure-declarator = record { says = λ M 𝓤 H A mem run. refl; meets = λ M. declare-walk-measure-declarator.met };
+  declare-word-indirection = record { says = λ M 𝓤 H A mem run. refl; meets = λ M. declare-word-indirection.met };
   declare-word-mode = record { says = λ M 𝓤 H A mem run. refl; meets = λ M. declare-word-mode.met };
   declare-word-qualifiers = record { says = λ M 𝓤 H A mem run. refl; meets = λ M. declare-word-qualifiers.met };
+  declare-word-kind-spelled = record { says = λ M 𝓤 H A mem run. refl; meets = λ M. declare-word-kind-spelled.met };
+  declare-word-kind-size = record { says = λ M 𝓤 H A mem run. refl; meets = λ M. declare-word-kind-size.met };
   field-fixed-u8-at = record { says = λ M 𝓤 H A mem run. refl; meets = λ M. field-fixed-u8-at.met };
   field-fixed-u16-at = record { says = λ M 𝓤 H A mem run. refl; meets = λ M. field-fixed-u16-at.met };
   field-fixed-u32-at = record { says = λ M 𝓤 H A mem run. refl; meets = λ M. field-fixed-u32-at.met };
@@ -363,7 +355,6 @@ tied = record {
   record-reader-list-reader-new = record { says = λ M 𝓤 H A mem run. refl; meets = λ M. record-reader-list-reader-new.met };
   record-reader-list-reader-element = record { says = λ M 𝓤 H A mem run. refl; meets = λ M. record-reader-list-reader-element.met };
   record-reader-list-reader-step = record { says = λ M 𝓤 H A mem run. refl; meets = λ M. record-reader-list-reader-step.met };
-  record-reader-step-of = record { says = λ M 𝓤 H A mem run. refl; meets = λ M. record-reader-step-of.met };
   record-reader-nth = record { says = λ M 𝓤 H A mem run. refl; meets = λ M. record-reader-nth.met };
   record-reference-record-references = record { says = λ M 𝓤 H A mem run. refl; meets = λ M. record-reference-record-references.met };
   record-reference-element-references = record { says = λ M 𝓤 H A mem run. refl; meets = λ M. record-reference-element-references.met };
@@ -386,11 +377,10 @@ tied = record {
   stream-finder-find-type = record { says = λ M 𝓤 H A mem run. refl; meets = λ M. stream-finder-find-type.met };
   stream-finder-find-id = record { says = λ M 𝓤 H A mem run. refl; meets = λ M. stream-finder-find-id.met };
   stream-finder-lent-item-finder-update = record { says = λ M 𝓤 H A mem run. refl; meets = λ M. stream-finder-lent-item-finder-update.met };
-  stream-finder-lent-update-local = record { says = λ M 𝓤 H A mem run. refl; meets = λ M. stream-finder-lent-update-local.met };
   stream-fit-fit = record { says = λ M 𝓤 H A mem run. refl; meets = λ M. stream-fit-fit.met };
   stream-header-header-parse = record { says = λ M 𝓤 H A mem run. refl; meets = λ M. stream-header-header-parse.met };
   stream-header-header-count = record { says = λ M 𝓤 H A mem run. refl; meets = λ M. stream-header-header-count.met };
-  stream-index-turn = record { says = λ M 𝓤 H A mem run. refl; meets = λ M. stream-index-turn.met };
+  stream-index-next-and-update = record { says = λ M 𝓤 H A mem run. refl; meets = λ M. stream-index-next-and-update.met };
   stream-index-index-on = record { says = λ M 𝓤 H A mem run. refl; meets = λ M. stream-index-index-on.met };
   stream-index-index-all = record { says = λ M 𝓤 H A mem run. refl; meets = λ M. stream-index-index-all.met };
   stream-index-index-all-by = record { says = λ M 𝓤 H A mem run. refl; meets = λ M. stream-index-index-all-by.met };
@@ -410,9 +400,9 @@ tied = record {
   stream-places-trailer-trailer-parse-wide = record { says = λ M 𝓤 H A mem run. refl; meets = λ M. stream-places-trailer-trailer-parse-wide.met };
   stream-report-new = record { says = λ M 𝓤 H A mem run. refl; meets = λ M. stream-report-new.met };
   stream-report-add = record { says = λ M 𝓤 H A mem run. refl; meets = λ M. stream-report-add.met };
+  stream-view-view-answer = record { says = λ M 𝓤 H A mem run. refl; meets = λ M. stream-view-view-answer.met };
   stream-view-bytes-of = record { says = λ M 𝓤 H A mem run. refl; meets = λ M. stream-view-bytes-of.met };
   stream-view-view = record { says = λ M 𝓤 H A mem run. refl; meets = λ M. stream-view-view.met };
-  stream-view-why = record { says = λ M 𝓤 H A mem run. refl; meets = λ M. stream-view-why.met };
   stream-view-raw-kind = record { says = λ M 𝓤 H A mem run. refl; meets = λ M. stream-view-raw-kind.met };
   word-attributes-type-properties-packed = record { says = λ M 𝓤 H A mem run. refl; meets = λ M. word-attributes-type-properties-packed.met };
   word-attributes-type-properties-constructors = record { says = λ M 𝓤 H A mem run. refl; meets = λ M. word-attributes-type-properties-constructors.met };
@@ -455,22 +445,16 @@ tied = record {
   word-primitive-primitive = record { says = λ M 𝓤 H A mem run. refl; meets = λ M. word-primitive-primitive.met };
   write-cells-write-type = record { says = λ M 𝓤 H A mem run. refl; meets = λ M. write-cells-write-type.met };
   write-cells-write-id = record { says = λ M 𝓤 H A mem run. refl; meets = λ M. write-cells-write-id.met };
-  write-fit-half = record { says = λ M 𝓤 H A mem run. refl; meets = λ M. write-fit-half.met };
-  write-fit-word = record { says = λ M 𝓤 H A mem run. refl; meets = λ M. write-fit-word.met };
-  write-fit-natural = record { says = λ M 𝓤 H A mem run. refl; meets = λ M. write-fit-natural.met };
-  write-fit-text = record { says = λ M 𝓤 H A mem run. refl; meets = λ M. write-fit-text.met };
-  write-fit-gap = record { says = λ M 𝓤 H A mem run. refl; meets = λ M. write-fit-gap.met };
-  write-fit-types = record { says = λ M 𝓤 H A mem run. refl; meets = λ M. write-fit-types.met };
   write-header-write-header = record { says = λ M 𝓤 H A mem run. refl; meets = λ M. write-header-write-header.met };
-  write-id-write-id = record { says = λ M 𝓤 H A mem run. refl; meets = λ M. write-id-write-id.met };
   write-list-write-field-list = record { says = λ M 𝓤 H A mem run. refl; meets = λ M. write-list-write-field-list.met };
   write-list-write-method-list = record { says = λ M 𝓤 H A mem run. refl; meets = λ M. write-list-write-method-list.met };
-  write-pieces-held-sum = record { says = λ M 𝓤 H A mem run. refl; meets = λ M. write-pieces-held-sum.met };
+  write-list-rows-of-member = record { says = λ M 𝓤 H A mem run. refl; meets = λ M. write-list-rows-of-member.met };
+  write-list-rows-of-method = record { says = λ M 𝓤 H A mem run. refl; meets = λ M. write-list-rows-of-method.met };
+  write-pieces-capped-sum = record { says = λ M 𝓤 H A mem run. refl; meets = λ M. write-pieces-capped-sum.met };
   write-pieces-measured = record { says = λ M 𝓤 H A mem run. refl; meets = λ M. write-pieces-measured.met };
   write-pieces-write-plain = record { says = λ M 𝓤 H A mem run. refl; meets = λ M. write-pieces-write-plain.met };
   write-pieces-write-filled = record { says = λ M 𝓤 H A mem run. refl; meets = λ M. write-pieces-write-filled.met };
-  write-pieces-write-record = record { says = λ M 𝓤 H A mem run. refl; meets = λ M. write-pieces-write-record.met };
-  write-row-of-member = record { says = λ M 𝓤 H A mem run. refl; meets = λ M. write-row-of-member.met };
-  write-row-of-method = record { says = λ M 𝓤 H A mem run. refl; meets = λ M. write-row-of-method.met };
-  write-type-write-type = record { says = λ M 𝓤 H A mem run. refl; meets = λ M. write-type-write-type.met };
+  write-pieces-fields-two-bytes = record { says = λ M 𝓤 H A mem run. refl; meets = λ M. write-pieces-fields-two-bytes.met };
+  write-pieces-fields-natural = record { says = λ M 𝓤 H A mem run. refl; meets = λ M. write-pieces-fields-natural.met };
+  write-pieces-fields-unnamed = record { says = λ M 𝓤 H A mem run. refl; meets = λ M. write-pieces-fields-unnamed.met };
 }

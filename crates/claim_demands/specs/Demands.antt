@@ -11,15 +11,15 @@ use Rattle.stream_finder.specs.Demand.{Demand3, Demand3Every, NotIndexed, NotIn
 use Rattle.stream_finder.specs.Shared.{Shared}
 use Rattle.record_reference.specs.Decoded.{HasExactly}
 use Rattle.stream_fit.specs.After.{AfterYes}
-use Rattle.stream_fit.specs.Sentences.{Sentences}
+use Rattle.stream_fit.specs.Sentences.{FitSentences}
 use Rattle.record_rewrite.specs.Kept.{Rewriting}
-use Rattle.stream_drop.specs.Sentences.{Sentences as DropSentences}
-use Rattle.stream_places.specs.File.{Form}
+use Rattle.stream_drop.specs.Sentences.{DropSentences}
+use Rattle.stream_places.specs.File.{FileForm}
 use Rattle.stream_places.specs.Kept.{LoadServes, WideServes, RoundTrip, WideTrip, OneEncoding, OneEncodingWide, LoadersAgree}
 use Rattle.stream_report.specs.Sums.{AddsUp, Exactly, MadeSums}
 use Rattle.write_layout.specs.RoundTrip.{FieldsReadBack, RecordReadsBack, Exactly17}
 use Rattle.write_layout.specs.Types.{TypesWritten}
-use Rattle.write_row.specs.Rows.{RowsShow}
+use Rattle.write_list.specs.Rows.{RowsShow}
 use Rattle.write_list.specs.ListsBack.{ListsReadBack, ListsExactly17}
 use Rattle.write_header.specs.Headers.{HeaderReadsBack}
 use Rattle.write_header.specs.Streams.{StreamWalks}
@@ -29,11 +29,11 @@ use Rattle.section_finder.specs.Demand.{OfSections}
 use Rattle.section_read.specs.Readers.{EachTaken}
 use Rattle.section_stream.specs.Made.{StreamMade}
 use Rattle.pane.specs.Tally.{Tally}
-use Rattle.pane.specs.Same.{Same}
+use Rattle.pane.specs.Same.{SameForC}
 use Rattle.pane_row.specs.Back.{RowsTell}
 use Rattle.pane_row.specs.Stand.{SlotsStand}
 use Rattle.pane_state.specs.Walk.{SameWalk}
-use Rattle.pane_word.specs.Words.{Named}
+use Rattle.pane_word.specs.Words.{KindsNamed}
 use Rattle.record_cells.specs.Filled.{CellsTell}
 use Rattle.claim_promises.specs.Border.{Border}
 use Rattle.claim_promises.specs.Demand1.{Demand1}
@@ -105,7 +105,7 @@ pub record Demands : Type 2 where
   -- document 02, R-9: a stream is fit exactly when every sentence holds, and the no names the lowest faulty record and the first rule that it breaks:
   -- crates/stream_fit/specs/Sentences.antt. After a yes a filled finder finds every record, and all of it reads: After.antt. A payload has its references
   -- exactly if the record and every element decode: crates/record_reference/specs/Decoded.antt
-  pub fitness : Sentences
+  pub fitness : FitSentences
   pub after-fitness : AfterYes
   pub references : HasExactly
   -- document 02, R-13, sentence by sentence: "exactly the records reached from the roots through type references, in their old order, renumbered from the
@@ -125,7 +125,7 @@ pub record Demands : Type 2 where
   pub wide-one-file : OneEncodingWide
   pub loaders : LoadersAgree
   -- and when each of their numbers is given, and no other, of either form: PlacesWhen.antt
-  pub given-places : (form : Form) → PlacesWhen form
+  pub given-places : (form : FileForm) → PlacesWhen form
   -- document 02, R-12: "header bytes, two per record, and payload bytes add up to the stream's length"; 27 and 28 exactly when; "the report's totals are
   -- those of the streams it counted", and its entries too: crates/stream_report/specs/Sums.antt
   pub adds-up : AddsUp
@@ -133,7 +133,7 @@ pub record Demands : Type 2 where
   pub reports-sum : MadeSums
   -- document 02, R-1: "Reading back gives the fields, and writing those the same bytes", of every layout and of a record of every table; 17 exactly
   -- where no bytes read back: crates/write_layout/specs/RoundTrip.antt. Of the elements of the two lists, which are given as rows, with where the members
-  -- stand: crates/write_list/specs/ListsBack.antt, crates/write_row/specs/Rows.antt. Of a header, and of a stream of a written header and written records:
+  -- stand: crates/write_list/specs/ListsBack.antt, Rows.antt beside it. Of a header, and of a stream of a written header and written records:
   -- crates/write_header/specs/Headers.antt, Streams.antt; of such a stream made in one buffer, OneBuffer.antt
   pub fields-read-back : FieldsReadBack
   pub records-read-back : RecordReadsBack
@@ -161,7 +161,7 @@ pub record Demands : Type 2 where
   -- finder Paged.antt; and that the five functions for C are enough: crates/pane/specs/Same.antt
   pub paged : Tally
   pub sections-paged : SectionTally
-  pub five : Same
+  pub five : SameForC
   -- what C gets of every other export, by the definition that the plain function's contract cites: crates/claim_promises/specs/Border.antt. A row gives the
   -- values of the record or element that it was made of back, and so do a record's cells; a row's places stand as the layouts do; where a walk is said to end,
   -- it ends; and the numbers of a pointer's kind and mode name them: crates/pane_row/specs/Back.antt, Stand.antt, crates/record_cells/specs/Filled.antt,
@@ -171,7 +171,7 @@ pub record Demands : Type 2 where
   pub rows-stand : SlotsStand
   pub cells-tell : CellsTell
   pub same-walk : SameWalk
-  pub words-named : Named
+  pub words-named : KindsNamed
   -- document 02, R-6: "Demand 3 holds of the section with 4 for header_size, 4096 for the minimum and 4096 plus the records for the maximum":
   -- crates/section_finder/specs/Demand.antt, by the theorems of any run, crates/stream_finder/specs/Runs.antt; the records are those of a whole walk:
   -- crates/section_item/specs/Sections.antt

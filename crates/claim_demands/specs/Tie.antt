@@ -10,7 +10,7 @@ use ghost.Atoms.{Atoms}
 use contract.Monad.{Fun}
 use contract.Lifetimes.{Lfts}
 use contract.Running.{GhostRules, Running}
-use contract.Notation.{connectives, Connectives}
+use contract.Notation.{connectives}
 use denote.Triple.Entry.{Args, Res}
 use denote.Triple.Clauses.{Ended, AtExit, Clauses, closing}
 use denote.Triple.Spec.{Meets}

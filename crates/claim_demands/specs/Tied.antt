@@ -7,10 +7,6 @@ use Rattle.answer.proofs.Refusal.number as answer-refusal-number-source
 use Rattle.answer.proofs.Refusal.number.Symbol as answer-refusal-number-code
 use Rattle.answer_name.proofs.name_of as answer-name-name-of-source
 use Rattle.answer_name.proofs.name_of.Symbol as answer-name-name-of-code
-use Rattle.declare_kind.proofs.kind as declare-kind-kind-source
-use Rattle.declare_kind.proofs.kind.Symbol as declare-kind-kind-code
-use Rattle.declare_kind.proofs.size as declare-kind-size-source
-use Rattle.declare_kind.proofs.size.Symbol as declare-kind-size-code
 use Rattle.declare_node.proofs.index_at as declare-node-index-at-source
 use Rattle.declare_node.proofs.index_at.Symbol as declare-node-index-at-code
 use Rattle.declare_node.proofs.list_of as declare-node-list-of-source
@@ -27,10 +23,14 @@ use Rattle.declare_step.proofs.step_of as declare-step-step-of-source
 use Rattle.declare_step.proofs.step_of.Symbol as declare-step-step-of-code
 use Rattle.declare_type.proofs.declare as declare-type-declare-source
 use Rattle.declare_type.proofs.declare.Symbol as declare-type-declare-code
-use Rattle.declare_walk.proofs.declarator as declare-walk-declarator-source
-use Rattle.declare_walk.proofs.declarator.Symbol as declare-walk-declarator-code
-use Rattle.declare_word.proofs.by as declare-word-by-source
-use Rattle.declare_word.proofs.by.Symbol as declare-word-by-code
+use Rattle.declare_walk.proofs.measure_declarator as declare-walk-measure-declarator-source
+use Rattle.declare_walk.proofs.measure_declarator.Symbol as declare-walk-measure-declarator-code
+use Rattle.declare_word.proofs.indirection as declare-word-indirection-source
+use Rattle.declare_word.proofs.indirection.Symbol as declare-word-indirection-code
+use Rattle.declare_word.proofs.kind.size as declare-word-kind-size-source
+use Rattle.declare_word.proofs.kind.size.Symbol as declare-word-kind-size-code
+use Rattle.declare_word.proofs.kind.spelled as declare-word-kind-spelled-source
+use Rattle.declare_word.proofs.kind.spelled.Symbol as declare-word-kind-spelled-code
 use Rattle.declare_word.proofs.mode as declare-word-mode-source
 use Rattle.declare_word.proofs.mode.Symbol as declare-word-mode-code
 use Rattle.declare_word.proofs.qualifiers as declare-word-qualifiers-source
@@ -251,8 +251,6 @@ use Rattle.record_reader.proofs.ListReader.step as record-reader-list-reader-st
 use Rattle.record_reader.proofs.ListReader.step.Symbol as record-reader-list-reader-step-code
 use Rattle.record_reader.proofs.nth as record-reader-nth-source
 use Rattle.record_reader.proofs.nth.Symbol as record-reader-nth-code
-use Rattle.record_reader.proofs.step_of as record-reader-step-of-source
-use Rattle.record_reader.proofs.step_of.Symbol as record-reader-step-of-code
 use Rattle.record_reference.proofs.element_references as record-reference-element-references-source
 use Rattle.record_reference.proofs.element_references.Symbol as record-reference-element-references-code
 use Rattle.record_reference.proofs.record_references as record-reference-record-references-source
@@ -293,8 +291,6 @@ use Rattle.stream_finder.proofs.find_id as stream-finder-find-id-source
 use Rattle.stream_finder.proofs.find_id.Symbol as stream-finder-find-id-code
 use Rattle.stream_finder.proofs.find_type as stream-finder-find-type-source
 use Rattle.stream_finder.proofs.find_type.Symbol as stream-finder-find-type-code
-use Rattle.stream_finder.proofs.lent.update_local as stream-finder-lent-update-local-source
-use Rattle.stream_finder.proofs.lent.update_local.Symbol as stream-finder-lent-update-local-code
 use Rattle.stream_finder.proofs.update as stream-finder-update-source
 use Rattle.stream_finder.proofs.update.Symbol as stream-finder-update-code
 use Rattle.stream_fit.proofs.fit as stream-fit-fit-source
@@ -309,8 +305,8 @@ use Rattle.stream_index.proofs.index_all_by as stream-index-index-all-by-source
 use Rattle.stream_index.proofs.index_all_by.Symbol as stream-index-index-all-by-code
 use Rattle.stream_index.proofs.index_on as stream-index-index-on-source
 use Rattle.stream_index.proofs.index_on.Symbol as stream-index-index-on-code
-use Rattle.stream_index.proofs.turn as stream-index-turn-source
-use Rattle.stream_index.proofs.turn.Symbol as stream-index-turn-code
+use Rattle.stream_index.proofs.next_and_update as stream-index-next-and-update-source
+use Rattle.stream_index.proofs.next_and_update.Symbol as stream-index-next-and-update-code
 use Rattle.stream_item.proofs.Entry.index as stream-item-entry-index-source
 use Rattle.stream_item.proofs.Entry.index.Symbol as stream-item-entry-index-code
 use Rattle.stream_item.proofs.Entry.is_empty as stream-item-entry-is-empty-source
@@ -349,8 +345,8 @@ use Rattle.stream_view.proofs.raw_kind as stream-view-raw-kind-source
 use Rattle.stream_view.proofs.raw_kind.Symbol as stream-view-raw-kind-code
 use Rattle.stream_view.proofs.view as stream-view-view-source
 use Rattle.stream_view.proofs.view.Symbol as stream-view-view-code
-use Rattle.stream_view.proofs.why as stream-view-why-source
-use Rattle.stream_view.proofs.why.Symbol as stream-view-why-code
+use Rattle.stream_view.proofs.view_answer as stream-view-view-answer-source
+use Rattle.stream_view.proofs.view_answer.Symbol as stream-view-view-answer-code
 use Rattle.word_attributes.proofs.FieldAttributes.access as word-attributes-field-attributes-access-source
 use Rattle.word_attributes.proofs.FieldAttributes.access.Symbol as word-attributes-field-attributes-access-code
 use Rattle.word_attributes.proofs.FieldAttributes.is_intro_virtual as word-attributes-field-attributes-is-intro-virtual-source
@@ -433,42 +429,30 @@ use Rattle.write_cells.proofs.write_id as write-cells-write-id-source
 use Rattle.write_cells.proofs.write_id.Symbol as write-cells-write-id-code
 use Rattle.write_cells.proofs.write_type as write-cells-write-type-source
 use Rattle.write_cells.proofs.write_type.Symbol as write-cells-write-type-code
-use Rattle.write_fit.proofs.gap as write-fit-gap-source
-use Rattle.write_fit.proofs.gap.Symbol as write-fit-gap-code
-use Rattle.write_fit.proofs.half as write-fit-half-source
-use Rattle.write_fit.proofs.half.Symbol as write-fit-half-code
-use Rattle.write_fit.proofs.natural as write-fit-natural-source
-use Rattle.write_fit.proofs.natural.Symbol as write-fit-natural-code
-use Rattle.write_fit.proofs.text as write-fit-text-source
-use Rattle.write_fit.proofs.text.Symbol as write-fit-text-code
-use Rattle.write_fit.proofs.types as write-fit-types-source
-use Rattle.write_fit.proofs.types.Symbol as write-fit-types-code
-use Rattle.write_fit.proofs.word as write-fit-word-source
-use Rattle.write_fit.proofs.word.Symbol as write-fit-word-code
 use Rattle.write_header.proofs.write_header as write-header-write-header-source
 use Rattle.write_header.proofs.write_header.Symbol as write-header-write-header-code
-use Rattle.write_id.proofs.write_id as write-id-write-id-source
-use Rattle.write_id.proofs.write_id.Symbol as write-id-write-id-code
+use Rattle.write_list.proofs.rows.of_member as write-list-rows-of-member-source
+use Rattle.write_list.proofs.rows.of_member.Symbol as write-list-rows-of-member-code
+use Rattle.write_list.proofs.rows.of_method as write-list-rows-of-method-source
+use Rattle.write_list.proofs.rows.of_method.Symbol as write-list-rows-of-method-code
 use Rattle.write_list.proofs.write_field_list as write-list-write-field-list-source
 use Rattle.write_list.proofs.write_field_list.Symbol as write-list-write-field-list-code
 use Rattle.write_list.proofs.write_method_list as write-list-write-method-list-source
 use Rattle.write_list.proofs.write_method_list.Symbol as write-list-write-method-list-code
-use Rattle.write_pieces.proofs.held_sum as write-pieces-held-sum-source
-use Rattle.write_pieces.proofs.held_sum.Symbol as write-pieces-held-sum-code
+use Rattle.write_pieces.proofs.capped_sum as write-pieces-capped-sum-source
+use Rattle.write_pieces.proofs.capped_sum.Symbol as write-pieces-capped-sum-code
+use Rattle.write_pieces.proofs.fields.natural as write-pieces-fields-natural-source
+use Rattle.write_pieces.proofs.fields.natural.Symbol as write-pieces-fields-natural-code
+use Rattle.write_pieces.proofs.fields.two_bytes as write-pieces-fields-two-bytes-source
+use Rattle.write_pieces.proofs.fields.two_bytes.Symbol as write-pieces-fields-two-bytes-code
+use Rattle.write_pieces.proofs.fields.unnamed as write-pieces-fields-unnamed-source
+use Rattle.write_pieces.proofs.fields.unnamed.Symbol as write-pieces-fields-unnamed-code
 use Rattle.write_pieces.proofs.measured as write-pieces-measured-source
 use Rattle.write_pieces.proofs.measured.Symbol as write-pieces-measured-code
 use Rattle.write_pieces.proofs.write_filled as write-pieces-write-filled-source
 use Rattle.write_pieces.proofs.write_filled.Symbol as write-pieces-write-filled-code
 use Rattle.write_pieces.proofs.write_plain as write-pieces-write-plain-source
 use Rattle.write_pieces.proofs.write_plain.Symbol as write-pieces-write-plain-code
-use Rattle.write_pieces.proofs.write_record as write-pieces-write-record-source
-use Rattle.write_pieces.proofs.write_record.Symbol as write-pieces-write-record-code
-use Rattle.write_row.proofs.of_member as write-row-of-member-source
-use Rattle.write_row.proofs.of_member.Symbol as write-row-of-member-code
-use Rattle.write_row.proofs.of_method as write-row-of-method-source
-use Rattle.write_row.proofs.of_method.Symbol as write-row-of-method-code
-use Rattle.write_type.proofs.write_type as write-type-write-type-source
-use Rattle.write_type.proofs.write_type.Symbol as write-type-write-type-code
 use Rattle.claim_demands.specs.Tie.{Tie}
 use Rattle.claim_promises.specs.Contracts as contract
 
@@ -479,10 +463,6 @@ pub record Tied : Type 2 where
   pub answer-refusal-details : Tie answer-refusal-details-source.ended (λ M. answer-refusal-details-source.clauses) answer-refusal-details-code.routine (λ κs a r e. contract.answer-refusal-details (a .0) r)
   -- answer_name::name_of
   pub answer-name-name-of : Tie answer-name-name-of-source.ended (λ M. answer-name-name-of-source.clauses) answer-name-name-of-code.routine (λ κs a r e. contract.answer-name-name-of (a .0) r)
-  -- declare_kind::kind
-  pub declare-kind-kind : Tie declare-kind-kind-source.ended (λ M. declare-kind-kind-source.clauses) declare-kind-kind-code.routine (λ κs a r e. contract.declare-kind-kind (a .0) r)
-  -- declare_kind::size
-  pub declare-kind-size : Tie declare-kind-size-source.ended (λ M. declare-kind-size-source.clauses) declare-kind-size-code.routine (λ κs a r e. contract.declare-kind-size (a .0) (a .1 .0) r)
   -- declare_node::node_of
   pub declare-node-node-of : Tie declare-node-node-of-source.ended (λ M. declare-node-node-of-source.clauses) declare-node-node-of-code.routine (λ κs a r e. contract.declare-node-node-of (now (a .0)) (a .1 .0) (now (a .1 .1 .0)) (a .1 .1 .1 .0) r)
   -- declare_node::list_of
@@ -499,14 +479,18 @@ pub record Tied : Type 2 where
   pub declare-step-step-of : Tie declare-step-step-of-source.ended (λ M. declare-step-step-of-source.clauses) declare-step-step-of-code.routine (λ κs a r e. contract.declare-step-step-of (now (a .0)) (a .1 .0) (now (a .1 .1 .0)) (a .1 .1 .1 .0) (a .1 .1 .1 .1 .0) r)
   -- declare_type::declare
   pub declare-type-declare : Tie declare-type-declare-source.ended (λ M. declare-type-declare-source.clauses) declare-type-declare-code.routine (λ κs a r e. contract.declare-type-declare (now (a .0)) (a .1 .0) (now (a .1 .1 .0)) (a .1 .1 .1 .0) (now (a .1 .1 .1 .1 .0)) r (now (e .1 .1 .1 .1 .0)))
-  -- declare_walk::declarator
-  pub declare-walk-declarator : Tie declare-walk-declarator-source.ended (λ M. declare-walk-declarator-source.clauses) declare-walk-declarator-code.routine (λ κs a r e. contract.declare-walk-declarator (now (a .0)) (a .1 .0) (now (a .1 .1 .0)) (a .1 .1 .1 .0) (a .1 .1 .1 .1 .0) (a .1 .1 .1 .1 .1 .0) (a .1 .1 .1 .1 .1 .1 .0) r)
-  -- declare_word::by
-  pub declare-word-by : Tie declare-word-by-source.ended (λ M. declare-word-by-source.clauses) declare-word-by-code.routine (λ κs a r e. contract.declare-word-by (a .0) r)
+  -- declare_walk::measure_declarator
+  pub declare-walk-measure-declarator : Tie declare-walk-measure-declarator-source.ended (λ M. declare-walk-measure-declarator-source.clauses) declare-walk-measure-declarator-code.routine (λ κs a r e. contract.declare-walk-measure-declarator (now (a .0)) (a .1 .0) (now (a .1 .1 .0)) (a .1 .1 .1 .0) (a .1 .1 .1 .1 .0) (a .1 .1 .1 .1 .1 .0) (a .1 .1 .1 .1 .1 .1 .0) r)
+  -- declare_word::indirection
+  pub declare-word-indirection : Tie declare-word-indirection-source.ended (λ M. declare-word-indirection-source.clauses) declare-word-indirection-code.routine (λ κs a r e. contract.declare-word-indirection (a .0) r)
   -- declare_word::mode
   pub declare-word-mode : Tie declare-word-mode-source.ended (λ M. declare-word-mode-source.clauses) declare-word-mode-code.routine (λ κs a r e. contract.declare-word-mode (a .0) r)
   -- declare_word::qualifiers
   pub declare-word-qualifiers : Tie declare-word-qualifiers-source.ended (λ M. declare-word-qualifiers-source.clauses) declare-word-qualifiers-code.routine (λ κs a r e. contract.declare-word-qualifiers (a .0) r)
+  -- declare_word::kind::spelled
+  pub declare-word-kind-spelled : Tie declare-word-kind-spelled-source.ended (λ M. declare-word-kind-spelled-source.clauses) declare-word-kind-spelled-code.routine (λ κs a r e. contract.declare-word-kind-spelled (a .0) r)
+  -- declare_word::kind::size
+  pub declare-word-kind-size : Tie declare-word-kind-size-source.ended (λ M. declare-word-kind-size-source.clauses) declare-word-kind-size-code.routine (λ κs a r e. contract.declare-word-kind-size (a .0) (a .1 .0) r)
   -- field::fixed::u8_at
   pub field-fixed-u8-at : Tie field-fixed-u8-at-source.ended (λ M. field-fixed-u8-at-source.clauses) field-fixed-u8-at-code.routine (λ κs a r e. contract.field-fixed-u8-at (now (a .0)) (a .1 .0) r)
   -- field::fixed::u16_at
@@ -721,8 +705,6 @@ pub record Tied : Type 2 where
   pub record-reader-list-reader-element : Tie record-reader-list-reader-element-source.ended (λ M. record-reader-list-reader-element-source.clauses) record-reader-list-reader-element-code.routine (λ κs a r e. contract.record-reader-list-reader-element (a .0) (a .1 .0) r)
   -- record_reader::ListReader::step
   pub record-reader-list-reader-step : Tie record-reader-list-reader-step-source.ended (λ M. record-reader-list-reader-step-source.clauses) record-reader-list-reader-step-code.routine (λ κs a r e. contract.record-reader-list-reader-step (now (a .0)) r (now (e .0)))
-  -- record_reader::step_of
-  pub record-reader-step-of : Tie record-reader-step-of-source.ended (λ M. record-reader-step-of-source.clauses) record-reader-step-of-code.routine (λ κs a r e. contract.record-reader-step-of (now (a .0)) (a .1 .0) r)
   -- record_reader::nth
   pub record-reader-nth : Tie record-reader-nth-source.ended (λ M. record-reader-nth-source.clauses) record-reader-nth-code.routine (λ κs a r e. contract.record-reader-nth (a .0) (now (a .1 .0)) (a .1 .1 .0) r)
   -- record_reference::record_references
@@ -767,16 +749,14 @@ pub record Tied : Type 2 where
   pub stream-finder-find-id : Tie stream-finder-find-id-source.ended (λ M. stream-finder-find-id-source.clauses) stream-finder-find-id-code.routine (λ κs a r e. contract.stream-finder-find-id (now (a .0)) (a .1 .0) (now (a .1 .1 .0)) (a .1 .1 .1 .0) r)
   -- stream_finder::lent::ItemFinder::update
   pub stream-finder-lent-item-finder-update : Tie stream-finder-lent-item-finder-update-source.ended (λ M. stream-finder-lent-item-finder-update-source.clauses) stream-finder-lent-item-finder-update-code.routine (λ κs a r e. contract.stream-finder-lent-item-finder-update (now (a .0)) (now (a .1 .0)) (a .1 .1 .0) r (now (e .0)) (now (e .1 .0)))
-  -- stream_finder::lent::update_local
-  pub stream-finder-lent-update-local : Tie stream-finder-lent-update-local-source.ended (λ M. stream-finder-lent-update-local-source.clauses) stream-finder-lent-update-local-code.routine (λ κs a r e. contract.stream-finder-lent-update-local (a .0) (now (a .1 .0)) (a .1 .1 .0) r (now (e .1 .0)))
   -- stream_fit::fit
   pub stream-fit-fit : Tie stream-fit-fit-source.ended (λ M. stream-fit-fit-source.clauses) stream-fit-fit-code.routine (λ κs a r e. contract.stream-fit-fit (now (a .0)) r)
   -- stream_header::Header::parse
   pub stream-header-header-parse : Tie stream-header-header-parse-source.ended (λ M. stream-header-header-parse-source.clauses) stream-header-header-parse-code.routine (λ κs a r e. contract.stream-header-header-parse (now (a .0)) r)
   -- stream_header::Header::count
   pub stream-header-header-count : Tie stream-header-header-count-source.ended (λ M. stream-header-header-count-source.clauses) stream-header-header-count-code.routine (λ κs a r e. contract.stream-header-header-count (a .0) r)
-  -- stream_index::turn
-  pub stream-index-turn : Tie stream-index-turn-source.ended (λ M. stream-index-turn-source.clauses) stream-index-turn-code.routine (λ κs a r e. contract.stream-index-turn (now (a .0)) (a .1 .0) (now (a .1 .1 .0)) (a .1 .1 .1 .0) r (now (e .1 .1 .0)))
+  -- stream_index::next_and_update
+  pub stream-index-next-and-update : Tie stream-index-next-and-update-source.ended (λ M. stream-index-next-and-update-source.clauses) stream-index-next-and-update-code.routine (λ κs a r e. contract.stream-index-next-and-update (now (a .0)) (a .1 .0) (now (a .1 .1 .0)) (a .1 .1 .1 .0) r (now (e .1 .1 .0)))
   -- stream_index::index_on
   pub stream-index-index-on : Tie stream-index-index-on-source.ended (λ M. stream-index-index-on-source.clauses) stream-index-index-on-code.routine (λ κs a r e. contract.stream-index-index-on (now (a .0)) (a .1 .0) (now (a .1 .1 .0)) (a .1 .1 .1 .0) r (now (e .1 .1 .0)))
   -- stream_index::index_all
@@ -815,12 +795,12 @@ pub record Tied : Type 2 where
   pub stream-report-new : Tie stream-report-new-source.ended (λ M. stream-report-new-source.clauses) stream-report-new-code.routine (λ κs a r e. contract.stream-report-new r)
   -- stream_report::add
   pub stream-report-add : Tie stream-report-add-source.ended (λ M. stream-report-add-source.clauses) stream-report-add-code.routine (λ κs a r e. contract.stream-report-add (a .0) (now (a .1 .0)) (now (a .1 .1 .0)) r (now (e .1 .0)))
+  -- stream_view::view_answer
+  pub stream-view-view-answer : Tie stream-view-view-answer-source.ended (λ M. stream-view-view-answer-source.clauses) stream-view-view-answer-code.routine (λ κs a r e. contract.stream-view-view-answer (now (a .0)) (now (a .1 .0)) (a .1 .1 .0) r)
   -- stream_view::bytes_of
   pub stream-view-bytes-of : Tie stream-view-bytes-of-source.ended (λ M. stream-view-bytes-of-source.clauses) stream-view-bytes-of-code.routine (λ κs a r e. contract.stream-view-bytes-of (now (a .0)) (now (a .1 .0)) (a .1 .1 .0) (now r))
   -- stream_view::view
   pub stream-view-view : Tie stream-view-view-source.ended (λ M. stream-view-view-source.clauses) stream-view-view-code.routine (λ κs a r e. contract.stream-view-view (now (a .0)) (now (a .1 .0)) (a .1 .1 .0) r)
-  -- stream_view::why
-  pub stream-view-why : Tie stream-view-why-source.ended (λ M. stream-view-why-source.clauses) stream-view-why-code.routine (λ κs a r e. contract.stream-view-why (now (a .0)) (now (a .1 .0)) (a .1 .1 .0) r)
   -- stream_view::raw_kind
   pub stream-view-raw-kind : Tie stream-view-raw-kind-source.ended (λ M. stream-view-raw-kind-source.clauses) stream-view-raw-kind-code.routine (λ κs a r e. contract.stream-view-raw-kind (now (a .0)) (now (a .1 .0)) (a .1 .1 .0) r)
   -- word_attributes::TypeProperties::packed
@@ -905,39 +885,27 @@ pub record Tied : Type 2 where
   pub write-cells-write-type : Tie write-cells-write-type-source.ended (λ M. write-cells-write-type-source.clauses) write-cells-write-type-code.routine (λ κs a r e. contract.write-cells-write-type (now (a .0)) (a .1 .0) (a .1 .1 .0) (now (a .1 .1 .1 .0)) (a .1 .1 .1 .1 .0) r (now (e .1 .1 .1 .0)))
   -- write_cells::write_id
   pub write-cells-write-id : Tie write-cells-write-id-source.ended (λ M. write-cells-write-id-source.clauses) write-cells-write-id-code.routine (λ κs a r e. contract.write-cells-write-id (now (a .0)) (a .1 .0) (a .1 .1 .0) (now (a .1 .1 .1 .0)) (a .1 .1 .1 .1 .0) r (now (e .1 .1 .1 .0)))
-  -- write_fit::half
-  pub write-fit-half : Tie write-fit-half-source.ended (λ M. write-fit-half-source.clauses) write-fit-half-code.routine (λ κs a r e. contract.write-fit-half (a .0) r)
-  -- write_fit::word
-  pub write-fit-word : Tie write-fit-word-source.ended (λ M. write-fit-word-source.clauses) write-fit-word-code.routine (λ κs a r e. contract.write-fit-word (a .0) r)
-  -- write_fit::natural
-  pub write-fit-natural : Tie write-fit-natural-source.ended (λ M. write-fit-natural-source.clauses) write-fit-natural-code.routine (λ κs a r e. contract.write-fit-natural (a .0) r)
-  -- write_fit::text
-  pub write-fit-text : Tie write-fit-text-source.ended (λ M. write-fit-text-source.clauses) write-fit-text-code.routine (λ κs a r e. contract.write-fit-text (a .0) r)
-  -- write_fit::gap
-  pub write-fit-gap : Tie write-fit-gap-source.ended (λ M. write-fit-gap-source.clauses) write-fit-gap-code.routine (λ κs a r e. contract.write-fit-gap r)
-  -- write_fit::types
-  pub write-fit-types : Tie write-fit-types-source.ended (λ M. write-fit-types-source.clauses) write-fit-types-code.routine (λ κs a r e. contract.write-fit-types (a .0) (a .1 .0) r)
   -- write_header::write_header
   pub write-header-write-header : Tie write-header-write-header-source.ended (λ M. write-header-write-header-source.clauses) write-header-write-header-code.routine (λ κs a r e. contract.write-header-write-header (a .0) (now (a .1 .0)) (a .1 .1 .0) r (now (e .1 .0)))
-  -- write_id::write_id
-  pub write-id-write-id : Tie write-id-write-id-source.ended (λ M. write-id-write-id-source.clauses) write-id-write-id-code.routine (λ κs a r e. contract.write-id-write-id (now (a .0)) (a .1 .0) (now (a .1 .1 .0)) (a .1 .1 .1 .0) r (now (e .1 .1 .0)))
   -- write_list::write_field_list
   pub write-list-write-field-list : Tie write-list-write-field-list-source.ended (λ M. write-list-write-field-list-source.clauses) write-list-write-field-list-code.routine (λ κs a r e. contract.write-list-write-field-list (now (a .0)) (now (a .1 .0)) (now (a .1 .1 .0)) (a .1 .1 .1 .0) r (now (e .1 .1 .0)))
   -- write_list::write_method_list
   pub write-list-write-method-list : Tie write-list-write-method-list-source.ended (λ M. write-list-write-method-list-source.clauses) write-list-write-method-list-code.routine (λ κs a r e. contract.write-list-write-method-list (now (a .0)) (now (a .1 .0)) (now (a .1 .1 .0)) (a .1 .1 .1 .0) r (now (e .1 .1 .0)))
-  -- write_pieces::held_sum
-  pub write-pieces-held-sum : Tie write-pieces-held-sum-source.ended (λ M. write-pieces-held-sum-source.clauses) write-pieces-held-sum-code.routine (λ κs a r e. contract.write-pieces-held-sum (a .0) (a .1 .0) r)
+  -- write_list::rows::of_member
+  pub write-list-rows-of-member : Tie write-list-rows-of-member-source.ended (λ M. write-list-rows-of-member-source.clauses) write-list-rows-of-member-code.routine (λ κs a r e. contract.write-list-rows-of-member (a .0) r)
+  -- write_list::rows::of_method
+  pub write-list-rows-of-method : Tie write-list-rows-of-method-source.ended (λ M. write-list-rows-of-method-source.clauses) write-list-rows-of-method-code.routine (λ κs a r e. contract.write-list-rows-of-method (a .0) r)
+  -- write_pieces::capped_sum
+  pub write-pieces-capped-sum : Tie write-pieces-capped-sum-source.ended (λ M. write-pieces-capped-sum-source.clauses) write-pieces-capped-sum-code.routine (λ κs a r e. contract.write-pieces-capped-sum (a .0) (a .1 .0) r)
   -- write_pieces::measured
   pub write-pieces-measured : Tie write-pieces-measured-source.ended (λ M. write-pieces-measured-source.clauses) write-pieces-measured-code.routine (λ κs a r e. contract.write-pieces-measured (now (a .0)) (a .1 .0) r)
   -- write_pieces::write_plain
   pub write-pieces-write-plain : Tie write-pieces-write-plain-source.ended (λ M. write-pieces-write-plain-source.clauses) write-pieces-write-plain-code.routine (λ κs a r e. contract.write-pieces-write-plain (now (a .0)) (a .1 .0) (now (a .1 .1 .0)) (a .1 .1 .1 .0) r (now (e .1 .1 .0)))
   -- write_pieces::write_filled
   pub write-pieces-write-filled : Tie write-pieces-write-filled-source.ended (λ M. write-pieces-write-filled-source.clauses) write-pieces-write-filled-code.routine (λ κs a r e. contract.write-pieces-write-filled (now (a .0)) (a .1 .0) (now (a .1 .1 .0)) (a .1 .1 .1 .0) r (now (e .1 .1 .0)))
-  -- write_pieces::write_record
-  pub write-pieces-write-record : Tie write-pieces-write-record-source.ended (λ M. write-pieces-write-record-source.clauses) write-pieces-write-record-code.routine (λ κs a r e. contract.write-pieces-write-record (now (a .0)) (a .1 .0) (now (a .1 .1 .0)) (a .1 .1 .1 .0) r (now (e .1 .1 .0)))
-  -- write_row::of_member
-  pub write-row-of-member : Tie write-row-of-member-source.ended (λ M. write-row-of-member-source.clauses) write-row-of-member-code.routine (λ κs a r e. contract.write-row-of-member (a .0) r)
-  -- write_row::of_method
-  pub write-row-of-method : Tie write-row-of-method-source.ended (λ M. write-row-of-method-source.clauses) write-row-of-method-code.routine (λ κs a r e. contract.write-row-of-method (a .0) r)
-  -- write_type::write_type
-  pub write-type-write-type : Tie write-type-write-type-source.ended (λ M. write-type-write-type-source.clauses) write-type-write-type-code.routine (λ κs a r e. contract.write-type-write-type (now (a .0)) (a .1 .0) (now (a .1 .1 .0)) (a .1 .1 .1 .0) r (now (e .1 .1 .0)))
+  -- write_pieces::fields::two_bytes
+  pub write-pieces-fields-two-bytes : Tie write-pieces-fields-two-bytes-source.ended (λ M. write-pieces-fields-two-bytes-source.clauses) write-pieces-fields-two-bytes-code.routine (λ κs a r e. contract.write-pieces-fields-two-bytes (a .0) r)
+  -- write_pieces::fields::natural
+  pub write-pieces-fields-natural : Tie write-pieces-fields-natural-source.ended (λ M. write-pieces-fields-natural-source.clauses) write-pieces-fields-natural-code.routine (λ κs a r e. contract.write-pieces-fields-natural (a .0) r)
+  -- write_pieces::fields::unnamed
+  pub write-pieces-fields-unnamed : Tie write-pieces-fields-unnamed-source.ended (λ M. write-pieces-fields-unnamed-source.clauses) write-pieces-fields-unnamed-code.routine (λ κs a r e. contract.write-pieces-fields-unnamed r)

@@ -9,7 +9,7 @@ use lib.Dec.{leb}
 use borrow.Author.Tests.{le-leb, lt-leb, lt-ltb, leb-true, leb-false, eq-eqb, ne-eqb}
 use Rattle.answer.specs.Answer.{Answer, answered, refused, got, ended}
 use Rattle.field.specs.Fields.{littleAt, fixedAt}
-use Rattle.claim_model.specs.Rust.{Rust, gives, errs, panics, wraps, Error, UnexpectedEof, usize}
+use Rattle.claim_model.specs.Rust.{Rust, gives, errs, panics, wraps, Error, UnexpectedEof, usize-top}
 use Rattle.claim_model.specs.ParseBuffer.{at, len, is-empty, parse, peek, take}
 use Rattle.claim_model.specs.Equal.{numbered, Equal, Same}
 
@@ -48,12 +48,12 @@ module _ (s : List ℕ) (p : ℕ) where
     unfolding fixedAt
     fixed-out h = simp (lt-leb _ _ h)
 
-  pub take-in : (n : ℕ) → length s < usize → p + n ≤ length s → take (at s p) n ≡ gives (front n (drop p s), at s (p + n))
+  pub take-in : (n : ℕ) → length s < usize-top → p + n ≤ length s → take (at s p) n ≡ gives (front n (drop p s), at s (p + n))
   unfolding take
   take-in n l h =
       let a : p ≤ length s = omega arith in
       let b : n ≤ length (drop p s) = rw length-drop (omega arith) in
-      let c : p + n < usize = omega arith in
+      let c : p + n < usize-top = omega arith in
       simp (le-leb _ _ a, le-leb _ _ b, lt-ltb _ _ c)
 
   pub take-out : (n : ℕ) → p ≤ length s → length s < p + n → take (at s p) n ≡ errs UnexpectedEof

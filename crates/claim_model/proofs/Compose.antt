@@ -5,7 +5,7 @@ use mathlib.Core.List.{List, []}
 use native.Mathlib.Omega.{arith}
 use Rattle.answer.specs.Answer.{Answer, answered, refused, then}
 use Rattle.claim_model.specs.Rust.{Rust, gives, errs, panics, wraps, _>>=_, Error, UnexpectedEof, InvalidTypeInformationHeader, impossibly-small, unreasonably-large, minimum-low, maximum-low, TypeTooShort, TypeNotFound, TypeNotIndexed, UnimplementedTypeKind}
-use Rattle.claim_model.specs.Equal.{numbered, Equal, Stays, Same, shownBy}
+use Rattle.claim_model.specs.Equal.{numbered, Equal, StaysInDomain, Same, shownBy}
 use Rattle.claim_model.specs.Shown.{unlinked, Roomy}
 
 -- a refusal of one kind of answer as one of another kind
@@ -42,7 +42,7 @@ bind-equal (errs e) (refused n d) f k j g nu q c = ap g (ap recast q) ∙ nu e
 bind-equal panics a f k j g nu q c = tt
 bind-equal wraps a f k j g nu q c = tt
 
-pub stays-bind : {A B : Type 0} (r : Rust A) (k : A → Rust B) → Stays r → ((a : A) → Stays (k a)) → Stays (_>>=_ r k)
+pub stays-bind : {A B : Type 0} (r : Rust A) (k : A → Rust B) → StaysInDomain r → ((a : A) → StaysInDomain (k a)) → StaysInDomain (_>>=_ r k)
 stays-bind (gives a) k s h = h a
 stays-bind (errs e) k s h = tt
 stays-bind panics k s h = s

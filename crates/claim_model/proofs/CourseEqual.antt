@@ -18,7 +18,7 @@ use Rattle.stream_finder.specs.Finder.{State, begunBy, createBy, updateOf, Foun
 use Rattle.claim_model.specs.Rust.{Rust, gives, errs, panics, wraps, _>>=_}
 use Rattle.claim_model.specs.ParseBuffer.{if-some}
 use Rattle.claim_model.specs.TpiHeader.{parse-information}
-use Rattle.claim_model.specs.TpiItems.{Item, ItemIter as CrateIter, iter, finder, next, update, find}
+use Rattle.claim_model.specs.TpiItems.{Item, ItemIter as CrateIter, iter, finder, next, update, finder-find}
 use Rattle.claim_model.specs.Equal.{Equal, shownBy}
 use Rattle.claim_model.specs.Shown.{information, iterShown, nextShown, finderShown, unlinked, Roomy, CanStand}
 use Rattle.claim_model.proofs.Compose.{unlinked-numbered, bind-equal, roomy-first, roomy-then}
@@ -126,7 +126,7 @@ module _ (tag : Stream) (s : List ℕ) (h : Header) (ok : Lent s) (e : headerOf 
   uses : (acts : List Action) (cs : List (Option ItemIter)) (σ : State) → All (Sound s (h .«minimum_index»)) cs → Kept (h .«minimum_index») σ → Roomy (portUses tag s i acts cs σ) → Uses acts cs σ
   unfolding crateUses portUses
   uses [] cs σ n k roomy =
-      subst (λ (x : ℕ). Equal (find (finderShown s σ) x) (unlinked s (findOf s σ (indexIn tag i)))) (number-in tag i)
+      subst (λ (x : ℕ). Equal (finder-find (finderShown s σ) x) (unlinked s (findOf s σ (indexIn tag i)))) (number-in tag i)
       (find-equal s σ (record { short = ok .short; shift = omega (arith, k .shift); held = k .held }) (omega (arith, eightfold σ (k .shift), k .few)) (indexIn tag i))
   uses (begins ∷ acts) cs σ n k roomy =
       let r = subst (λ (x : Answer ItemIter). Roomy (then x λ c. portUses tag s i acts (some c ∷ cs) σ)) (iter-is tag s h e) roomy in

@@ -20,10 +20,10 @@ use Rattle.word_attributes.specs.declared.PointerKind.the-variants as pointer
 use Rattle.claim_model.specs.Rust.{Rust, gives, errs, panics, wraps, match, UnexpectedEof, InvalidTypeInformationHeader, impossibly-small, unreasonably-large, minimum-low, maximum-low, TypeTooShort, TypeNotFound, TypeNotIndexed, UnimplementedTypeKind}
 use Rattle.claim_model.specs.ParseBuffer.{at, len, is-empty, parse, peek, take, position, parse-cstring, parse-u8-pascal-string}
 use Rattle.claim_model.specs.TpiHeader.{fields, parse-header, parse-information}
-use Rattle.claim_model.specs.TpiItems.{Item, iter, new, resolve, max-index, update, skipped, hit, miss, find, next, tour, raw-kind, PRIMITIVE-TYPE}
-use Rattle.claim_model.specs.TpiPrimitive.{indirection-arms, kind-arms, type-data-for-primitive}
+use Rattle.claim_model.specs.TpiItems.{Item, iter, new, resolve, max-index, update, skipped, hit, miss, finder-find, next, tour, raw-kind, PRIMITIVE-TYPE}
+use Rattle.claim_model.specs.TpiPrimitive.{indirection-arms, primitive-kind-arms, type-data-for-primitive}
 use Rattle.claim_model.specs.TpiWords.{pointer-kind, pointer-size}
-use Rattle.claim_model.specs.TpiWords.{kind-arms as pointer-arms}
+use Rattle.claim_model.specs.TpiWords.{pointer-kind-arms as pointer-arms}
 use Rattle.claim_model.specs.TpiHelpers.{parse-optional-id-index, parse-string, pad-byte, padding-loop, parse-padding}
 use Rattle.claim_model.specs.TpiId.{Function, MemberFunction, BuildInfo, StringList, String, UserDefinedTypeSource, Local, Remote, function-id, member-function-id, pushed, build-info, string-list, string-id, source-line, by-leaf, try-from-ctx, parse-id}
 use Rattle.claim_model.specs.Run.{crateRun, turns, portRun}
@@ -39,10 +39,10 @@ pointed = 0x02 ∷ 0x10 ∷ 0 ∷ 0x10 ∷ 0 ∷ 0 ∷ 0x0c ∷ 0 ∷ 1 ∷ 0 �
 abbrev found : ℕ → List ℕ → Rust Item
 found i b = gives (record { index = i; bytes = b })
 
--- "`find` 4097 in E passes 1 link; 4098 gives 1 with 2 passed; 4099 gives 8; 4095 the marker"
+-- "`finder-find` 4097 in E passes 1 link; 4098 gives 1 with 2 passed; 4099 gives 8; 4095 the marker"
 pub crate-finds : map (crateRun streamE 2) (4096 ∷ 4097 ∷ 4098 ∷ 4099 ∷ 4095 ∷ [])
     ≡ found 4096 modifier ∷ found 4097 pointed ∷ errs UnexpectedEof ∷ errs (TypeNotFound 4099) ∷ found 4095 PRIMITIVE-TYPE ∷ []
-unfolding crateRun parse-information parse-header fields iter new resolve max-index update skipped hit miss find next tour len is-empty parse take littleAt
+unfolding crateRun parse-information parse-header fields iter new resolve max-index update skipped hit miss finder-find next tour len is-empty parse take littleAt
 crate-finds = refl
 
 abbrev port : ℕ → ℕ → ℕ → ℕ → Found
@@ -87,12 +87,12 @@ pub crate-edges : map (λ s. crateRun s 1 4104)
     ∷ errs UnexpectedEof
     ∷ errs (TypeNotFound 4104)
     ∷ []
-unfolding crateRun parse-information parse-header fields iter new resolve max-index update skipped hit miss find next tour len is-empty parse take littleAt
+unfolding crateRun parse-information parse-header fields iter new resolve max-index update skipped hit miss finder-find next tour len is-empty parse take littleAt
 crate-edges = refl
 
--- "Giving `find` the iterator's length rule: on a chain with a one-byte payload it must still answer"
+-- "Giving `finder-find` the iterator's length rule: on a chain with a one-byte payload it must still answer"
 pub one-byte : crateRun (made (four 56 0) (four 0 16) (four 16 16) (1 ∷ 0 ∷ 5 ∷ 2 ∷ 0 ∷ 6 ∷ 7 ∷ [])) 0 4097 ≡ found 4097 (6 ∷ 7 ∷ [])
-unfolding crateRun parse-information parse-header fields iter new resolve max-index update skipped hit miss find next tour len is-empty parse take littleAt
+unfolding crateRun parse-information parse-header fields iter new resolve max-index update skipped hit miss finder-find next tour len is-empty parse take littleAt
 one-byte = refl
 
 -- two iterators: one steps past both records, the other updates behind the first; and an update by a fresh iterator of the empty stream
@@ -101,13 +101,13 @@ pub courses : crateCourse streamE (begins ∷ begins ∷ steps 0 ∷ updates 0 �
     ∷ crateCourse [] [] 0
     ∷ []
     ≡ found 4097 pointed ∷ errs UnexpectedEof ∷ errs (TypeNotIndexed 0 0) ∷ []
-unfolding crateCourse crateUses parse-information parse-header fields iter new resolve max-index update skipped hit miss find next len is-empty parse take littleAt
+unfolding crateCourse crateUses parse-information parse-header fields iter new resolve max-index update skipped hit miss finder-find next len is-empty parse take littleAt
 courses = refl
 
 abbrev twice : List ℕ → List ℕ
 twice b = b ++ b
 
--- eight records, then a length of one, which `next` refuses and `find` takes
+-- eight records, then a length of one, which `next` refuses and `finder-find` takes
 abbrev short-ninth : List ℕ
 short-ninth = made (four 56 0) (four 0 16) (four 8 16) (twice (twice (twice (2 ∷ 0 ∷ 6 ∷ 7 ∷ []))) ++ (1 ∷ 0 ∷ 5 ∷ []))
 
@@ -121,7 +121,7 @@ abbrev uses : List (List Action)
 uses = (begins ∷ goes 8 0) ∷ (begins ∷ goes 9 0) ∷ (begins ∷ begins ∷ steps 1 ∷ goes 9 0 ++ goes 7 1) ∷ []
 
 pub crate-stops : map (λ acts. crateCourse short-ninth acts 4104) uses ≡ found 4104 (5 ∷ []) ∷ errs (TypeNotIndexed 4104 4103) ∷ found 4104 (5 ∷ []) ∷ []
-unfolding crateCourse crateUses parse-information parse-header fields iter new resolve max-index update skipped hit miss find next len is-empty parse take littleAt
+unfolding crateCourse crateUses parse-information parse-header fields iter new resolve max-index update skipped hit miss finder-find next len is-empty parse take littleAt
 crate-stops = refl
 
 pub port-stops : map (λ acts. portCourse stream.Types short-ninth (0 ∷ 0 ∷ []) acts 4104) uses ≡ answered (port 4104 90 1 0) ∷ refused 9 (4104 ∷ 4103 ∷ []) ∷ answered (port 4104 90 1 0) ∷ []
@@ -136,7 +136,7 @@ pub primitives : map type-data-for-primitive (0x0674 ∷ 0x0003 ∷ 0x0874 ∷ 0
     ∷ errs (TypeNotFound 0x0004)
     ∷ panics
     ∷ []
-unfolding type-data-for-primitive match indirection-arms kind-arms
+unfolding type-data-for-primitive match indirection-arms primitive-kind-arms
 primitives = refl
 
 -- "the pointer word 0x0001000c has kind 12, .., size 8; 0x0d is 12"

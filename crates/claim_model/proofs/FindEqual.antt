@@ -12,7 +12,7 @@ use lib.Pow.{pow-pos}
 use borrow.Author.Tests.{le-leb, le-ltb, lt-ltb, eq-eqb, ne-eqb}
 use Rattle.answer.specs.Answer.{answered, refused}
 use Rattle.field.specs.Fields.{littleAt}
-use Rattle.field.specs.Indices.{numberIn}
+use Rattle.field.specs.Indices.{indexNumber}
 use Rattle.stream_item.specs.Links.{linkOf, chain, Walk, reached, broke}
 use Rattle.field.specs.declared.index.ItemIndex.{ItemIndex}
 use Rattle.stream_item.specs.declared.link.Hit.the-variants.{Missed}
@@ -20,10 +20,10 @@ use Rattle.stream_item.proofs.LinkLaws.{link-whole, link-broken, chain-none, li
 use Rattle.stream_finder.specs.Finder.{State, blockOf, maxIndexOf, landed, findOf}
 use Rattle.stream_finder.specs.Places.{Ready}
 use Rattle.stream_finder.proofs.FinderLaws.{find-marker, find-above, find-unheld, find-held, max-none, max-top}
-use Rattle.claim_model.specs.Rust.{Rust, gives, errs, wraps, _>>=_, as-u32, usize, UnexpectedEof, TypeNotFound, TypeNotIndexed}
+use Rattle.claim_model.specs.Rust.{Rust, gives, errs, wraps, _>>=_, as-u32, usize-top, UnexpectedEof, TypeNotFound, TypeNotIndexed}
 use Rattle.claim_model.specs.ParseBuffer.{at, take, if-some}
-use Rattle.claim_model.specs.TpiItems.{Item, ItemFinder, PRIMITIVE-TYPE, max-index, hit, miss, find}
-use Rattle.claim_model.specs.Equal.{Equal, Stays, Same}
+use Rattle.claim_model.specs.TpiItems.{Item, ItemFinder, PRIMITIVE-TYPE, max-index, hit, miss, finder-find}
+use Rattle.claim_model.specs.Equal.{Equal, StaysInDomain, Same}
 use Rattle.claim_model.specs.Shown.{itemShown, finderShown, unlinked}
 use Rattle.claim_model.proofs.BufferLaws.{take-in, take-out, equal-wraps, same-gives, same-errs, by-order}
 use Rattle.claim_model.proofs.Compose.{unlinked-numbered, bind-equal, stays-bind}
@@ -93,7 +93,7 @@ module _ (s : List ℕ) (σ : State) (small : σ .finder .shift ≤ 6) (claim : 
 -- ---- find
 module _ (s : List ℕ) (σ : State) (ok : Ready s σ) (few : σ .finder .held * blockOf (σ .finder) < 4294967296) (i : ItemIndex) where
   abbrev n : ℕ
-  n = numberIn i
+  n = indexNumber i
 
   abbrev f : ItemFinder
   f = finderShown s σ
@@ -104,17 +104,17 @@ module _ (s : List ℕ) (σ : State) (ok : Ready s σ) (few : σ .finder .held *
   held-places : length (front (σ .finder .held) (σ .table)) ≡ σ .finder .held
   held-places = length-take-le (σ .finder .held) (σ .table) (ok .held)
 
-  long : length s < usize
+  long : length s < usize-top
   long = omega (arith, ok .short)
 
-  below : n < σ .finder .«minimum_index» → Finds (find f n)
-  unfolding find
-  below h = same-gives (find f n) (record { index = n; bytes = PRIMITIVE-TYPE }) _ (simp (lt-ltb _ _ h)) (simp (find-marker s σ i n ok h))
+  below : n < σ .finder .«minimum_index» → Finds (finder-find f n)
+  unfolding finder-find
+  below h = same-gives (finder-find f n) (record { index = n; bytes = PRIMITIVE-TYPE }) _ (simp (lt-ltb _ _ h)) (simp (find-marker s σ i n ok h))
 
   module _ (a : σ .finder .«minimum_index» ≤ n) where
-    above : σ .finder .«maximum_index» < n → Finds (find f n)
-    unfolding find
-    above h = same-errs (find f n) (TypeNotFound n) _ (simp (le-ltb _ _ a, lt-ltb _ _ h)) (simp (find-above s σ i n ok a h))
+    above : σ .finder .«maximum_index» < n → Finds (finder-find f n)
+    unfolding finder-find
+    above h = same-errs (finder-find f n) (TypeNotFound n) _ (simp (le-ltb _ _ a, lt-ltb _ _ h)) (simp (find-above s σ i n ok a h))
 
     module _ (u : n ≤ σ .finder .«maximum_index») where
       abbrev q : ℕ
@@ -123,26 +123,26 @@ module _ (s : List ℕ) (σ : State) (ok : Ready s σ) (few : σ .finder .held *
       abbrev r : ℕ
       r = (n - σ .finder .«minimum_index») % blockOf (σ .finder)
 
-      to : find f n ≡ if-some (getElem? (front (σ .finder .held) (σ .table)) q) (hit f n r) (miss f n)
-      unfolding find
+      to : finder-find f n ≡ if-some (getElem? (front (σ .finder .held) (σ .table)) q) (hit f n r) (miss f n)
+      unfolding finder-find
       to = simp (le-ltb _ _ a, le-ltb _ _ u, resolve-in f n a)
 
       -- no held place
       module _ (h : σ .finder .held ≤ q) where
-        missed : find f n ≡ (_>>=_ (max-index f) λ top. errs (TypeNotIndexed n top))
+        missed : finder-find f n ≡ (_>>=_ (max-index f) λ top. errs (TypeNotIndexed n top))
         unfolding miss
         missed = to ∙ ap (λ o. if-some o (hit f n r) (miss f n)) (get-out (front (σ .finder .held) (σ .table)) q (rw held-places h))
 
         -- where the crate's highest index wraps, so does its answer
-        miss-equal : Equal (find f n) (unlinked s (findOf s σ i))
+        miss-equal : Equal (finder-find f n) (unlinked s (findOf s σ i))
         miss-equal =
             subst (λ (x : Rust Item). Equal x (unlinked s (findOf s σ i))) (sym missed)
             (rw (find-unheld s σ i n ok a u h)
             (bind-equal (max-index f) (answered (maxIndexOf (σ .finder))) (λ m. m) (λ top. errs (TypeNotIndexed n top)) (λ m. refused 9 (n ∷ m ∷ []))
             (unlinked s) (unlinked-numbered s) (max-equal s σ (ok .shift) (ok .held) few) (λ m e. refl)))
 
-        miss-same : σ .finder .held * blockOf (σ .finder) + σ .finder .«minimum_index» < 4294967296 → Finds (find f n)
-        miss-same w = record { stays = subst (λ (x : Rust Item). Stays x) (sym missed) (stays-bind (max-index f) _ (max-same s σ (ok .shift) (ok .held) few w .stays) (λ m. tt)); equal = miss-equal }
+        miss-same : σ .finder .held * blockOf (σ .finder) + σ .finder .«minimum_index» < 4294967296 → Finds (finder-find f n)
+        miss-same w = record { stays = subst (λ (x : Rust Item). StaysInDomain x) (sym missed) (stays-bind (max-index f) _ (max-same s σ (ok .shift) (ok .held) few w .stays) (λ m. tt)); equal = miss-equal }
 
       -- a held place
       module _ (h : q < σ .finder .held) where
@@ -154,16 +154,16 @@ module _ (s : List ℕ) (σ : State) (ok : Ready s σ) (few : σ .finder .held *
             get-in (front (σ .finder .held) (σ .table)) q (rw held-places h)
             ∙ ap some (getD-take (σ .finder .held) (σ .table) q 0 h)
 
-        goes : find f n ≡ hit f n r p
+        goes : finder-find f n ≡ hit f n r p
         goes = to ∙ ap (λ o. if-some o (hit f n r) (miss f n)) place
 
         found : findOf s σ i ≡ landed i r (linkOf s p r)
         found = find-held s σ i n _ refl ok a u h
 
-        outside : length s < p → Finds (find f n)
+        outside : length s < p → Finds (finder-find f n)
         unfolding hit
         outside g =
-            same-errs (find f n) UnexpectedEof _
+            same-errs (finder-find f n) UnexpectedEof _
             (goes ∙ simp (take-out s 0 p (omega arith) (omega arith)))
             (simp (found, past s p r g))
 
@@ -171,35 +171,35 @@ module _ (s : List ℕ) (σ : State) (ok : Ready s σ) (few : σ .finder .held *
           start : take (at s 0) p ≡ gives (front p s, at s p)
           start = take-in s 0 p long (omega arith) ∙ ap (λ (m : ℕ). gives (front p s, at s m)) (zero-add p)
 
-          lost : (j : ℕ) → chain s p r ≡ broke j → Finds (find f n)
+          lost : (j : ℕ) → chain s p r ≡ broke j → Finds (finder-find f n)
           unfolding hit
           lost j e =
-              same-errs (find f n) UnexpectedEof _
+              same-errs (finder-find f n) UnexpectedEof _
               (goes ∙ simp (start, skipped-chain s long r p, e))
               (simp (found, linkOf-broke s p r j e))
 
-          ended : (x : ℕ) → chain s p r ≡ reached x → length s < x + 2 + littleAt 2 s x → Finds (find f n)
+          ended : (x : ℕ) → chain s p r ≡ reached x → length s < x + 2 + littleAt 2 s x → Finds (finder-find f n)
           unfolding hit
           ended x e v =
-              same-errs (find f n) UnexpectedEof _
+              same-errs (finder-find f n) UnexpectedEof _
               (goes ∙ simp (start, skipped-chain s long r p, e) (read-broken s long x _ v))
               (simp (found, linkOf-missed s p r x e (link-broken s x v)))
 
-          lands : (x : ℕ) → chain s p r ≡ reached x → x + 2 + littleAt 2 s x ≤ length s → Finds (find f n)
+          lands : (x : ℕ) → chain s p r ≡ reached x → x + 2 + littleAt 2 s x ≤ length s → Finds (finder-find f n)
           unfolding hit
           lands x e v =
-              same-gives (find f n) (itemShown s (record { index = i; place = x + 2; length = littleAt 2 s x })) _
+              same-gives (finder-find f n) (itemShown s (record { index = i; place = x + 2; length = littleAt 2 s x })) _
               (goes ∙ simp (start, skipped-chain s long r p, e) (read-whole s long x _ v))
               (simp (found, linkOf-landed s p r x (x + 2) (littleAt 2 s x) e (link-whole s x v)))
 
-          along : (w : Walk) → chain s p r ≡ w → Finds (find f n)
+          along : (w : Walk) → chain s p r ≡ w → Finds (finder-find f n)
           along (reached x) e = by-order (x + 2 + littleAt 2 s x) (length s) (lands x e) (ended x e)
           along (broke j) e = lost j e
 
-        held : Finds (find f n)
+        held : Finds (finder-find f n)
         held = by-order p (length s) (λ g. along g (chain s p r) refl) outside
 
-  pub find-equal : Equal (find f n) (unlinked s (findOf s σ i))
+  pub find-equal : Equal (finder-find f n) (unlinked s (findOf s σ i))
   find-equal =
       by-order (σ .finder .«minimum_index») n
       (λ a. by-order n (σ .finder .«maximum_index»)
@@ -207,7 +207,7 @@ module _ (s : List ℕ) (σ : State) (ok : Ready s σ) (few : σ .finder .held *
       (λ u. above a u .equal)) λ a. below a .equal
 
   -- the crate neither panics nor wraps where its highest index fits
-  pub find-same : σ .finder .held * blockOf (σ .finder) + σ .finder .«minimum_index» < 4294967296 → Same (find f n) (unlinked s (findOf s σ i))
+  pub find-same : σ .finder .held * blockOf (σ .finder) + σ .finder .«minimum_index» < 4294967296 → Same (finder-find f n) (unlinked s (findOf s σ i))
   find-same w =
       by-order (σ .finder .«minimum_index») n
       (λ a. by-order n (σ .finder .«maximum_index»)

@@ -14,7 +14,7 @@ use borrow.Author.Tests.{le-leb, le-ltb, lt-ltb, leb-true, eq-eqb, ne-eqb}
 use Rattle.answer.specs.Answer.{pick}
 use Rattle.field.specs.Fields.{littleAt, twos}
 use Rattle.stream_header.specs.Header.{longest, fieldsOf, headerOf}
-use Rattle.stream_header.specs.Header.{empty as none}
+use Rattle.stream_header.specs.Header.{zeroHeader as none}
 use Rattle.claim_model.specs.Rust.{Rust, gives, errs, _>>=_, if, UnexpectedEof, InvalidTypeInformationHeader, impossibly-small, unreasonably-large, minimum-low, maximum-low}
 use Rattle.claim_model.specs.ParseBuffer.{ParseBuffer, at, parse, take}
 use Rattle.claim_model.specs.TpiHeader.{fields, parse-header, parse-information}

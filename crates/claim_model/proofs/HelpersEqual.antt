@@ -17,7 +17,7 @@ use Rattle.field.specs.Indices.{noType, noId, optionalOf, optionalAt}
 use Rattle.field.specs.Runs.{bytesAfter}
 use Rattle.field_text.specs.Texts.{toZero, stringAt, countedStringAt, stringOf, more, pad, paddingAfter}
 use Rattle.field_text.proofs.PadLaws.{pad-end, pad-stop, pad-more, pad-cut}
-use Rattle.claim_model.specs.Rust.{Rust, gives, errs, if, or, UnexpectedEof, usize}
+use Rattle.claim_model.specs.Rust.{Rust, gives, errs, if, or-else, UnexpectedEof, usize-top}
 use Rattle.claim_model.specs.ParseBuffer.{ParseBuffer, at, Bytes, beyond, parse, position, parse-cstring, parse-u8-pascal-string}
 use Rattle.claim_model.specs.TpiHelpers.{parse-optional-type-index, parse-optional-id-index, parse-string, pad-byte, padding-loop, parse-padding, is-cross-module}
 use Rattle.claim_model.specs.Equal.{Same, shownBy}
@@ -32,7 +32,7 @@ module _ (s : List ℕ) where
     unfolding parse-optional-type-index optionalOf among
     type-in h = rw (parse-in s p 4 h) (go (littleAt 4 s p) (eqb (littleAt 4 s p) 0) (eqb (littleAt 4 s p) 0xffff))
       where
-        go : (n : ℕ) (a b : Bool) → if {A = Rust (Option ℕ × ParseBuffer)} (or a b) (gives (none, at s (p + 4))) (gives (some n, at s (p + 4))) ≡ gives (pick (pick a true (pick b true false)) none (some n), at s (p + 4))
+        go : (n : ℕ) (a b : Bool) → if {A = Rust (Option ℕ × ParseBuffer)} (or-else a b) (gives (none, at s (p + 4))) (gives (some n, at s (p + 4))) ≡ gives (pick (pick a true (pick b true false)) none (some n), at s (p + 4))
         go n true b = refl
         go n false true = refl
         go n false false = refl
@@ -99,13 +99,13 @@ position-within (b ∷ bs) i e = go (eqb b 0) (position bs) (position-within bs)
     go false none f q = let z : _≡_ {A = ℕ} 0 1 = cc in absurd (omega arith)
     go false (some j) f q = let z : suc j ≡ i = cc in omega (arith, f j refl)
 
-module _ (s : List ℕ) (l : length s < usize) (p : ℕ) (inside : p ≤ length s) where
+module _ (s : List ℕ) (l : length s < usize-top) (p : ℕ) (inside : p ≤ length s) where
   there : (n : ℕ) → position (drop p s) ≡ some n → parse-cstring (at s p) ≡ gives (front n (drop p s), at s (p + n + 1))
   unfolding parse-cstring
   there n e =
       let a : n < length (drop p s) = position-within (drop p s) n e in
       let b : n < length s - p = rw length-drop at a in
-      let c : p + (n + 1) < usize = omega arith in
+      let c : p + (n + 1) < usize-top = omega arith in
       let f : p + (n + 1) ≡ p + n + 1 = omega arith in
       rw (le-leb _ _ inside, e, lt-ltb _ _ c, f)
 

@@ -23,7 +23,7 @@ use Rattle.record_id.specs.declared.IdData.{IdData}
 use Rattle.record_id.specs.declared.IdData.the-variants as id
 use Rattle.record_id.specs.declared.IdAnswer.{IdAnswer}
 use Rattle.record_id.specs.declared.IdAnswer.the-variants as answer
-use Rattle.claim_model.specs.Rust.{gives, errs, _>>=_, match, UnexpectedEof, usize}
+use Rattle.claim_model.specs.Rust.{gives, errs, _>>=_, match, UnexpectedEof, usize-top}
 use Rattle.claim_model.specs.ParseBuffer.{at}
 use Rattle.claim_model.specs.TpiHelpers.{parse-string}
 use Rattle.claim_model.specs.TpiId.{UserDefinedTypeSource, function-id, member-function-id, pushed, build-info, string-list, string-id, source-line, by-leaf, try-from-ctx, parse-id}
@@ -49,7 +49,7 @@ module _ (s : List ℕ) where
       (λ g. rw (parse-in s p 4 g) (pushed-out n (vec ++ (littleAt 4 s p ∷ [])) (p + 4) g (omega arith)))
       (λ g. rw (parse-out s p 4 g))
 
-  module _ (l : length s < usize) where
+  module _ (l : length s < usize-top) where
     -- the record behind its leaf
     abbrev Alike : ℕ → Type 0
     Alike leaf = Same (_>>=_ (_>>=_ (by-leaf leaf (at s 2)) λ (d, b). gives (d, b .pos)) λ (d, _). gives d) (shownBy (idShown s) (leafOf idLeaves leaf s 2))
@@ -183,5 +183,5 @@ module _ (s : List ℕ) where
   answer-is (answer.Answered d) = ap answered (data-is d)
   answer-is (answer.Refused e) = refl
 
-  pub id-answers : length s < usize → (r : IdAnswer) → saidIdData r ≡ recordOf idLeaves s → Same (parse-id s) (idAnswerShown s r)
+  pub id-answers : length s < usize-top → (r : IdAnswer) → saidIdData r ≡ recordOf idLeaves s → Same (parse-id s) (idAnswerShown s r)
   id-answers l r e = subst (λ a. Same (parse-id s) a) (ap (shownBy (idShown s)) (sym e) ∙ answer-is r) (id-same s l)

@@ -14,9 +14,9 @@ use Rattle.answer.specs.Answer.{Answer, answered, refused, then}
 use Rattle.field.specs.Fields.{littleAt}
 use Rattle.stream_header.specs.Header.{headerOf}
 use Rattle.stream_header.specs.declared.Header.{Header}
-use Rattle.field.specs.Indices.{numberIn}
+use Rattle.field.specs.Indices.{indexNumber}
 use Rattle.stream_item.specs.Items.{indexOf, lengthOf}
-use Rattle.stream_view.specs.Views.{named, kindAt, rawKindOf}
+use Rattle.stream_view.specs.Views.{streamNamed, kindAt, rawKindOf}
 use Rattle.stream_item.specs.Information.{lenOf, isEmptyOf}
 use Rattle.stream_item.specs.Iterator.{iterOf}
 use Rattle.field.specs.declared.index.Stream.{Stream}
@@ -29,7 +29,7 @@ use Rattle.claim_model.specs.Rust.{gives, _>>=_}
 use Rattle.claim_model.specs.TpiHeader.{parse-information}
 use Rattle.claim_model.specs.TpiItems.{iter, finder, item-len, item-is-empty, raw-kind, information-len, information-is-empty}
 use Rattle.claim_model.specs.Equal.{Equal, Same, shownBy}
-use Rattle.claim_model.specs.Shown.{information, iterShown, finderShown, entryShown, Roomy, Within}
+use Rattle.claim_model.specs.Shown.{information, iterShown, finderShown, entryShown, Roomy, LiesIn}
 use Rattle.claim_model.proofs.BufferLaws.{equal-panics, same-gives, by-order}
 use Rattle.claim_model.proofs.Compose.{shown-numbered, bind-same, roomy-then}
 use Rattle.claim_model.proofs.HeaderEqual.{header}
@@ -76,11 +76,11 @@ module _ (s : List ℕ) (ok : Lent s) where
 pub part-length : (s : List ℕ) (p n : ℕ) → p + n ≤ length s → length (front n (drop p s)) ≡ n
 part-length s p n h = length-take-le n (drop p s) (rw length-drop (omega arith))
 
-pub item-len-is : (s : List ℕ) (e : Entry) → Within s e → item-len (entryShown s e) ≡ lengthOf e
+pub item-len-is : (s : List ℕ) (e : Entry) → LiesIn s e → item-len (entryShown s e) ≡ lengthOf e
 item-len-is s (Record i) h = part-length s (i .place) (i .length) h
 item-len-is s (Marker i) h = refl
 
-pub item-is-empty-is : (s : List ℕ) (e : Entry) → Within s e → item-is-empty (entryShown s e) ≡ eqb (lengthOf e) 0
+pub item-is-empty-is : (s : List ℕ) (e : Entry) → LiesIn s e → item-is-empty (entryShown s e) ≡ eqb (lengthOf e) 0
 item-is-empty-is s e h = ap (λ (n : ℕ). eqb n 0) (item-len-is s e h)
 
 -- two bytes with `|` and `<<`
@@ -104,13 +104,13 @@ module _ (s : List ℕ) (ok : Lent s) (p n x : ℕ) (h : p + n ≤ length s) whe
       (λ g. equal-panics (raw-kind (record { index = x; bytes = front n (drop p s) })) _ (rw (part-length s p n h, lt-leb _ _ g)))
 
 -- an item's raw kind is that of its bytes in the stream that it names; below two bytes the crate panics
-pub raw-kind-equal : (t p : List ℕ) → Lent t → Lent p → (e : Entry) → Within (named t p (indexOf e)) e
-    → Equal (raw-kind (entryShown (named t p (indexOf e)) e)) (rawKindOf t p e)
+pub raw-kind-equal : (t p : List ℕ) → Lent t → Lent p → (e : Entry) → LiesIn (streamNamed t p (indexOf e)) e
+    → Equal (raw-kind (entryShown (streamNamed t p (indexOf e)) e)) (rawKindOf t p e)
 unfolding raw-kind
 raw-kind-equal t p okt okp (Marker i) w = rw (le-ltb _ _ (okt .short), le-ltb _ _ (okp .short)) refl
-raw-kind-equal t p okt okp (Record i) w = rw (le-ltb _ _ (okt .short), le-ltb _ _ (okp .short)) (go (i .index) (numberIn (i .index)) w)
+raw-kind-equal t p okt okp (Record i) w = rw (le-ltb _ _ (okt .short), le-ltb _ _ (okp .short)) (go (i .index) (indexNumber (i .index)) w)
   where
-    go : (x : ItemIndex) (m : ℕ) → i .place + i .length ≤ length (named t p x)
-        → Equal (raw-kind (record { index = m; bytes = front (i .length) (drop (i .place) (named t p x)) })) (kindAt (named t p x) (i .place) (i .length))
+    go : (x : ItemIndex) (m : ℕ) → i .place + i .length ≤ length (streamNamed t p x)
+        → Equal (raw-kind (record { index = m; bytes = front (i .length) (drop (i .place) (streamNamed t p x)) })) (kindAt (streamNamed t p x) (i .place) (i .length))
     go (Types y) m v = kind-equal t okt (i .place) (i .length) m v
     go (Ids y) m v = kind-equal p okp (i .place) (i .length) m v

@@ -8,13 +8,13 @@ use lib.ListN.{length, take as front, drop}
 use Rattle.field.specs.Fields.{littleAt}
 use Rattle.stream_item.specs.Links.{chain, Walk, reached, broke}
 use Rattle.stream_item.proofs.LinkLaws.{link-whole, link-broken, chain-none, chain-pass, chain-break, chain-stays, chain-split, more as moreWalk}
-use Rattle.claim_model.specs.Rust.{Rust, gives, errs, _>>=_, UnexpectedEof, usize}
+use Rattle.claim_model.specs.Rust.{Rust, gives, errs, _>>=_, UnexpectedEof, usize-top}
 use Rattle.claim_model.specs.ParseBuffer.{ParseBuffer, at, parse, take}
 use Rattle.claim_model.specs.TpiItems.{skipped}
 use Rattle.claim_model.proofs.BufferLaws.{parse-in, parse-out, take-in, take-out, by-order}
 
 -- ---- a link, read
-module _ (s : List ℕ) (l : length s < usize) (p : ℕ) where
+module _ (s : List ℕ) (l : length s < usize-top) (p : ℕ) where
   length-at : p + 2 ≤ length s → parse 2 (at s p) ≡ gives (littleAt 2 s p, at s (p + 2))
   length-at h = parse-in s p 2 h
 
@@ -38,7 +38,7 @@ walked-more : (s : List ℕ) (a : ℕ) (w : Walk) → walked s (moreWalk a w) �
 walked-more s a (reached q) = refl
 walked-more s a (broke j) = refl
 
-module _ (s : List ℕ) (l : length s < usize) where
+module _ (s : List ℕ) (l : length s < usize-top) where
   pub skipped-chain : (k p : ℕ) → skipped k (at s p) ≡ walked s (chain s p k)
   unfolding skipped
   skipped-chain zero p = sym (ap (walked s) (chain-none s p))

@@ -15,13 +15,13 @@ use Rattle.field.specs.Fields.{littleAt}
 use Rattle.field.specs.Runs.{bytesAfter}
 use Rattle.record_layout.specs.Layouts.{idLeaves}
 use Rattle.record_layout.specs.Fields.{number, Shown, readFieldBy, readFieldsBy}
-use Rattle.record_list.specs.Lists.{ElementValues, typeElement, idElement, inCounted, countedBy, counted, startOf, startIds, countedStep, stepOf, elementBy, elementOf}
+use Rattle.record_list.specs.Lists.{ElementValues, typeElement, idElement, inCounted, countedBy, countedList, startOf, startIds, countedStep, stepOf, elementBy, elementOf}
 use Rattle.field.specs.declared.index.Stream.the-variants as stream
 use Rattle.claim_model.specs.Rust.{gives, _>>=_, match}
 use Rattle.claim_model.specs.TpiId.{build-info, string-list, by-leaf, try-from-ctx, parse-id}
 use Rattle.claim_model.specs.Equal.{Same}
 use Rattle.claim_model.specs.Shown.{elements}
-use Rattle.claim_model.specs.EntryShown.{listed, asElement}
+use Rattle.claim_model.specs.EntryShown.{vecOf, asElement}
 use Rattle.claim_model.proofs.BufferLaws.{parse-in, parse-out, fixed-in, fixed-out, same, same-end, by-order}
 use Rattle.claim_model.proofs.IdEqual.{pushed-in, pushed-out}
 
@@ -61,10 +61,10 @@ module _ (s : List ℕ) where
   type-chosen (some n) = same _
 
   abbrev Listed : ℕ → Type 0
-  Listed k = Same (_>>=_ (parse-id s) λ d. gives (getElem? (listed d) k)) (asElement (elementOf stream.Ids s k))
+  Listed k = Same (_>>=_ (parse-id s) λ d. gives (getElem? (vecOf d) k)) (asElement (elementOf stream.Ids s k))
 
   pub build-elements : littleAt 2 s 0 ≡ 0x1603 → (k : ℕ) → Listed k
-  unfolding parse-id try-from-ctx by-leaf match build-info elementOf startOf startIds counted countedBy find idLeaves readFieldsBy readFieldBy bytesAfter
+  unfolding parse-id try-from-ctx by-leaf match build-info elementOf startOf startIds countedList countedBy find idLeaves readFieldsBy readFieldBy bytesAfter
   build-elements leaf k =
       by-order 2 (length s)
       (λ h. rw (parse-in s 0 2 h, fixed-in s 0 2 h, leaf)
@@ -77,7 +77,7 @@ module _ (s : List ℕ) where
       (λ h. rw (parse-out s 0 2 h, fixed-out s 0 2 h) same-end)
 
   pub string-elements : littleAt 2 s 0 ≡ 0x1604 → (k : ℕ) → Listed k
-  unfolding parse-id try-from-ctx by-leaf match string-list elementOf startOf startIds counted countedBy find idLeaves readFieldsBy readFieldBy bytesAfter
+  unfolding parse-id try-from-ctx by-leaf match string-list elementOf startOf startIds countedList countedBy find idLeaves readFieldsBy readFieldBy bytesAfter
   string-elements leaf k =
       by-order 2 (length s)
       (λ h. rw (parse-in s 0 2 h, fixed-in s 0 2 h, leaf)

@@ -7,13 +7,13 @@ use native.Mathlib.Omega.{arith}
 use lib.ListN.{length}
 use borrow.Author.Tests.{le-ltb, lt-ltb}
 use Rattle.field.specs.Fields.{littleAt}
-use Rattle.field.specs.Indices.{indexIn, numberIn}
+use Rattle.field.specs.Indices.{indexIn, indexNumber}
 use Rattle.stream_item.specs.Iterator.{Next, yielded, itemAt, nextOf}
 use Rattle.field.specs.declared.index.Stream.{Stream}
 use Rattle.field.specs.declared.index.Stream.the-variants.{Types, Ids}
 use Rattle.stream_item.specs.declared.iter.ItemIter.{ItemIter}
 use Rattle.stream_item.proofs.NextLaws.{next-done, next-length, next-short, next-payload, next-used, next-yields}
-use Rattle.claim_model.specs.Rust.{gives, UnexpectedEof, TypeTooShort, usize}
+use Rattle.claim_model.specs.Rust.{gives, UnexpectedEof, TypeTooShort, usize-top}
 use Rattle.claim_model.specs.ParseBuffer.{at, parse}
 use Rattle.claim_model.specs.TpiItems.{next}
 use Rattle.claim_model.specs.Equal.{Equal, Same, Stepwise, alike, used-up, shownBy}
@@ -21,7 +21,7 @@ use Rattle.claim_model.specs.Shown.{iterShown, nextShown, CanStand}
 use Rattle.claim_model.proofs.BufferLaws.{some-left, none-left, parse-in, parse-out, take-in, take-out, same-gives, same-errs, equal-wraps, by-order}
 
 -- an index's number
-pub number-in : (tag : Stream) (n : ℕ) → numberIn (indexIn tag n) ≡ n
+pub number-in : (tag : Stream) (n : ℕ) → indexNumber (indexIn tag n) ≡ n
 number-in Types n = refl
 number-in Ids n = refl
 
@@ -35,7 +35,7 @@ module _ (s : List ℕ) (c : ItemIter) (ok : CanStand s c) where
   abbrev Fine : Type 0
   Fine = Same (next (iterShown s c)) (shownBy (nextShown s c) (nextOf s c))
 
-  long : length s < usize
+  long : length s < usize-top
   long = omega (arith, ok .short)
 
   over : c .at ≡ length s → Fine

@@ -23,8 +23,8 @@ use Rattle.claim_model.specs.TpiItems.{PRIMITIVE-TYPE}
 use Rattle.claim_model.specs.TpiPrimitive.{type-data-for-primitive}
 use Rattle.claim_model.specs.TpiId.{parse-id}
 use Rattle.claim_model.specs.Equal.{Same, shownBy}
-use Rattle.claim_model.specs.Shown.{entryShown, primitiveShown, idShown, Within}
-use Rattle.claim_model.specs.EntryShown.{asId, asPrimitive}
+use Rattle.claim_model.specs.Shown.{entryShown, primitiveShown, idShown, LiesIn}
+use Rattle.claim_model.specs.EntryShown.{asId, primitiveParsed}
 use Rattle.claim_model.proofs.PrimitiveEqual.{primitive-same}
 use Rattle.claim_model.proofs.IdEqual.{id-same}
 use Rattle.claim_model.specs.Run.{Lent}
@@ -34,7 +34,7 @@ as-id : (b : List ℕ) (a : Answer (List Shown)) → asId b (then a (λ vs. answ
 as-id b (answered vs) = refl
 as-id b (refused n d) = refl
 
-as-primitive : (a : Answer PortPrimitive) → asPrimitive (then a (λ p. answered (primitive p))) ≡ shownBy primitiveShown a
+as-primitive : (a : Answer PortPrimitive) → primitiveParsed (then a (λ p. answered (primitive p))) ≡ shownBy primitiveShown a
 as-primitive (answered p) = refl
 as-primitive (refused n d) = refl
 
@@ -46,7 +46,7 @@ marker-same = id-same PRIMITIVE-TYPE (omega arith)
 -- t and p are the TPI and the IPI stream
 module _ (t p : List ℕ) (okt : Lent t) (okp : Lent p) where
   -- mod.rs 549
-  pub id-items : (e : Entry) (j : IdIndex) → indexOf e ≡ index.Ids j → Within p e → Same (parse-id (entryShown p e .bytes)) (asId (entryShown p e .bytes) (parseOf t p e))
+  pub id-items : (e : Entry) (j : IdIndex) → indexOf e ≡ index.Ids j → LiesIn p e → Same (parse-id (entryShown p e .bytes)) (asId (entryShown p e .bytes) (parseOf t p e))
   unfolding parseOf idBytes
   id-items (Record r) j e w =
       let n : length (front (r .length) (drop (r .place) p)) ≡ r .length = part-length p (r .place) (r .length) w in
@@ -55,7 +55,7 @@ module _ (t p : List ℕ) (okt : Lent t) (okp : Lent p) where
   id-items (Marker i) j e w = rw (le-ltb _ _ (okt .short), le-ltb _ _ (okp .short), e) marker-same
 
   -- mod.rs 512, line 513
-  pub type-items : (e : Entry) (j : TypeIndex) → indexOf e ≡ index.Types j → j .0 < 0x1000 → Same (type-data-for-primitive (j .0)) (asPrimitive (parseOf t p e))
+  pub type-items : (e : Entry) (j : TypeIndex) → indexOf e ≡ index.Types j → j .0 < 0x1000 → Same (type-data-for-primitive (j .0)) (primitiveParsed (parseOf t p e))
   unfolding parseOf typeItem typeMarker
   type-items (Record r) j e h =
       rw (le-ltb _ _ (okt .short), le-ltb _ _ (okp .short), e, lt-ltb _ _ h, as-primitive (primitiveOf (j .0))) (primitive-same (j .0) h)

@@ -14,7 +14,7 @@ use Rattle.word_primitive.specs.Primitive.{known, primitiveOf}
 use Rattle.word_primitive.specs.declared.PrimitiveKind.{PrimitiveKind}
 use Rattle.word_primitive.specs.declared.Indirection.{Indirection}
 use Rattle.claim_model.specs.Rust.{Rust, gives, errs, _>>=_, match, TypeNotFound}
-use Rattle.claim_model.specs.TpiPrimitive.{indirection-arms, kind-arms, type-data-for-primitive}
+use Rattle.claim_model.specs.TpiPrimitive.{indirection-arms, primitive-kind-arms, type-data-for-primitive}
 use Rattle.claim_model.specs.Equal.{Equal, Same, shownBy}
 use Rattle.claim_model.specs.Shown.{pointed, primitiveShown}
 use Rattle.claim_model.proofs.BufferLaws.{equal-panics, by-order}
@@ -26,9 +26,9 @@ found f other none = other
 found f other (some a) = gives (f a)
 
 module _ (other : Rust PrimitiveKind) where
-  kinds-agree : (b : ℕ) → b < 256 → match b kind-arms other ≡ found (λ k. k) other (find b kinds)
-  unfolding match find kinds kind-arms
-  kinds-agree = agree (λ b. match b kind-arms other) (λ b. found (λ k. k) other (find b kinds)) 256 refl
+  kinds-agree : (b : ℕ) → b < 256 → match b primitive-kind-arms other ≡ found (λ k. k) other (find b kinds)
+  unfolding match find kinds primitive-kind-arms
+  kinds-agree = agree (λ b. match b primitive-kind-arms other) (λ b. found (λ k. k) other (find b kinds)) 256 refl
 
 module _ (other : Rust (Option Indirection)) where
   points-agree : (m : ℕ) → m < 16 → match (m * 256) indirection-arms other ≡ found pointed other (find m indirections)

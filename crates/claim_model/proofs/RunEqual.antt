@@ -9,7 +9,7 @@ use lib.Dec.{ltb, eqb}
 use borrow.Author.Tests.{ltb-false, eqb-true}
 use Rattle.answer.specs.Answer.{Answer, answered, refused, pick, stop, both, then}
 use Rattle.field.specs.Fields.{littleAt}
-use Rattle.stream_header.specs.Header.{longest, fieldsOf, empty, headerOf}
+use Rattle.stream_header.specs.Header.{longest, fieldsOf, zeroHeader, headerOf}
 use Rattle.stream_header.specs.declared.Header.{Header}
 use Rattle.field.specs.Indices.{indexIn}
 use Rattle.stream_item.specs.Iterator.{iterOf, Next, done, yielded, nextOf}
@@ -22,7 +22,7 @@ use Rattle.stream_finder.proofs.FinderLaws.{begun-none, begun-full, begun-some,
 use Rattle.claim_model.specs.Rust.{gives, _>>=_}
 use Rattle.claim_model.specs.ParseBuffer.{if-some}
 use Rattle.claim_model.specs.TpiHeader.{parse-information}
-use Rattle.claim_model.specs.TpiItems.{ItemIter as CrateIter, ItemFinder as CrateFinder, iter, finder, next, update, tour, find}
+use Rattle.claim_model.specs.TpiItems.{ItemIter as CrateIter, ItemFinder as CrateFinder, iter, finder, next, update, tour, finder-find}
 use Rattle.claim_model.specs.Equal.{Equal, shownBy}
 use Rattle.claim_model.specs.Shown.{information, iterShown, nextShown, finderShown, unlinked, Roomy, CanStand}
 use Rattle.claim_model.proofs.BufferLaws.{by-order}
@@ -54,12 +54,12 @@ pub accepted : (s : List ℕ) (h : Header) → Lent s → headerOf s ≡ answere
 unfolding headerOf
 accepted s h ok e =
     let t1 = passed (ltb longest (length s)) 16 _ _ e in
-    unempty (eqb (length s) 0) (answered empty) (answered h) (Accepted s h) bare (t1 .1) full
+    unempty (eqb (length s) 0) (answered zeroHeader) (answered h) (Accepted s h) bare (t1 .1) full
   where
-    bare : eqb (length s) 0 ≡ true → _≡_ {A = Answer Header} (answered empty) (answered h) → Accepted s h
+    bare : eqb (length s) 0 ≡ true → _≡_ {A = Answer Header} (answered zeroHeader) (answered h) → Accepted s h
     bare z q =
         let n : length s ≡ 0 = eqb-true _ _ z in
-        let w : empty ≡ h = cc in
+        let w : zeroHeader ≡ h = cc in
         subst (λ (x : Header). Accepted s x) w (record { inside = omega arith; index = omega arith; counted = omega arith; round = omega arith; low = λ g. omega arith })
 
     full : stop (ltb (length s) 56) 1 (stop (ltb (littleAt 4 s 4) 56) 2 (stop (ltb 1024 (littleAt 4 s 4)) 3 (stop (ltb (length s) (littleAt 4 s 4)) 1
@@ -258,11 +258,11 @@ run-equal tag s t n i ok roomy′ =
     (iter-equal tag s h (ok .short))
     λ c e₃.
     let w : first tag h ≡ c = cc in
-    subst (λ (x : ItemIter). Equal (_>>=_ (tour n (iterShown s x) (finderShown s σ)) (λ (it, g). find g i)) (unlinked s (then (turns s n x σ) λ (d, τ). findOf s τ (indexIn tag i)))) w
-    (bind-equal (tour n (iterShown s (first tag h)) (finderShown s σ)) (turns s n (first tag h) σ) (standing s) (λ (it, g). find g i) (λ (d, τ). findOf s τ (indexIn tag i))
+    subst (λ (x : ItemIter). Equal (_>>=_ (tour n (iterShown s x) (finderShown s σ)) (λ (it, g). finder-find g i)) (unlinked s (then (turns s n x σ) λ (d, τ). findOf s τ (indexIn tag i)))) w
+    (bind-equal (tour n (iterShown s (first tag h)) (finderShown s σ)) (turns s n (first tag h) σ) (standing s) (λ (it, g). finder-find g i) (λ (d, τ). findOf s τ (indexIn tag i))
     (unlinked s) (unlinked-numbered s)
     (tour-equal s n (first tag h) σ stand f (roomy-first (turns s n (first tag h) σ) _ r₂))
     λ x e₄.
     let g : Fit s (x .1) = fit-turns s n (first tag h) σ (x .0) (x .1) f e₄ in
-    subst (λ (m : ℕ). Equal (find (finderShown s (x .1)) m) (unlinked s (findOf s (x .1) (indexIn tag i)))) (number-in tag i)
+    subst (λ (m : ℕ). Equal (finder-find (finderShown s (x .1)) m) (unlinked s (findOf s (x .1) (indexIn tag i)))) (number-in tag i)
     (find-equal s (x .1) (record { short = ok .short; shift = omega (arith, g .shift); held = g .held }) (omega (arith, eightfold (x .1) (g .shift), g .few)) (indexIn tag i))))

@@ -16,7 +16,7 @@ use Rattle.stream_finder.specs.Finder.{State, begunBy, updateOf, Found, findOf}
 use Rattle.claim_model.specs.Rust.{_>>=_, gives}
 use Rattle.claim_model.specs.ParseBuffer.{if-some}
 use Rattle.claim_model.specs.TpiHeader.{parse-information}
-use Rattle.claim_model.specs.TpiItems.{iter, finder, next, update, tour, find}
+use Rattle.claim_model.specs.TpiItems.{iter, finder, next, update, tour, finder-find}
 use Rattle.claim_model.specs.Equal.{Same, shownBy}
 use Rattle.claim_model.specs.Shown.{information, iterShown, nextShown, finderShown, unlinked, Roomy, CanStand}
 use Rattle.claim_model.proofs.Compose.{shown-numbered, unlinked-numbered, bind-same, roomy-first, roomy-then}
@@ -119,15 +119,15 @@ run-same tag s t n i ok roomy′ far =
     (iter-same tag s h (ok .short) (a .inside))
     λ c e₃.
     let w : first tag h ≡ c = cc in
-    subst (λ (x : ItemIter). Same (_>>=_ (tour n (iterShown s x) (finderShown s σ)) (λ (it, f). find f i)) (unlinked s (then (turns s n x σ) λ (d, τ). findOf s τ (indexIn tag i)))) w
-    (bind-same (tour n (iterShown s (first tag h)) (finderShown s σ)) (turns s n (first tag h) σ) (standing s) (λ (it, f). find f i) (λ (d, τ). findOf s τ (indexIn tag i))
+    subst (λ (x : ItemIter). Same (_>>=_ (tour n (iterShown s x) (finderShown s σ)) (λ (it, f). finder-find f i)) (unlinked s (then (turns s n x σ) λ (d, τ). findOf s τ (indexIn tag i)))) w
+    (bind-same (tour n (iterShown s (first tag h)) (finderShown s σ)) (turns s n (first tag h) σ) (standing s) (λ (it, f). finder-find f i) (λ (d, τ). findOf s τ (indexIn tag i))
     (unlinked s) (unlinked-numbered s)
     (tour-same s (h .«minimum_index») n lim n 0 (first tag h) σ (omega arith) stand (record { above = omega arith; upto = omega arith }) g (roomy-first (turns s n (first tag h) σ) _ r₂))
     λ x e₄. found h lim x (grown-turns s (h .«minimum_index») n lim n 0 (first tag h) σ (x .0) (x .1) (omega arith) g e₄)))
   where
     found : (h : Header) → h .«minimum_index» + 8 * (1 + n) < 4294967296 → (x : ItemIter × State) → Grown (h .«minimum_index») n (x .1)
-        → Same (find (finderShown s (x .1)) i) (unlinked s (findOf s (x .1) (indexIn tag i)))
+        → Same (finder-find (finderShown s (x .1)) i) (unlinked s (findOf s (x .1) (indexIn tag i)))
     found h lim x g =
-        subst (λ (m : ℕ). Same (find (finderShown s (x .1)) m) (unlinked s (findOf s (x .1) (indexIn tag i)))) (number-in tag i)
+        subst (λ (m : ℕ). Same (finder-find (finderShown s (x .1)) m) (unlinked s (findOf s (x .1) (indexIn tag i)))) (number-in tag i)
         (find-same s (x .1) (record { short = ok .short; shift = omega (arith, g .shift); held = g .claim }) (omega (arith, g .held, eightfold (x .1) (g .shift))) (indexIn tag i)
         (omega (arith, g .held, g .minimum, eightfold (x .1) (g .shift))))

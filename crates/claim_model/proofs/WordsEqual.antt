@@ -16,13 +16,13 @@ use Rattle.answer.specs.Answer.{Answer, answered, pick, then}
 use Rattle.answer.specs.Tables.{find, among}
 use Rattle.word_attributes.specs.Bits.{bit, bits}
 use Rattle.word_attributes.specs.Words.{methodProperty, introducing}
-use Rattle.word_attributes.specs.Pointers.{pointerKinds, pointerModes, good, kindOf, modeOf, toMember, isReference, toMemberOf, referenceOf, kindSize, sizeOf}
+use Rattle.word_attributes.specs.Pointers.{pointerKinds, pointerModes, goodOr12, kindOf, modeOf, toMember, isReference, toMemberOf, referenceOf, pointerKindSize, sizeOf}
 use Rattle.word_attributes.specs.declared.PointerKind.{PointerKind}
 use Rattle.word_attributes.specs.declared.PointerKind.the-variants.{Near16, Far16, Huge16, BaseSeg, BaseVal, BaseSegVal, BaseAddr, BaseSegAddr, BaseType, BaseSelf, Near32, Far32, Ptr64}
 use Rattle.word_attributes.specs.declared.PointerMode.{PointerMode}
 use Rattle.word_attributes.specs.declared.PointerMode.the-variants.{Pointer, LValueReference, Member, MemberFunction, RValueReference}
-use Rattle.claim_model.specs.Rust.{Rust, gives, errs, panics, wraps, _>>=_, if, not, or, match, as-u8}
-use Rattle.claim_model.specs.TpiWords.{set, packed, constructors, overloaded-operators, is-nested-type, contains-nested-types, overloaded-assignment, overloaded-casting, forward-reference, scoped-definition, has-unique-name, sealed, intrinsic-type, hfa, mocom, access, method-properties, is-static, is-virtual, is-pure-virtual, is-intro-virtual, calling-convention, cxx-return-udt, is-constructor, is-constructor-with-virtual-bases, kind-arms, pointer-kind, mode-arms, pointer-mode, of-member, pointer-to-member, is-flat-32, is-volatile, is-const, is-unaligned, is-restrict, is-mocom, of-reference, is-reference, size-by-kind, pointer-size}
+use Rattle.claim_model.specs.Rust.{Rust, gives, errs, panics, wraps, _>>=_, if, not, or-else, match, as-u8}
+use Rattle.claim_model.specs.TpiWords.{set, packed, constructors, overloaded-operators, is-nested-type, contains-nested-types, overloaded-assignment, overloaded-casting, forward-reference, scoped-definition, has-unique-name, sealed, intrinsic-type, hfa, mocom, access, method-properties, is-static, is-virtual, is-pure-virtual, is-intro-virtual, calling-convention, cxx-return-udt, is-constructor, is-constructor-with-virtual-bases, pointer-kind-arms, pointer-kind, mode-arms, pointer-mode, of-member, pointer-to-member, is-flat-32, is-volatile, is-const, is-unaligned, is-restrict, is-mocom, of-reference, is-reference, size-by-kind, pointer-size}
 use Rattle.claim_model.specs.Equal.{Replaced, Excepted}
 use Rattle.claim_model.proofs.Agree.{agree}
 
@@ -118,7 +118,7 @@ pub methods : (w : ℕ)
 unfolding introducing among
 methods w = rw (method-properties-is w) (ap (λ (b : Bool). eqb (methodProperty w) 2 ∷ eqb (methodProperty w) 1 ∷ eqb (methodProperty w) 5 ∷ b ∷ []) (either (eqb (methodProperty w) 4) (eqb (methodProperty w) 6)))
   where
-    either : (a b : Bool) → or a b ≡ pick a true (pick b true false)
+    either : (a b : Bool) → or-else a b ≡ pick a true (pick b true false)
     either true b = refl
     either false true = refl
     either false false = refl
@@ -149,13 +149,13 @@ abbrev found : {A : Type 0} → Option A → Rust A
 found none = panics
 found (some a) = gives a
 
-good-is : {A : Type 0} (o : Option A) → Replaced (found o) (good o)
+good-is : {A : Type 0} (o : Option A) → Replaced (found o) (goodOr12 o)
 good-is none = refl
 good-is (some a) = refl
 
-kinds-agree : (b : ℕ) → b < 32 → match b kind-arms panics ≡ found (find b pointerKinds)
-unfolding match find kind-arms pointerKinds
-kinds-agree = agree (λ b. match b kind-arms panics) (λ b. found (find b pointerKinds)) 32 refl
+kinds-agree : (b : ℕ) → b < 32 → match b pointer-kind-arms panics ≡ found (find b pointerKinds)
+unfolding match find pointer-kind-arms pointerKinds
+kinds-agree = agree (λ b. match b pointer-kind-arms panics) (λ b. found (find b pointerKinds)) 32 refl
 
 modes-agree : (b : ℕ) → b < 8 → match b mode-arms panics ≡ found (find b pointerModes)
 unfolding match find mode-arms pointerModes
@@ -206,7 +206,7 @@ pub size-is : (w : ℕ) → Replaced (pointer-size w) (sizeOf w)
 unfolding pointer-size sizeOf
 size-is w = rw (low-field 6 (w / 8192) (omega arith)) (go (eqb (bits 13 18 w) 0))
   where
-    each : (k : PointerKind) → size-by-kind k ≡ kindSize k
+    each : (k : PointerKind) → size-by-kind k ≡ pointerKindSize k
     each Near16 = refl
     each Far16 = refl
     each Huge16 = refl
@@ -221,6 +221,6 @@ size-is w = rw (low-field 6 (w / 8192) (omega arith)) (go (eqb (bits 13 18 w) 0)
     each Far32 = refl
     each Ptr64 = refl
 
-    go : (b : Bool) → Replaced (if (not b) (gives (bits 13 18 w)) (_>>=_ (pointer-kind w) λ k. gives (size-by-kind k))) (pick b (then (kindOf w) (λ k. answered (kindSize k))) (answered (bits 13 18 w)))
-    go true = worked (pointer-kind w) (kindOf w) size-by-kind kindSize each (kind-is w)
+    go : (b : Bool) → Replaced (if (not b) (gives (bits 13 18 w)) (_>>=_ (pointer-kind w) λ k. gives (size-by-kind k))) (pick b (then (kindOf w) (λ k. answered (pointerKindSize k))) (answered (bits 13 18 w)))
+    go true = worked (pointer-kind w) (kindOf w) size-by-kind pointerKindSize each (kind-is w)
     go false = refl

@@ -14,7 +14,7 @@ use Rattle.stream_finder.specs.Finder.{State, createOf, updateOf, Found, findOf
 use Rattle.claim_model.specs.Rust.{Rust, gives, errs, panics, wraps, _>>=_}
 use Rattle.claim_model.specs.ParseBuffer.{if-some}
 use Rattle.claim_model.specs.TpiHeader.{ItemInformation, parse-information}
-use Rattle.claim_model.specs.TpiItems.{Item, ItemIter as CrateIter, ItemFinder as CrateFinder, iter, finder, next, update, find}
+use Rattle.claim_model.specs.TpiItems.{Item, ItemIter as CrateIter, ItemFinder as CrateFinder, iter, finder, next, update, finder-find}
 use Rattle.claim_model.specs.Equal.{Equal}
 use Rattle.claim_model.specs.Shown.{unlinked, Roomy}
 use Rattle.claim_model.specs.Run.{Lent}
@@ -34,7 +34,7 @@ crateBehind panics = panics
 crateBehind wraps = wraps
 
 unfoldable pub crateUses : ItemInformation → ℕ → List Action → List (Option CrateIter) → CrateFinder → Rust Item
-crateUses info i [] its f = find f i
+crateUses info i [] its f = finder-find f i
 crateUses info i (begins ∷ acts) its f = do
   it ← iter info
   crateUses info i acts (some it ∷ its) f

@@ -13,7 +13,7 @@ use Rattle.answer.specs.Answer.{answered}
 use Rattle.field.specs.declared.index.TypeIndex.{TypeIndex}
 use Rattle.field.specs.declared.index.IdIndex.{IdIndex}
 use Rattle.field.specs.Fields.{littleAt}
-use Rattle.field.specs.Indices.{noType, noId, optionalAt, numberIn}
+use Rattle.field.specs.Indices.{noType, noId, optionalAt, indexNumber}
 use Rattle.field_text.specs.Texts.{stringOf, paddingAfter}
 use Rattle.word_primitive.specs.Primitive.{primitiveOf}
 use Rattle.word_attributes.specs.Bits.{bit, bits}
@@ -22,7 +22,7 @@ use Rattle.word_attributes.specs.Pointers.{kindOf, modeOf, toMemberOf, referenc
 use Rattle.stream_header.specs.Header.{longest, headerOf}
 use Rattle.stream_item.specs.Items.{indexOf, lengthOf}
 use Rattle.stream_item.specs.Iterator.{iterOf, nextOf}
-use Rattle.stream_view.specs.Views.{named, rawKindOf}
+use Rattle.stream_view.specs.Views.{streamNamed, rawKindOf}
 use Rattle.stream_item.specs.Information.{lenOf, isEmptyOf}
 use Rattle.field.specs.declared.index.Stream.{Stream}
 use Rattle.field.specs.declared.index.Stream.the-variants as stream
@@ -37,17 +37,17 @@ use Rattle.record_id.specs.Said.{saidIdData}
 use Rattle.record_parse.specs.Record.{parseOf}
 use Rattle.record_list.specs.Lists.{elementOf}
 use Rattle.record_id.specs.declared.IdAnswer.{IdAnswer}
-use Rattle.claim_model.specs.Rust.{gives, _>>=_, usize}
+use Rattle.claim_model.specs.Rust.{gives, _>>=_, usize-top}
 use Rattle.claim_model.specs.ParseBuffer.{at, Bytes}
 use Rattle.claim_model.specs.TpiHeader.{parse-information}
-use Rattle.claim_model.specs.TpiItems.{iter, finder, next, update, max-index, find, item-len, item-is-empty, raw-kind, information-len, information-is-empty}
+use Rattle.claim_model.specs.TpiItems.{iter, finder, next, update, max-index, finder-find, item-len, item-is-empty, raw-kind, information-len, information-is-empty}
 use Rattle.claim_model.specs.TpiPrimitive.{type-data-for-primitive}
 use Rattle.claim_model.specs.TpiWords.{packed, constructors, overloaded-operators, is-nested-type, contains-nested-types, overloaded-assignment, overloaded-casting, forward-reference, scoped-definition, has-unique-name, sealed, intrinsic-type, hfa, mocom, access, method-properties, is-static, is-virtual, is-pure-virtual, is-intro-virtual, calling-convention, cxx-return-udt, is-constructor, is-constructor-with-virtual-bases, is-flat-32, is-volatile, is-const, is-unaligned, is-restrict, is-mocom, pointer-kind, pointer-mode, pointer-to-member, is-reference, pointer-size}
 use Rattle.claim_model.specs.TpiHelpers.{parse-optional-type-index, parse-optional-id-index, parse-string, parse-padding, is-cross-module}
 use Rattle.claim_model.specs.TpiId.{parse-id}
 use Rattle.claim_model.specs.Equal.{Equal, Same, Replaced, Excepted, Stepwise, shownBy}
-use Rattle.claim_model.specs.Shown.{information, iterShown, nextShown, finderShown, entryShown, unlinked, Roomy, CanStand, readShown, textShown, primitiveShown, idShown, idAnswerShown, Within}
-use Rattle.claim_model.specs.EntryShown.{listed, asElement, asId, asPrimitive}
+use Rattle.claim_model.specs.Shown.{information, iterShown, nextShown, finderShown, entryShown, unlinked, Roomy, CanStand, readShown, textShown, primitiveShown, idShown, idAnswerShown, LiesIn}
+use Rattle.claim_model.specs.EntryShown.{vecOf, asElement, asId, primitiveParsed}
 use Rattle.claim_model.specs.Run.{Lent, RunsEqual, RunsSame}
 use Rattle.claim_model.specs.Course.{CoursesEqual}
 
@@ -65,17 +65,17 @@ pub record Demand2 : Type 0 where
   pub starts : (tag : Stream) (s : List ℕ) → Lent s → Same (_>>=_ (parse-information s) iter) (shownBy (iterShown s) (iterOf tag s))
   pub steps : (s : List ℕ) (c : ItemIter) → CanStand s c → Stepwise (nextShown s c) (next (iterShown s c)) (nextOf s c)
   -- an item's length and raw kind; "`raw_kind` of fewer than two bytes is 1", where the crate panics
-  pub lengths : (s : List ℕ) (e : Entry) → Within s e → item-len (entryShown s e) ≡ lengthOf e
-  pub none-long : (s : List ℕ) (e : Entry) → Within s e → item-is-empty (entryShown s e) ≡ eqb (lengthOf e) 0
-  pub raw-kinds : (t p : List ℕ) → Lent t → Lent p → (e : Entry) → Within (named t p (indexOf e)) e
-      → Equal (raw-kind (entryShown (named t p (indexOf e)) e)) (rawKindOf t p e)
-  -- "Finder": a fresh finder of a stream, whose shift is 3 in both; and `update`, `find` and `max_index` for any places held in a table that does not
+  pub lengths : (s : List ℕ) (e : Entry) → LiesIn s e → item-len (entryShown s e) ≡ lengthOf e
+  pub none-long : (s : List ℕ) (e : Entry) → LiesIn s e → item-is-empty (entryShown s e) ≡ eqb (lengthOf e) 0
+  pub raw-kinds : (t p : List ℕ) → Lent t → Lent p → (e : Entry) → LiesIn (streamNamed t p (indexOf e)) e
+      → Equal (raw-kind (entryShown (streamNamed t p (indexOf e)) e)) (rawKindOf t p e)
+  -- "Finder": a fresh finder of a stream, whose shift is 3 in both; and `update`, `finder-find` and `max_index` for any places held in a table that does not
   -- lack room, the crate's finder having the port's shift, from 0 to 6; the places fit a u32 times the block
   pub creations : (s t : List ℕ) → Lent s → Roomy (createOf s t) → Same (_>>=_ (parse-information s) finder) (shownBy (finderShown s) (createOf s t))
   pub updates : (s : List ℕ) (σ : State) (c : ItemIter) → c .at ≤ longest → σ .finder .shift ≤ 6 → σ .finder .held ≤ length (σ .table) → Roomy (updateOf σ c)
       → Equal (update (finderShown s σ) (iterShown s c)) (shownBy (finderShown s) (updateOf σ c))
   pub lookups : (s : List ℕ) (σ : State) → Ready s σ → σ .finder .held * blockOf (σ .finder) < 4294967296 → (i : ItemIndex)
-      → Equal (find (finderShown s σ) (numberIn i)) (unlinked s (findOf s σ i))
+      → Equal (finder-find (finderShown s σ) (indexNumber i)) (unlinked s (findOf s σ i))
   pub highest : (s : List ℕ) (σ : State) → σ .finder .shift ≤ 6 → σ .finder .held ≤ length (σ .table) → σ .finder .held * blockOf (σ .finder) < 4294967296
       → Equal (max-index (finderShown s σ)) (answered (maxIndexOf (σ .finder)))
   -- from the header to a lookup, n turns of `next` and `update` between; and how far the domain reaches: minimum + 8 (n + 1) below 2 ^ 32
@@ -115,16 +115,16 @@ pub record Demand2 : Type 0 where
   pub references : (w : ℕ) → Replaced (is-reference w) (referenceOf w)
   pub pointer-sizes : (w : ℕ) → Replaced (pointer-size w) (sizeOf w)
   -- "Strings, padding": a string by its leaf and padding, at any place within the bytes
-  pub strings : (s : List ℕ) → length s < usize → (p : ℕ) → p ≤ length s → (leaf : ℕ) → Same (parse-string leaf (at s p)) (shownBy (textShown s) (stringOf leaf s p))
+  pub strings : (s : List ℕ) → length s < usize-top → (p : ℕ) → p ≤ length s → (leaf : ℕ) → Same (parse-string leaf (at s p)) (shownBy (textShown s) (stringOf leaf s p))
   pub paddings : (s : List ℕ) → Bytes s → (p : ℕ) → p ≤ length s → Same (parse-padding (at s p)) (shownBy (at s) (paddingAfter s p))
   -- "Ids": all bytes of an id record, all seven leaves, and 10 with the leaf for every other; and what the port's `id_data` answers by its contract
-  pub ids : (s : List ℕ) → length s < usize → Same (parse-id s) (shownBy (idShown s) (recordOf idLeaves s))
-  pub id-data : (s : List ℕ) → length s < usize → (r : IdAnswer) → saidIdData r ≡ recordOf idLeaves s → Same (parse-id s) (idAnswerShown s r)
+  pub ids : (s : List ℕ) → length s < usize-top → Same (parse-id s) (shownBy (idShown s) (recordOf idLeaves s))
+  pub id-data : (s : List ℕ) → length s < usize-top → (r : IdAnswer) → saidIdData r ≡ recordOf idLeaves s → Same (parse-id s) (idAnswerShown s r)
   -- "A type item below 0x1000 is read as a primitive; .. every id item by its bytes, the marker's giving 10 with 0xffff"
   pub type-items : (t p : List ℕ) → Lent t → Lent p → (e : Entry) (j : TypeIndex) → indexOf e ≡ index.Types j → j .0 < 0x1000
-      → Same (type-data-for-primitive (j .0)) (asPrimitive (parseOf t p e))
-  pub id-items : (t p : List ℕ) → Lent t → Lent p → (e : Entry) (j : IdIndex) → indexOf e ≡ index.Ids j → Within p e
+      → Same (type-data-for-primitive (j .0)) (primitiveParsed (parseOf t p e))
+  pub id-items : (t p : List ℕ) → Lent t → Lent p → (e : Entry) (j : IdIndex) → indexOf e ≡ index.Ids j → LiesIn p e
       → Same (parse-id (entryShown p e .bytes)) (asId (entryShown p e .bytes) (parseOf t p e))
   -- "`Vec` lists become a place and a count, or the reader": element k of the two counted id lists is the crate's, 15 where its `Vec` has none
-  pub build-arguments : (s : List ℕ) → littleAt 2 s 0 ≡ 0x1603 → (k : ℕ) → Same (_>>=_ (parse-id s) λ d. gives (getElem? (listed d) k)) (asElement (elementOf stream.Ids s k))
-  pub substrings : (s : List ℕ) → littleAt 2 s 0 ≡ 0x1604 → (k : ℕ) → Same (_>>=_ (parse-id s) λ d. gives (getElem? (listed d) k)) (asElement (elementOf stream.Ids s k))
+  pub build-arguments : (s : List ℕ) → littleAt 2 s 0 ≡ 0x1603 → (k : ℕ) → Same (_>>=_ (parse-id s) λ d. gives (getElem? (vecOf d) k)) (asElement (elementOf stream.Ids s k))
+  pub substrings : (s : List ℕ) → littleAt 2 s 0 ≡ 0x1604 → (k : ℕ) → Same (_>>=_ (parse-id s) λ d. gives (getElem? (vecOf d) k)) (asElement (elementOf stream.Ids s k))

@@ -18,20 +18,20 @@ asId b (answered (primitive p)) = refused 0 []
 asId b (answered (type vs)) = refused 0 []
 asId b (refused n d) = refused n d
 
-abbrev pub asPrimitive : Answer Parsed → Answer PrimitiveType
-asPrimitive (answered (primitive p)) = answered (primitiveShown p)
-asPrimitive (answered (type vs)) = refused 0 []
-asPrimitive (answered (id vs)) = refused 0 []
-asPrimitive (refused n d) = refused n d
+abbrev pub primitiveParsed : Answer Parsed → Answer PrimitiveType
+primitiveParsed (answered (primitive p)) = answered (primitiveShown p)
+primitiveParsed (answered (type vs)) = refused 0 []
+primitiveParsed (answered (id vs)) = refused 0 []
+primitiveParsed (refused n d) = refused n d
 
 -- the crate's `Vec` of an id list
-abbrev pub listed : IdData → List ℕ
-listed (BuildInfo l) = l
-listed (StringList l) = l
-listed (Function r) = []
-listed (MemberFunction r) = []
-listed (String r) = []
-listed (UserDefinedTypeSource r) = []
+abbrev pub vecOf : IdData → List ℕ
+vecOf (BuildInfo l) = l
+vecOf (StringList l) = l
+vecOf (Function r) = []
+vecOf (MemberFunction r) = []
+vecOf (String r) = []
+vecOf (UserDefinedTypeSource r) = []
 
 -- an element's number; 15 is `None`
 abbrev pub elementNumber : ElementValues → ℕ

@@ -37,15 +37,15 @@ Equal panics a = Unit
 Equal wraps a = Unit
 
 -- the crate neither panics nor wraps
-abbrev pub Stays : {A : Type 0} → Rust A → Type 0
-Stays (gives v) = Unit
-Stays (errs e) = Unit
-Stays panics = ⊥
-Stays wraps = ⊥
+abbrev pub StaysInDomain : {A : Type 0} → Rust A → Type 0
+StaysInDomain (gives v) = Unit
+StaysInDomain (errs e) = Unit
+StaysInDomain panics = ⊥
+StaysInDomain wraps = ⊥
 
 -- the crate stays in the domain, and the answers are the same
 pub record Same {A : Type 0} (r : Rust A) (a : Answer A) : Type 0 where
-  pub stays : Stays r
+  pub stays : StaysInDomain r
   pub equal : Equal r a
 
 -- an answer's value shown as another

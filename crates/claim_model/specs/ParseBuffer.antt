@@ -6,7 +6,7 @@ use mathlib.Core.Option.{Option, none, some}
 use lib.ListN.{length, getD, take as front, drop}
 use lib.Dec.{leb, eqb}
 use Rattle.field.specs.Fields.{littleAt}
-use Rattle.claim_model.specs.Rust.{Rust, gives, errs, _>>=_, _>>_, if, assert, fits, lessens, UnexpectedEof, usize}
+use Rattle.claim_model.specs.Rust.{Rust, gives, errs, if, assert, fits-below, lessens, UnexpectedEof, usize-top, _>>=_, _>>_}
 
 -- 685: struct ParseBuffer<'b>(&'b [u8], usize)
 pub record ParseBuffer : Type 0 where
@@ -19,7 +19,7 @@ at s p = record { bytes = s; pos = p }
 -- what a `&[u8]` is: its bytes are below 256, its length is a usize
 pub record Bytes (s : List ℕ) : Type 0 where
   pub bytes : (i : ℕ) → getD s i 0 < 256
-  pub sized : length s < usize
+  pub sized : length s < usize-top
 
 -- 825: fn from(buf: &'b [u8]) -> Self
 abbrev pub from : List ℕ → ParseBuffer
@@ -52,7 +52,7 @@ take buf n = do
   assert (leb (buf .pos) (length (buf .bytes)))  -- 814
   let input = drop (buf .pos) (buf .bytes)
   if (leb n (length input)) (do  -- 815
-    pos ← fits usize (buf .pos + n)  -- 816
+    pos ← fits-below usize-top (buf .pos + n)  -- 816
     gives (front n input, at (buf .bytes) pos)) (errs UnexpectedEof)  -- 817, 819
 
 -- one place further on
@@ -77,7 +77,7 @@ parse-cstring buf = do
   let input = drop (buf .pos) (buf .bytes)
   let null-idx = position input  -- 794
   if-some null-idx (λ idx. do  -- 796
-    pos ← fits usize (buf .pos + (idx + 1))  -- 797
+    pos ← fits-below usize-top (buf .pos + (idx + 1))  -- 797
     gives (front idx input, at (buf .bytes) pos)) (errs UnexpectedEof)  -- 798, 800
 
 -- 806

@@ -15,7 +15,7 @@ use Rattle.stream_finder.specs.Finder.{State, createOf, updateOf, Found, findOf
 use Rattle.claim_model.specs.Rust.{Rust, _>>=_}
 use Rattle.claim_model.specs.ParseBuffer.{Bytes}
 use Rattle.claim_model.specs.TpiHeader.{parse-information}
-use Rattle.claim_model.specs.TpiItems.{Item, iter, finder, tour, find}
+use Rattle.claim_model.specs.TpiItems.{Item, iter, finder, tour, finder-find}
 use Rattle.claim_model.specs.Equal.{Equal, Same}
 use Rattle.claim_model.specs.Shown.{unlinked, Roomy}
 
@@ -25,7 +25,7 @@ crateRun s n i = do
   type-finder ← finder info
   types ← iter info
   (types, type-finder) ← tour n types type-finder
-  find type-finder i
+  finder-find type-finder i
 
 -- what follows a step: nothing after the end; after a record, the update with the cursor behind it, and the rest
 abbrev pub followed : ItemIter → State → (ItemIter → State → Answer (ItemIter × State)) → Next → Answer (ItemIter × State)

@@ -49,8 +49,8 @@ not b = if b false true
 abbrev pub and : Bool → Bool → Bool
 and a b = if a b false
 
-abbrev pub or : Bool → Bool → Bool
-or a b = if a true b
+abbrev pub or-else : Bool → Bool → Bool
+or-else a b = if a true b
 
 -- `if b { return Err(e); }`
 abbrev pub errIf : Bool → Error → Rust (Unit {0})
@@ -75,8 +75,8 @@ match n [] other = other
 match n ((k is a) ∷ arms) other = if (eqb n k) a (match n arms other)
 
 -- a sum that fits below the top of its type, or a wrap
-abbrev pub fits : ℕ → ℕ → Rust ℕ
-fits top n = if (ltb n top) (gives n) wraps
+abbrev pub fits-below : ℕ → ℕ → Rust ℕ
+fits-below top n = if (ltb n top) (gives n) wraps
 
 -- a difference that is not below zero, or a wrap
 abbrev pub lessens : ℕ → ℕ → Rust ℕ
@@ -89,8 +89,8 @@ as-u8 n = n % 256
 abbrev pub as-u32 : ℕ → ℕ
 as-u32 n = n % 4294967296
 
-abbrev pub u32 : ℕ
-u32 = 4294967296
+abbrev pub u32-top : ℕ
+u32-top = 4294967296
 
-abbrev pub usize : ℕ
-usize = 18446744073709551616
+abbrev pub usize-top : ℕ
+usize-top = 18446744073709551616

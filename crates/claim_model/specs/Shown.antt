@@ -8,7 +8,7 @@ use lib.Dec.{eqb}
 use Rattle.answer.specs.Answer.{Answer, answered, refused, Got, pick}
 use Rattle.field.specs.Fields.{littleAt}
 use Rattle.field_text.specs.Texts.{Part}
-use Rattle.field.specs.Indices.{numberIn as indexShown, idOption}
+use Rattle.field.specs.Indices.{indexNumber as indexShown, idOption}
 use Rattle.stream_item.specs.Iterator.{Next, done, yielded}
 use Rattle.stream_item.specs.declared.Item.{Item as PortItem}
 use Rattle.stream_item.specs.declared.Entry.{Entry}
@@ -110,9 +110,9 @@ pub record CanStand (s : List ℕ) (c : PortIter) : Type 0 where
   pub index : c .index ≤ 4294967295
 
 -- an item lies in its stream, as a slice of it does
-abbrev pub Within : List ℕ → Entry → Type 0
-Within s (Record i) = i .place + i .length ≤ length s
-Within s (Marker i) = Unit
+abbrev pub LiesIn : List ℕ → Entry → Type 0
+LiesIn s (Record i) = i .place + i .length ≤ length s
+LiesIn s (Marker i) = Unit
 
 -- ---- primitives
 -- the port's Direct is the crate's None
@@ -135,8 +135,8 @@ unfoldable pub elements : ℕ → List ℕ → ℕ → List ℕ
 elements zero s p = []
 elements (suc n) s p = littleAt 4 s p ∷ elements n s (p + 4)
 
-abbrev pub textIn : List ℕ → Shown → List ℕ
-textIn s v = front (stringIn v .length) (drop (stringIn v .place) s)
+abbrev pub textOfName : List ℕ → Shown → List ℕ
+textOfName s v = front (stringIn v .length) (drop (stringIn v .place) s)
 
 abbrev pub elementsIn : List ℕ → Shown → Shown → List ℕ
 elementsIn s count v = elements (numberIn count) s (stringIn v .place)
@@ -148,11 +148,11 @@ idShown s vs =
     let a = nth 1 vs in
     let b = nth 2 vs in
     let c = nth 3 vs in
-    pick (eqb leaf 0x1601) (Function (record { scope = optionIn a; function-type = numberIn b; name = textIn s c }))
-    (pick (eqb leaf 0x1602) (MemberFunction (record { parent = numberIn a; function-type = numberIn b; name = textIn s c }))
+    pick (eqb leaf 0x1601) (Function (record { scope = optionIn a; function-type = numberIn b; name = textOfName s c }))
+    (pick (eqb leaf 0x1602) (MemberFunction (record { parent = numberIn a; function-type = numberIn b; name = textOfName s c }))
     (pick (eqb leaf 0x1603) (BuildInfo (elementsIn s a b))
     (pick (eqb leaf 0x1604) (StringList (elementsIn s a b))
-    (pick (eqb leaf 0x1605) (String (record { substrings = optionIn a; name = textIn s b }))
+    (pick (eqb leaf 0x1605) (String (record { substrings = optionIn a; name = textOfName s b }))
     (pick (eqb leaf 0x1606) (UserDefinedTypeSource (record { udt = numberIn a; source-file = Local (numberIn b); line = numberIn c }))
     (UserDefinedTypeSource (record { udt = numberIn a; source-file = Remote (numberIn (nth 4 vs)) (numberIn b); line = numberIn c })))))))
 

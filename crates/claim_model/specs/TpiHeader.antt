@@ -5,7 +5,7 @@ use lib.IntN.{ℤ}
 use lib.Dec.{ltb, eqb}
 use mir.Syntax.{w32}
 use mir.Val.{toZ}
-use Rattle.claim_model.specs.Rust.{Rust, gives, _>>=_, _>>_, if, assert, errIf, lessens, as-u32, InvalidTypeInformationHeader, impossibly-small, unreasonably-large, minimum-low, maximum-low}
+use Rattle.claim_model.specs.Rust.{Rust, gives, if, assert, errIf, lessens, as-u32, InvalidTypeInformationHeader, impossibly-small, unreasonably-large, minimum-low, maximum-low, _>>=_, _>>_}
 use Rattle.claim_model.specs.ParseBuffer.{ParseBuffer, from, is-empty, parse, take}
 
 -- 12

@@ -6,14 +6,14 @@ use mathlib.Core.Option.{Option, none, some}
 use lib.ListN.{length}
 use lib.Bits.{bitAnd}
 use lib.Dec.{ltb, leb, eqb}
-use Rattle.claim_model.specs.Rust.{Rust, gives, panics, _>>=_, if, not, or, lessens}
+use Rattle.claim_model.specs.Rust.{Rust, gives, panics, if, not, or-else, lessens, _>>=_}
 use Rattle.claim_model.specs.ParseBuffer.{ParseBuffer, is-empty, parse, peek, take, parse-cstring, parse-u8-pascal-string}
 
 -- data.rs 439
 unfoldable pub parse-optional-type-index : ParseBuffer → Rust (Option ℕ × ParseBuffer)
 parse-optional-type-index buf = do
   (index, buf) ← parse 4 buf  -- 440
-  if (or (eqb index 0) (eqb index 0xffff)) (gives (none, buf)) (gives (some index, buf))  -- 441, 442, 444
+  if (or-else (eqb index 0) (eqb index 0xffff)) (gives (none, buf)) (gives (some index, buf))  -- 441, 442, 444
 
 -- id.rs 7
 unfoldable pub parse-optional-id-index : ParseBuffer → Rust (Option ℕ × ParseBuffer)

@@ -4,7 +4,7 @@ use mathlib.Core.List.{List, [], _∷_, _++_}
 use mathlib.Core.Option.{Option}
 use lib.Dec.{eqb}
 use Rattle.answer.specs.Tables.{_is_}
-use Rattle.claim_model.specs.Rust.{Rust, gives, errs, _>>=_, if, match, UnimplementedTypeKind}
+use Rattle.claim_model.specs.Rust.{Rust, gives, errs, if, match, UnimplementedTypeKind, _>>=_}
 use Rattle.claim_model.specs.ParseBuffer.{ParseBuffer, from, parse}
 use Rattle.claim_model.specs.TpiHelpers.{parse-optional-id-index, parse-string}
 

@@ -7,7 +7,7 @@ use mathlib.Core.Option.{Option, none, some}
 use lib.ListN.{length, getD, getElem?}
 use lib.Bits.{bitAnd, bitOr}
 use lib.Dec.{leb, ltb, eqb}
-use Rattle.claim_model.specs.Rust.{Rust, gives, errs, _>>=_, _>>_, if, and, assert, errIf, expect, fits, lessens, as-u32, u32, TypeTooShort, TypeNotFound, TypeNotIndexed}
+use Rattle.claim_model.specs.Rust.{Rust, gives, errs, if, and, assert, errIf, expect, fits-below, lessens, as-u32, u32-top, TypeTooShort, TypeNotFound, TypeNotIndexed, _>>=_, _>>_}
 use Rattle.claim_model.specs.ParseBuffer.{ParseBuffer, from, is-empty, parse, take, if-some}
 use Rattle.claim_model.specs.TpiHeader.{ItemInformation}
 
@@ -71,7 +71,7 @@ unfoldable pub new : ItemInformation → ℕ → Rust ItemFinder
 new info shift = do
   count ← lessens (info .header .maximum-index) (info .header .minimum-index)  -- 328
   let round-base = 2 ^ shift - 1  -- 330
-  sum ← fits u32 (count + round-base)  -- 331
+  sum ← fits-below u32-top (count + round-base)  -- 331
   let shifted-count = bitAnd sum (4294967295 - round-base) / 2 ^ shift
   let positions = if (ltb 0 shifted-count) (info .header .header-size ∷ []) []  -- 332, 334, 336
   gives (record {
@@ -96,7 +96,7 @@ resolve self type-index = do
 unfoldable pub max-index : ItemFinder → Rust ℕ
 max-index self =
     if (eqb (length (self .positions)) 0) (gives 0) (do  -- 370
-      sum ← fits u32 (as-u32 (length (self .positions) * 2 ^ self .shift) + self .minimum-index)  -- 371
+      sum ← fits-below u32-top (as-u32 (length (self .positions) * 2 ^ self .shift) + self .minimum-index)  -- 371
       lessens sum 1)
 
 -- 380
@@ -138,8 +138,8 @@ miss self index = do
   errs (TypeNotIndexed index top)
 
 -- 396
-unfoldable pub find : ItemFinder → ℕ → Rust Item
-find self index =
+unfoldable pub finder-find : ItemFinder → ℕ → Rust Item
+finder-find self index =
     if (ltb index (self .minimum-index)) (gives (record { index = index; bytes = PRIMITIVE-TYPE })) (do  -- 398, 399
       errIf (ltb (self .maximum-index) index) (TypeNotFound index)  -- 403, 404
       (vec-index, iteration-count) ← resolve self index  -- 408
@@ -154,7 +154,7 @@ next self = do
     (length, buf) ← parse 2 (self .buf)  -- 464
     errIf (ltb length 2) TypeTooShort  -- 467, 469
     (type-buf, buf) ← take buf length  -- 473
-    index ← fits u32 (self .index + 1)  -- 476
+    index ← fits-below u32-top (self .index + 1)  -- 476
     gives (some (record { index = self .index; bytes = type-buf }), record { buf = buf; index = index }))  -- 474, 479
 
 -- 73 to 76, the use that the page shows, for at most n records: while let Some(typ) = iter.next()? { type_finder.update(&iter); .. }

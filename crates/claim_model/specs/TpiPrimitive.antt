@@ -10,7 +10,7 @@ use Rattle.word_primitive.specs.declared.PrimitiveKind.{PrimitiveKind}
 use Rattle.word_primitive.specs.declared.PrimitiveKind.the-variants.{NoType, Void, Char, UChar, RChar, WChar, RChar16, RChar32, I8, U8, Short, UShort, I16, U16, Long, ULong, I32, U32, Quad, UQuad, I64, U64, Octa, UOcta, I128, U128, F16, F32, F32PP, F48, F64, F80, F128, Complex32, Complex64, Complex80, Complex128, Bool8, Bool16, Bool32, Bool64, HRESULT}
 use Rattle.word_primitive.specs.declared.Indirection.{Indirection}
 use Rattle.word_primitive.specs.declared.Indirection.the-variants.{Near16, Far16, Huge16, Near32, Far32, Near64, Near128}
-use Rattle.claim_model.specs.Rust.{Rust, gives, errs, _>>=_, _>>_, assert, match, TypeNotFound}
+use Rattle.claim_model.specs.Rust.{Rust, gives, errs, assert, match, TypeNotFound, _>>=_, _>>_}
 
 -- 27
 pub record PrimitiveType : Type 0 where
@@ -31,8 +31,8 @@ indirection-arms =
     ∷ []
 
 -- 214 to 265
-unfoldable pub kind-arms : List (Line (Rust PrimitiveKind))
-kind-arms =
+unfoldable pub primitive-kind-arms : List (Line (Rust PrimitiveKind))
+primitive-kind-arms =
     (0x00 is gives NoType)  -- 214
     ∷ (0x03 is gives Void)  -- 216
     ∷ (0x08 is gives HRESULT)  -- 217
@@ -82,5 +82,5 @@ unfoldable pub type-data-for-primitive : ℕ → Rust PrimitiveType
 type-data-for-primitive index = do
   assert (ltb index 0x1000)  -- 195
   indirection ← match (bitAnd index 0xf00) indirection-arms (errs (TypeNotFound index))  -- 198, 208
-  kind ← match (bitAnd index 0xff) kind-arms (errs (TypeNotFound index))  -- 213, 268
+  kind ← match (bitAnd index 0xff) primitive-kind-arms (errs (TypeNotFound index))  -- 213, 268
   gives (record { kind = kind; indirection = indirection })  -- 272

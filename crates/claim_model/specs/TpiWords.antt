@@ -10,7 +10,7 @@ use Rattle.word_attributes.specs.declared.PointerKind.{PointerKind}
 use Rattle.word_attributes.specs.declared.PointerKind.the-variants.{Near16, Far16, Huge16, BaseSeg, BaseVal, BaseSegVal, BaseAddr, BaseSegAddr, BaseType, BaseSelf, Near32, Far32, Ptr64}
 use Rattle.word_attributes.specs.declared.PointerMode.{PointerMode}
 use Rattle.word_attributes.specs.declared.PointerMode.the-variants.{Pointer, LValueReference, Member, MemberFunction, RValueReference}
-use Rattle.claim_model.specs.Rust.{Rust, gives, panics, _>>=_, if, not, or, match, as-u8}
+use Rattle.claim_model.specs.Rust.{Rust, gives, panics, if, not, or-else, match, as-u8, _>>=_}
 
 -- `self.0 & mask != 0`
 abbrev pub set : ℕ → ℕ → Bool
@@ -76,7 +76,7 @@ abbrev pub is-pure-virtual : ℕ → Bool
 is-pure-virtual w = eqb (method-properties w) 0x05  -- 622
 
 abbrev pub is-intro-virtual : ℕ → Bool
-is-intro-virtual w = or (eqb (method-properties w) 0x04) (eqb (method-properties w) 0x06)  -- 627
+is-intro-virtual w = or-else (eqb (method-properties w) 0x04) (eqb (method-properties w) 0x06)  -- 627
 
 -- ---- 654: FunctionAttributes
 abbrev pub calling-convention : ℕ → ℕ
@@ -92,8 +92,8 @@ abbrev pub is-constructor-with-virtual-bases : ℕ → Bool
 is-constructor-with-virtual-bases w = ltb 0 (bitAnd w 0x0400)  -- 665
 
 -- ---- 735: PointerAttributes
-unfoldable pub kind-arms : List (Line (Rust PointerKind))
-kind-arms =
+unfoldable pub pointer-kind-arms : List (Line (Rust PointerKind))
+pointer-kind-arms =
     (0x00 is gives Near16)  -- 739
     ∷ (0x01 is gives Far16)
     ∷ (0x02 is gives Huge16)
@@ -110,7 +110,7 @@ kind-arms =
     ∷ []
 
 unfoldable pub pointer-kind : ℕ → Rust PointerKind
-pointer-kind w = match (bitAnd w 0x1f) kind-arms panics  -- 738, 752
+pointer-kind w = match (bitAnd w 0x1f) pointer-kind-arms panics  -- 738, 752
 
 unfoldable pub mode-arms : List (Line (Rust PointerMode))
 mode-arms =

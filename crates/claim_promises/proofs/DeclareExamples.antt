@@ -21,12 +21,12 @@ use Rattle.declare_word.specs.Spellings.{kindText, byText, modeText, wordsOf}
 use Rattle.declare_node.specs.Looked.{declaredLeaves, listLeaves, bytesSeen, recordSeen, typeSeen, listSeen}
 use Rattle.declare_node.specs.Nodes.{classes, sizedIn, sizeThrough, extentOf, nodeIn, nodeOf, listOf, indexAt}
 use Rattle.declare_piece.specs.Pieces.{decimal, textOf}
-use Rattle.declare_step.specs.Steps.{stepOf}
-use Rattle.declare_walk.specs.Walk.{onto, joined, restOf, argumentsOf, listed, stepped, walk}
+use Rattle.declare_step.specs.Steps.{inwardStep}
+use Rattle.declare_walk.specs.Walk.{onto, fixedThen, restOf, argumentsOf, overArguments, stepped, walk}
 use Rattle.declare_type.specs.Declares.{textIn, declareOf}
 use Rattle.claim_promises.specs.DeclareExamples.{records, streamD, declarations, declared, expected}
 
 -- every line holds
 pub declarations-hold : map declared declarations ≡ map expected declarations
-unfolding records streamD declarations find among refusals inTable littleAt fixedAt optionalOf optionalAt bytesAfter toZero stringAt prefixes unsignedAt numericAt sizeAt shortest carried formOf numeralBy sizedBy kinds indirections primitiveOf pointerKinds pointerModes kindOf modeOf toMemberOf sizeOf readFieldBy readFieldsBy typeLeaves readLeaf leafOf recordOf headerOf linkAt chain linkOf begunBy createBy lookOf kindText byText modeText wordsOf declaredLeaves listLeaves bytesSeen recordSeen typeSeen listSeen classes sizedIn sizeThrough extentOf nodeIn nodeOf listOf indexAt decimal textOf stepOf onto joined restOf argumentsOf listed stepped walk textIn declareOf
+unfolding records streamD declarations find among refusals inTable littleAt fixedAt optionalOf optionalAt bytesAfter toZero stringAt prefixes unsignedAt numericAt sizeAt shortest carried formOf numeralBy sizedBy kinds indirections primitiveOf pointerKinds pointerModes kindOf modeOf toMemberOf sizeOf readFieldBy readFieldsBy typeLeaves readLeaf leafOf recordOf headerOf linkAt chain linkOf begunBy createBy lookOf kindText byText modeText wordsOf declaredLeaves listLeaves bytesSeen recordSeen typeSeen listSeen classes sizedIn sizeThrough extentOf nodeIn nodeOf listOf indexAt decimal textOf inwardStep onto fixedThen restOf argumentsOf overArguments stepped walk textIn declareOf
 declarations-hold = refl

@@ -28,11 +28,11 @@ use Rattle.declare_node.specs.declared.Node.{Node}
 use Rattle.declare_node.specs.declared.Node.the-variants as node
 use Rattle.declare_node.specs.declared.Arguments.{Arguments}
 use Rattle.declare_node.specs.declared.Arguments.the-variants as arguments
-use Rattle.declare_step.specs.Steps.{stepBy, stepOf, startOf}
+use Rattle.declare_step.specs.Steps.{stepBy, inwardStep, aroundFirst}
 use Rattle.declare_step.specs.declared.Around.{Around}
 use Rattle.declare_step.specs.declared.Step.{Step}
 use Rattle.declare_step.specs.declared.Step.the-variants as step
-use Rattle.declare_walk.specs.Walk.{Walked, printed, stopped, walk, capped, declarationOf}
+use Rattle.declare_walk.specs.Walk.{Spelled, printed, stopped, walk, capped, declarationOf}
 use Rattle.declare_walk.specs.declared.Measured.{Measured}
 use Rattle.declare_walk.specs.declared.Measured.the-variants as measured
 use Rattle.declare_type.specs.Declares.{textIn, declareOf}
@@ -234,11 +234,11 @@ step-by-not (node.Array i e) a h = tt
 step-by-not (node.Procedure i j) a h = tt
 step-by-not (node.Refused e) a h = h
 
-step-of-not : (s : List ℕ) (σ : State) (i : ℕ) (a : Around) → StepNot (stepOf s σ i a)
-unfolding stepOf
+step-of-not : (s : List ℕ) (σ : State) (i : ℕ) (a : Around) → StepNot (inwardStep s σ i a)
+unfolding inwardStep
 step-of-not s σ i a = step-by-not (nodeOf s σ i) a (node-of-not s σ i)
 
-step-not : (s : List ℕ) (σ : State) (i : ℕ) (a : Around) (e : Refusal) → stepOf s σ i a ≡ step.Refused e → Not10 e
+step-not : (s : List ℕ) (σ : State) (i : ℕ) (a : Around) (e : Refusal) → inwardStep s σ i a ≡ step.Refused e → Not10 e
 step-not s σ i a e h = subst (λ (o : Step). StepNot o) h (step-of-not s σ i a)
 
 fault-not : (s : List ℕ) (σ : State) (left at : ℕ) (e : Refusal) → Fault s σ left at e → Not10 e
@@ -246,7 +246,7 @@ fault-not s σ left at e too-deep = record { other = refl }
 fault-not s σ left at e (its-own h) = node-not s σ at e h
 fault-not s σ left at e (its-lists {l = l} h k) = list-not s σ (l .0) e k
 
-stops-by : (w : Walked) (k : ℕ) (e : Refusal) → w ≡ stopped k e → StopsBy e w
+stops-by : (w : Spelled) (k : ℕ) (e : Refusal) → w ≡ stopped k e → StopsBy e w
 stops-by w k e h = rw h refl
 
 walk-not : (s : List ℕ) (σ : State) (d i : ℕ) (a : Around) (k : ℕ) (e : Refusal) → walk s σ d i a ≡ stopped k e → Not10 e
@@ -276,7 +276,7 @@ node-says s σ i e h = but-10 e (node-not s σ i e h) (node-within s σ i e h)
 pub list-says : (s : List ℕ) (σ : State) (i : ℕ) (e : Refusal) → listOf s σ i ≡ arguments.Refused e → among (numberOf e) ofNodes ≡ true
 list-says s σ i e h = but-10 e (list-not s σ i e h) (list-within s σ i e h)
 
-pub step-says : (s : List ℕ) (σ : State) (i : ℕ) (a : Around) (e : Refusal) → stepOf s σ i a ≡ step.Refused e → among (numberOf e) ofNodes ≡ true
+pub step-says : (s : List ℕ) (σ : State) (i : ℕ) (a : Around) (e : Refusal) → inwardStep s σ i a ≡ step.Refused e → among (numberOf e) ofNodes ≡ true
 step-says s σ i a e h = but-10 e (step-not s σ i a e h) (step-within s σ i a e h)
 
 pub walk-says : (s : List ℕ) (σ : State) (d i : ℕ) (a : Around) (k : ℕ) (e : Refusal) → walk s σ d i a ≡ stopped k e → among (numberOf e) ofWalks ≡ true
@@ -284,13 +284,13 @@ unfolding among
 walk-says s σ d i a k e h = rw (walk-not s σ d i a k e h .other) at (walk-within s σ d i a k e h)
 
 -- in a room
-abbrev WalkNot : Walked → Type 0
+abbrev WalkNot : Spelled → Type 0
 WalkNot (printed l r) = Unit
 WalkNot (stopped k e) = Not10 e
 
 walk-of-not : (s : List ℕ) (σ : State) (d i : ℕ) (a : Around) → WalkNot (walk s σ d i a)
 walk-of-not s σ d i a = go (walk s σ d i a) refl where
-  go : (w : Walked) → walk s σ d i a ≡ w → WalkNot w
+  go : (w : Spelled) → walk s σ d i a ≡ w → WalkNot w
   go (printed l r) h = tt
   go (stopped k e) h = walk-not s σ d i a k e h
 
@@ -302,7 +302,7 @@ measured-pick : (b : Bool) (x y : Measured) → MeasuredNot x → MeasuredNot y 
 measured-pick true x y p q = p
 measured-pick false x y p q = q
 
-capped-not : (room : ℕ) (w : Walked) → WalkNot w → MeasuredNot (capped room w)
+capped-not : (room : ℕ) (w : Spelled) → WalkNot w → MeasuredNot (capped room w)
 unfolding capped
 capped-not room (printed l r) g =
     measured-pick (ltb room (length l + length r)) (measured.Refused refusal.NoRoom) (measured.Fits (length l) (length r)) (record { other = refl }) tt
@@ -314,7 +314,7 @@ capped-says room s σ d i a e h =
     let g : Not10 e = subst (λ (m : Measured). MeasuredNot m) h (capped-not room (walk s σ d i a) (walk-of-not s σ d i a)) in
     walk-but-10 (numberOf e) (g .other) (capped-within room s σ d i a e h)
 
-text-not : (room : ℕ) (w : Walked) → WalkNot w → by 10 (textIn room w) ≡ false
+text-not : (room : ℕ) (w : Spelled) → WalkNot w → by 10 (textIn room w) ≡ false
 unfolding textIn
 text-not room (printed l r) g = go (ltb room (length (l ++ r))) where
   go : (b : Bool) → by 10 (stop b 19 (answered (l ++ r))) ≡ false
@@ -330,7 +330,7 @@ unfolding declareOf
 declare-not s σ i room = go (ltb longest (length s)) where
   go : (b : Bool) → by 10 (stop b 16 (textIn room (declarationOf s σ i))) ≡ false
   go true = refl
-  go false = text-not room (declarationOf s σ i) (walk-of-not s σ 32 i startOf)
+  go false = text-not room (declarationOf s σ i) (walk-of-not s σ 32 i aroundFirst)
 
 pub declare-says : (s : List ℕ) (σ : State) (i room n : ℕ) (d : List ℕ) → declareOf s σ i room ≡ refused n d → (among n (19 ∷ ofWalks) ≡ true) × (listed n d ≡ true)
 declare-says s σ i room n d h =

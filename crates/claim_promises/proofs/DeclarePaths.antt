@@ -15,61 +15,61 @@ use Rattle.declare_node.specs.declared.Arguments.{Arguments}
 use Rattle.declare_node.specs.declared.Arguments.the-variants as arguments
 use Rattle.declare_piece.specs.Pieces.{textOf}
 use Rattle.declare_piece.specs.declared.Piece.the-variants as piece
-use Rattle.declare_step.specs.Steps.{stepBy, stepOf, startOf}
+use Rattle.declare_step.specs.Steps.{stepBy, inwardStep, aroundFirst}
 use Rattle.declare_step.specs.declared.Around.{Around}
-use Rattle.declare_walk.specs.Walk.{Walked, printed, stopped, onto, joined, restOf, argumentsOf, listed, stepped, walk}
+use Rattle.declare_walk.specs.Walk.{Spelled, printed, stopped, onto, fixedThen, restOf, argumentsOf, overArguments, stepped, walk}
 use Rattle.claim_promises.specs.DeclareWhen.{Inside, of-pointer, of-modifier, of-array, Calls, of-procedure, argumentAt, IsBase, Prints, base, inward, call, TypeVisits, here, into, argument, returned, Fault, too-deep, its-own, its-lists, Meets, StopsBy, IsPrinted}
 
 -- ---- two walks after each other
 
-onto-stops : (e : Refusal) (l r : List ℕ) (w : Walked) → StopsBy e w → StopsBy e (onto l r w)
+onto-stops : (e : Refusal) (l r : List ℕ) (w : Spelled) → StopsBy e w → StopsBy e (onto l r w)
 unfolding onto
 onto-stops e l r (printed a b) h = h
 onto-stops e l r (stopped k x) h = h
 
-onto-stopped : (e : Refusal) (l r : List ℕ) (w : Walked) → StopsBy e (onto l r w) → StopsBy e w
+onto-stopped : (e : Refusal) (l r : List ℕ) (w : Spelled) → StopsBy e (onto l r w) → StopsBy e w
 unfolding onto
 onto-stopped e l r (printed a b) h = h
 onto-stopped e l r (stopped k x) h = h
 
-onto-prints : (l r : List ℕ) (w : Walked) → IsPrinted w → IsPrinted (onto l r w)
+onto-prints : (l r : List ℕ) (w : Spelled) → IsPrinted w → IsPrinted (onto l r w)
 unfolding onto
 onto-prints l r (printed a b) h = h
 onto-prints l r (stopped k x) h = h
 
-onto-printed : (l r : List ℕ) (w : Walked) → IsPrinted (onto l r w) → IsPrinted w
+onto-printed : (l r : List ℕ) (w : Spelled) → IsPrinted (onto l r w) → IsPrinted w
 unfolding onto
 onto-printed l r (printed a b) h = h
 onto-printed l r (stopped k x) h = h
 
-joined-first : (e : Refusal) (v w : Walked) → StopsBy e v → StopsBy e (joined v w)
-unfolding joined
+joined-first : (e : Refusal) (v w : Spelled) → StopsBy e v → StopsBy e (fixedThen v w)
+unfolding fixedThen
 joined-first e (printed a b) w h = absurd h
 joined-first e (stopped k x) w h = h
 
-joined-second : (e : Refusal) (v w : Walked) → IsPrinted v → StopsBy e w → StopsBy e (joined v w)
-unfolding joined
+joined-second : (e : Refusal) (v w : Spelled) → IsPrinted v → StopsBy e w → StopsBy e (fixedThen v w)
+unfolding fixedThen
 joined-second e (printed a b) w p h = onto-stops e [] (a ++ b) w h
 joined-second e (stopped k x) w p h = absurd p
 
-joined-stopped : (e : Refusal) (v w : Walked) → StopsBy e (joined v w) → StopsBy e v ⊎ (IsPrinted v × StopsBy e w)
-unfolding joined
+joined-stopped : (e : Refusal) (v w : Spelled) → StopsBy e (fixedThen v w) → StopsBy e v ⊎ (IsPrinted v × StopsBy e w)
+unfolding fixedThen
 joined-stopped e (printed a b) w h = inr (tt, onto-stopped e [] (a ++ b) w h)
 joined-stopped e (stopped k x) w h = inl h
 
-joined-prints : (v w : Walked) → IsPrinted v → IsPrinted w → IsPrinted (joined v w)
-unfolding joined
+joined-prints : (v w : Spelled) → IsPrinted v → IsPrinted w → IsPrinted (fixedThen v w)
+unfolding fixedThen
 joined-prints (printed a b) w p h = onto-prints [] (a ++ b) w h
 joined-prints (stopped k x) w p h = absurd p
 
-joined-printed : (v w : Walked) → IsPrinted (joined v w) → IsPrinted v × IsPrinted w
-unfolding joined
+joined-printed : (v w : Spelled) → IsPrinted (fixedThen v w) → IsPrinted v × IsPrinted w
+unfolding fixedThen
 joined-printed (printed a b) w h = (tt, onto-printed [] (a ++ b) w h)
 joined-printed (stopped k x) w h = absurd h
 
 -- ---- a row of arguments; f walks one
 
-module _ (f : ℕ → Walked) (s : List ℕ) where
+module _ (f : ℕ → Spelled) (s : List ℕ) where
   first-at : (p : ℕ) → argumentAt s p 0 ≡ indexAt s p .0
   first-at p =
       let e : p + 4 * 0 ≡ p = omega arith in
@@ -81,8 +81,8 @@ module _ (f : ℕ → Walked) (s : List ℕ) where
       ap (λ q. indexAt s q .0) e
 
   -- the first argument and n behind it
-  abbrev row : ℕ → ℕ → Walked
-  row p n = joined (f (indexAt s p .0)) (restOf f s (p + 4) n)
+  abbrev row : ℕ → ℕ → Spelled
+  row p n = fixedThen (f (indexAt s p .0)) (restOf f s (p + 4) n)
 
   row-stops : (e : Refusal) (p n k : ℕ) → k < suc n → ((o : ℕ) → o < k → IsPrinted (f (argumentAt s p o))) → StopsBy e (f (argumentAt s p k)) → StopsBy e (row p n)
   unfolding restOf
@@ -157,35 +157,35 @@ module _ (f : ℕ → Walked) (s : List ℕ) where
 
 module _ (s : List ℕ) (σ : State) where
   inside-stops : (e : Refusal) (d i j : ℕ) → Inside s σ i j → ((b : Around) → StopsBy e (walk s σ d j b)) → (a : Around) → StopsBy e (walk s σ (suc d) i a)
-  unfolding walk stepOf stepped
+  unfolding walk inwardStep stepped
   inside-stops e d i j (of-pointer h) f a = rw h (onto-stops e _ _ _ (f _))
   inside-stops e d i j (of-modifier h) f a = rw h (onto-stops e _ _ _ (f _))
   inside-stops e d i j (of-array h) f a = rw h (onto-stops e _ _ _ (f _))
 
   inside-prints : (d i j : ℕ) → Inside s σ i j → ((b : Around) → IsPrinted (walk s σ d j b)) → (a : Around) → IsPrinted (walk s σ (suc d) i a)
-  unfolding walk stepOf stepped
+  unfolding walk inwardStep stepped
   inside-prints d i j (of-pointer h) f a = rw h (onto-prints _ _ _ (f _))
   inside-prints d i j (of-modifier h) f a = rw h (onto-prints _ _ _ (f _))
   inside-prints d i j (of-array h) f a = rw h (onto-prints _ _ _ (f _))
 
   -- the row of a procedure's arguments
-  abbrev rowOf : ℕ → ℕ → ℕ → Walked
-  rowOf d p n = argumentsOf (λ j. walk s σ d j startOf) s p n
+  abbrev rowOf : ℕ → ℕ → ℕ → Spelled
+  rowOf d p n = argumentsOf (λ j. walk s σ d j aroundFirst) s p n
 
   call-first : (e : Refusal) (d i p n j : ℕ) → Calls s σ i p n j → StopsBy e (rowOf d p n) → (a : Around) → StopsBy e (walk s σ (suc d) i a)
-  unfolding walk stepOf stepped listed
+  unfolding walk inwardStep stepped overArguments
   call-first e d i p n j (of-procedure h m) f a = rw (h, m) (onto-stops e _ _ _ (joined-first e _ _ f))
 
   call-second : (e : Refusal) (d i p n j : ℕ) → Calls s σ i p n j → IsPrinted (rowOf d p n) → ((b : Around) → StopsBy e (walk s σ d j b)) → (a : Around) → StopsBy e (walk s σ (suc d) i a)
-  unfolding walk stepOf stepped listed
+  unfolding walk inwardStep stepped overArguments
   call-second e d i p n j (of-procedure h m) f g a = rw (h, m) (onto-stops e _ _ _ (joined-second e _ _ f (onto-stops e _ _ _ (g _))))
 
   call-prints : (d i p n j : ℕ) → Calls s σ i p n j → IsPrinted (rowOf d p n) → ((b : Around) → IsPrinted (walk s σ d j b)) → (a : Around) → IsPrinted (walk s σ (suc d) i a)
-  unfolding walk stepOf stepped listed
+  unfolding walk inwardStep stepped overArguments
   call-prints d i p n j (of-procedure h m) f g a = rw (h, m) (onto-prints _ _ _ (joined-prints _ _ f (onto-prints _ _ _ (g _))))
 
   base-prints : (d i : ℕ) (n : Node) → nodeOf s σ i ≡ n → IsBase n → (a : Around) → IsPrinted (walk s σ (suc d) i a)
-  unfolding walk stepOf stepped
+  unfolding walk inwardStep stepped
   base-prints d i (node.Primitive k y) h b a = rw h tt
   base-prints d i (node.Named p n) h b a = rw h tt
   base-prints d i (node.Pointer j m q) h b a = absurd b
@@ -198,10 +198,10 @@ module _ (s : List ℕ) (σ : State) where
   printing (suc d) i (base b) a = base-prints d i (nodeOf s σ i) refl b a
   printing (suc d) i (inward {j = j} h p) a = inside-prints d i j h (λ b. printing d j p b) a
   printing (suc d) i (call {p = p} {n = n} {j = j} h all r) a =
-      call-prints d i p n j h (list-prints (λ k. walk s σ d k startOf) s p n (λ o c. printing d (argumentAt s p o) (all o c) startOf)) (λ b. printing d j r b) a
+      call-prints d i p n j h (list-prints (λ k. walk s σ d k aroundFirst) s p n (λ o c. printing d (argumentAt s p o) (all o c) aroundFirst)) (λ b. printing d j r b) a
 
   fault-stops : (e : Refusal) (d i : ℕ) → Fault s σ d i e → (a : Around) → StopsBy e (walk s σ d i a)
-  unfolding walk stepOf stepped listed
+  unfolding walk inwardStep stepped overArguments
   fault-stops e zero i too-deep a = refl
   fault-stops e (suc d) i (its-own h) a = rw h refl
   fault-stops e (suc d) i (its-lists h m) a = rw (h, m) (onto-stops e _ _ _ (joined-first e _ _ refl))
@@ -211,19 +211,19 @@ module _ (s : List ℕ) (σ : State) where
   stopping e (suc d) i left at (into {j = j} h v) f a = inside-stops e d i j h (λ b. stopping e d j left at v f b) a
   stopping e (suc d) i left at (argument {p = p} {n = n} {j = j} {m = m} h c all v) f a =
       call-first e d i p n j h
-      (list-stops (λ k. walk s σ d k startOf) s e p n m c (λ o q. printing d (argumentAt s p o) (all o q) startOf) (stopping e d (argumentAt s p m) left at v f startOf)) a
+      (list-stops (λ k. walk s σ d k aroundFirst) s e p n m c (λ o q. printing d (argumentAt s p o) (all o q) aroundFirst) (stopping e d (argumentAt s p m) left at v f aroundFirst)) a
   stopping e (suc d) i left at (returned {p = p} {n = n} {j = j} h all v) f a =
-      call-second e d i p n j h (list-prints (λ k. walk s σ d k startOf) s p n (λ o q. printing d (argumentAt s p o) (all o q) startOf))
+      call-second e d i p n j h (list-prints (λ k. walk s σ d k aroundFirst) s p n (λ o q. printing d (argumentAt s p o) (all o q) aroundFirst))
       (λ b. stopping e d j left at v f b) a
 
   -- ---- and back
 
   module _ (d i : ℕ) (has : (j : ℕ) (b : Around) → IsPrinted (walk s σ d j b) → Prints s σ d j) where
     lists-have : (j l : TypeIndex) (b : Around) (x : Arguments)
-        → nodeOf s σ i ≡ node.Procedure j l → listOf s σ (l .0) ≡ x → IsPrinted (listed (λ k. walk s σ d k startOf) s x) → IsPrinted (walk s σ d (j .0) b) → Prints s σ (suc d) i
-    unfolding listed
+        → nodeOf s σ i ≡ node.Procedure j l → listOf s σ (l .0) ≡ x → IsPrinted (overArguments (λ k. walk s σ d k aroundFirst) s x) → IsPrinted (walk s σ d (j .0) b) → Prints s σ (suc d) i
+    unfolding overArguments
     lists-have j l b (arguments.At p n) u v y z =
-        call (of-procedure u v) (λ o c. has (argumentAt s p o) startOf (list-printed (λ k. walk s σ d k startOf) s p n y o c)) (has (j .0) b z)
+        call (of-procedure u v) (λ o c. has (argumentAt s p o) aroundFirst (list-printed (λ k. walk s σ d k aroundFirst) s p n y o c)) (has (j .0) b z)
     lists-have j l b (arguments.Refused e) u v y z = absurd y
 
     node-has : (n : Node) (a : Around) → nodeOf s σ i ≡ n → IsPrinted (stepped (λ j b. walk s σ d j b) s σ (stepBy n a)) → Prints s σ (suc d) i
@@ -239,7 +239,7 @@ module _ (s : List ℕ) (σ : State) where
     node-has (node.Refused e) a u h = absurd h
 
   pub printed-has : (d i : ℕ) (a : Around) → IsPrinted (walk s σ d i a) → Prints s σ d i
-  unfolding walk stepOf
+  unfolding walk inwardStep
   printed-has zero i a h = absurd h
   printed-has (suc d) i a h = node-has d i (λ j b k. printed-has d j b k) (nodeOf s σ i) a refl h
 
@@ -247,30 +247,30 @@ module _ (s : List ℕ) (σ : State) where
   meets-into e d i j h m = record { left = m .left; at = m .at; path = into h (m .path); fault = m .fault }
 
   module _ (e : Refusal) (d i : ℕ) (meets : (j : ℕ) (b : Around) → StopsBy e (walk s σ d j b) → Meets s σ d j e) where
-    arguments-meet : (j p n : ℕ) → Calls s σ i p n j → Stopped (λ k. walk s σ d k startOf) s e p n → Meets s σ (suc d) i e
+    arguments-meet : (j p n : ℕ) → Calls s σ i p n j → Stopped (λ k. walk s σ d k aroundFirst) s e p n → Meets s σ (suc d) i e
     arguments-meet j p n c x =
-        let m : Meets s σ d (argumentAt s p (x .k)) e = meets (argumentAt s p (x .k)) startOf (x .there) in
+        let m : Meets s σ d (argumentAt s p (x .k)) e = meets (argumentAt s p (x .k)) aroundFirst (x .there) in
         record {
           left = m .left;
           at = m .at;
-          path = argument c (x .below) (λ o q. printed-has d (argumentAt s p o) startOf (x .before o q)) (m .path);
+          path = argument c (x .below) (λ o q. printed-has d (argumentAt s p o) aroundFirst (x .before o q)) (m .path);
           fault = m .fault;
         }
 
-    return-meets : (j p n : ℕ) → Calls s σ i p n j → IsPrinted (argumentsOf (λ k. walk s σ d k startOf) s p n) → Meets s σ d j e → Meets s σ (suc d) i e
+    return-meets : (j p n : ℕ) → Calls s σ i p n j → IsPrinted (argumentsOf (λ k. walk s σ d k aroundFirst) s p n) → Meets s σ d j e → Meets s σ (suc d) i e
     return-meets j p n c x m = record {
       left = m .left;
       at = m .at;
-      path = returned c (λ o q. printed-has d (argumentAt s p o) startOf (list-printed (λ k. walk s σ d k startOf) s p n x o q)) (m .path);
+      path = returned c (λ o q. printed-has d (argumentAt s p o) aroundFirst (list-printed (λ k. walk s σ d k aroundFirst) s p n x o q)) (m .path);
       fault = m .fault;
     }
 
     lists-meet : (j l : TypeIndex) (b : Around) (r : List ℕ) (x : Arguments)
         → nodeOf s σ i ≡ node.Procedure j l → listOf s σ (l .0) ≡ x
-        → StopsBy e (listed (λ k. walk s σ d k startOf) s x) ⊎ (IsPrinted (listed (λ k. walk s σ d k startOf) s x) × StopsBy e (onto [] r (walk s σ d (j .0) b)))
+        → StopsBy e (overArguments (λ k. walk s σ d k aroundFirst) s x) ⊎ (IsPrinted (overArguments (λ k. walk s σ d k aroundFirst) s x) × StopsBy e (onto [] r (walk s σ d (j .0) b)))
         → Meets s σ (suc d) i e
-    unfolding listed
-    lists-meet j l b r (arguments.At p n) u v (inl y) = arguments-meet (j .0) p n (of-procedure u v) (list-stopped (λ k. walk s σ d k startOf) s e p n y)
+    unfolding overArguments
+    lists-meet j l b r (arguments.At p n) u v (inl y) = arguments-meet (j .0) p n (of-procedure u v) (list-stopped (λ k. walk s σ d k aroundFirst) s e p n y)
     lists-meet j l b r (arguments.At p n) u v (inr y) =
         return-meets (j .0) p n (of-procedure u v) (y .0) (meets (j .0) b (onto-stopped e [] r (walk s σ d (j .0) b) (y .1)))
     lists-meet j l b r (arguments.Refused x) u v (inl y) = record { left = suc d; at = i; path = here; fault = its-lists u (v ∙ ap arguments.Refused y) }
@@ -287,6 +287,6 @@ module _ (s : List ℕ) (σ : State) where
     node-meets (node.Refused x) a u h = record { left = suc d; at = i; path = here; fault = its-own (u ∙ ap node.Refused h) }
 
   pub stopped-meets : (e : Refusal) (d i : ℕ) (a : Around) → StopsBy e (walk s σ d i a) → Meets s σ d i e
-  unfolding walk stepOf
+  unfolding walk inwardStep
   stopped-meets e zero i a h = record { left = 0; at = i; path = here; fault = rw (sym h) too-deep }
   stopped-meets e (suc d) i a h = node-meets e d i (λ j b k. stopped-meets e d j b k) (nodeOf s σ i) a refl h

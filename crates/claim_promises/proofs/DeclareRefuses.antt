@@ -11,7 +11,7 @@ use lib.Dec.{ltb, leb, eqb}
 use borrow.Author.Tests.{lt-ltb, le-ltb, le-leb, ltb-true, ltb-false, leb-true, eqb-true}
 use Rattle.answer.specs.Answer.{Answer, answered, refused, Read, Got, got, and-then, pick, stop, both}
 use Rattle.answer.specs.Tables.{Line, _is_, find, among}
-use Rattle.answer.specs.Refusals.{numberOf, detailsOf, no, Named, plain, one, two, refusals, filled, inTable, listed}
+use Rattle.answer.specs.Refusals.{numberOf, detailsOf, no, Named, plain, one, two, refusals, withDetails, inTable, listed}
 use Rattle.answer.proofs.OneOutcome.{in-table}
 use Rattle.answer.specs.declared.Refusal.{Refusal}
 use Rattle.answer.specs.declared.Refusal.the-variants as refusal
@@ -37,15 +37,15 @@ use Rattle.declare_node.specs.declared.Arguments.{Arguments}
 use Rattle.declare_node.specs.declared.Arguments.the-variants as arguments
 use Rattle.declare_piece.specs.Pieces.{textOf}
 use Rattle.declare_piece.specs.declared.Piece.the-variants as piece
-use Rattle.declare_step.specs.Steps.{stepBy, stepOf, startOf}
+use Rattle.declare_step.specs.Steps.{stepBy, inwardStep, aroundFirst}
 use Rattle.declare_step.specs.declared.Around.{Around}
 use Rattle.declare_step.specs.declared.Step.{Step}
 use Rattle.declare_step.specs.declared.Step.the-variants as step
-use Rattle.declare_walk.specs.Walk.{Walked, printed, stopped, onto, joined, restOf, argumentsOf, listed as listedArguments, stepped, walk, capped, declarationOf}
+use Rattle.declare_walk.specs.Walk.{Spelled, printed, stopped, onto, fixedThen, restOf, argumentsOf, overArguments as listedArguments, stepped, walk, capped, declarationOf}
 use Rattle.declare_walk.specs.declared.Measured.{Measured}
 use Rattle.declare_walk.specs.declared.Measured.the-variants as measured
 use Rattle.declare_type.specs.declared.DeclareAnswer.{DeclareAnswer}
-use Rattle.declare_type.specs.Declares.{textIn, declareOf, saidDeclare, lengthOf, bufferAfter, Declares}
+use Rattle.declare_type.specs.Declares.{textIn, declareOf, saidDeclare, textLength, textBufferAfter, Declares}
 use Rattle.claim_promises.specs.ByTable.{Links, fits, linksFit, By, gives, refuses}
 use Rattle.claim_promises.specs.Given.{by, Given}
 use Rattle.claim_promises.specs.DeclareWhen.{fixedBy, unlimited, TypeVisits, Fault, too-deep, its-own, its-lists, Meets, StopsBy, TooDeep, EntryOther, FoundOther, OtherLeaf, NotPrinted, other-leaf, no-list, other-list, OtherMet, HasRoom, DeclareWhen, Declined, long, full, met}
@@ -71,7 +71,7 @@ same x e h = cc
 never : {A : Type 0} (e : Refusal) → none ≡ some e → A
 never e h = absurd (let z : _≡_ {A = ℕ} 0 1 = cc in omega arith)
 
-filled-right : (m : ℕ) (w : Named) (d : List ℕ) (e : Refusal) → Right m w → filled w d ≡ some e → numberOf e ≡ m
+filled-right : (m : ℕ) (w : Named) (d : List ℕ) (e : Refusal) → Right m w → withDetails w d ≡ some e → numberOf e ≡ m
 filled-right m (plain x) [] e r h = rw (sym (same x e h)) r
 filled-right m (plain x) (a ∷ d) e r h = never e h
 filled-right m (one f) [] e r h = never e h
@@ -85,8 +85,8 @@ filled-right m (two f) (a ∷ b ∷ c ∷ d) e r h = never e h
 pub named-right : (ls : List (Line Named)) → AllRight ls → (n : ℕ) (d : List ℕ) (e : Refusal) → inTable ls n d ≡ some e → numberOf e ≡ n
 unfolding inTable
 named-right [] r n d e h = never e h
-named-right ((m is w) ∷ ls) r n d e h = go (eqb n m) refl (filled w d) refl (λ k. named-right ls (r .1) n d e k) where
-  go : (b : Bool) → eqb n m ≡ b → (o : Option Refusal) → filled w d ≡ o → (inTable ls n d ≡ some e → numberOf e ≡ n) → numberOf e ≡ n
+named-right ((m is w) ∷ ls) r n d e h = go (eqb n m) refl (withDetails w d) refl (λ k. named-right ls (r .1) n d e k) where
+  go : (b : Bool) → eqb n m ≡ b → (o : Option Refusal) → withDetails w d ≡ o → (inTable ls n d ≡ some e → numberOf e ≡ n) → numberOf e ≡ n
   go true f (some x) g later =
       let k : some x ≡ some e = rw (f, g) at h in
       rw (sym (same x e k)) (filled-right m w d x (r .0) g ∙ sym (eqb-true n m f))
@@ -360,27 +360,27 @@ list-is s σ i = list-right _ s (listSeen s σ i) (kept-list s σ i) (list-seen 
 
 -- ---- walks
 
-abbrev GoodWalk : Walked → Type 0
+abbrev GoodWalk : Spelled → Type 0
 GoodWalk (printed l r) = Unit
 GoodWalk (stopped k e) = Good e
 
-onto-good : (l r : List ℕ) (w : Walked) → GoodWalk w → GoodWalk (onto l r w)
+onto-good : (l r : List ℕ) (w : Spelled) → GoodWalk w → GoodWalk (onto l r w)
 unfolding onto
 onto-good l r (printed a b) h = tt
 onto-good l r (stopped k e) h = h
 
-joined-good : (v w : Walked) → GoodWalk v → GoodWalk w → GoodWalk (joined v w)
-unfolding joined
+joined-good : (v w : Spelled) → GoodWalk v → GoodWalk w → GoodWalk (fixedThen v w)
+unfolding fixedThen
 joined-good (printed l r) w h k = onto-good [] (l ++ r) w k
 joined-good (stopped j e) w h k = h
 
-rest-good : (f : ℕ → Walked) (s : List ℕ) (p n : ℕ) → ((j : ℕ) → GoodWalk (f j)) → GoodWalk (restOf f s p n)
+rest-good : (f : ℕ → Spelled) (s : List ℕ) (p n : ℕ) → ((j : ℕ) → GoodWalk (f j)) → GoodWalk (restOf f s p n)
 unfolding restOf
 rest-good f s p zero g = tt
 rest-good f s p (suc n) g =
-    onto-good [] (textOf s piece.Comma) (joined (f (indexAt s p .0)) (restOf f s (p + 4) n)) (joined-good (f (indexAt s p .0)) (restOf f s (p + 4) n) (g _) (rest-good f s (p + 4) n g))
+    onto-good [] (textOf s piece.Comma) (fixedThen (f (indexAt s p .0)) (restOf f s (p + 4) n)) (joined-good (f (indexAt s p .0)) (restOf f s (p + 4) n) (g _) (rest-good f s (p + 4) n g))
 
-arguments-good : (f : ℕ → Walked) (s : List ℕ) (O : Type 0) (l : Arguments) → ListRight O l → ((j : ℕ) → GoodWalk (f j)) → GoodWalk (listedArguments f s l)
+arguments-good : (f : ℕ → Spelled) (s : List ℕ) (O : Type 0) (l : Arguments) → ListRight O l → ((j : ℕ) → GoodWalk (f j)) → GoodWalk (listedArguments f s l)
 unfolding listedArguments argumentsOf
 arguments-good f s O (arguments.At p zero) h g = tt
 arguments-good f s O (arguments.At p (suc n)) h g = joined-good (f (indexAt s p .0)) (restOf f s (p + 4) n) (g _) (rest-good f s (p + 4) n g)
@@ -401,22 +401,22 @@ step-good O (node.Array i e) a h = tt
 step-good O (node.Procedure i j) a h = tt
 step-good O (node.Refused e) a h = reason-good O e h
 
-stepped-good : (go : ℕ → Around → Walked) (s : List ℕ) (σ : State) (o : Step) → GoodStep o → ((j : ℕ) (b : Around) → GoodWalk (go j b)) → GoodWalk (stepped go s σ o)
+stepped-good : (go : ℕ → Around → Spelled) (s : List ℕ) (σ : State) (o : Step) → GoodStep o → ((j : ℕ) (b : Around) → GoodWalk (go j b)) → GoodWalk (stepped go s σ o)
 unfolding stepped
 stepped-good go s σ (step.Last p) h g = tt
 stepped-good go s σ (step.Inward l r i a) h g = onto-good (textOf s l) (textOf s r) (go (i .0) a) (g _ _)
 stepped-good go s σ (step.Call l r z k i a) h g =
-    onto-good (textOf s l) (textOf s r) (joined (listedArguments (λ j. go j startOf) s (listOf s σ (k .0))) (onto [] (textOf s z) (go (i .0) a)))
-    (joined-good (listedArguments (λ j. go j startOf) s (listOf s σ (k .0))) (onto [] (textOf s z) (go (i .0) a))
-    (arguments-good (λ j. go j startOf) s _ (listOf s σ (k .0)) (list-is s σ (k .0)) (λ j. g j startOf))
+    onto-good (textOf s l) (textOf s r) (fixedThen (listedArguments (λ j. go j aroundFirst) s (listOf s σ (k .0))) (onto [] (textOf s z) (go (i .0) a)))
+    (joined-good (listedArguments (λ j. go j aroundFirst) s (listOf s σ (k .0))) (onto [] (textOf s z) (go (i .0) a))
+    (arguments-good (λ j. go j aroundFirst) s _ (listOf s σ (k .0)) (list-is s σ (k .0)) (λ j. g j aroundFirst))
     (onto-good [] (textOf s z) (go (i .0) a) (g _ _)))
 stepped-good go s σ (step.Refused e) h g = h
 
 walk-good : (s : List ℕ) (σ : State) (d i : ℕ) (a : Around) → GoodWalk (walk s σ d i a)
-unfolding walk among stepOf
+unfolding walk among inwardStep
 walk-good s σ zero i a = record { good = refl }
 walk-good s σ (suc d) i a =
-    stepped-good (λ j b. walk s σ d j b) s σ (stepOf s σ i a) (step-good _ (nodeOf s σ i) a (node-is s σ i)) (λ j b. walk-good s σ d j b)
+    stepped-good (λ j b. walk s σ d j b) s σ (inwardStep s σ i a) (step-good _ (nodeOf s σ i) a (node-is s σ i)) (λ j b. walk-good s σ d j b)
 
 -- ---- declarations
 
@@ -429,17 +429,17 @@ module _ (s : List ℕ) (σ : State) (i room : ℕ) where
   unfolding declareOf
   short-is h = rw (le-ltb longest (length s) h)
 
-over-is : (room : ℕ) (w : Walked) → room < fixedBy w → textIn room w ≡ refused 19 []
+over-is : (room : ℕ) (w : Spelled) → room < fixedBy w → textIn room w ≡ refused 19 []
 unfolding textIn
 over-is room (printed l r) h = rw (lt-ltb room (length (l ++ r)) h)
 over-is room (stopped k e) h = rw (lt-ltb room k h)
 
-within-is : (room : ℕ) (w : Walked) → fixedBy w ≤ room → textIn room w ≡ unlimited w
+within-is : (room : ℕ) (w : Spelled) → fixedBy w ≤ room → textIn room w ≡ unlimited w
 unfolding textIn
 within-is room (printed l r) h = rw (le-ltb room (length (l ++ r)) h)
 within-is room (stopped k e) h = rw (le-ltb room k h)
 
-only-19 : (room : ℕ) (w : Walked) → GoodWalk w → textIn room w ≡ refused 19 [] → room < fixedBy w
+only-19 : (room : ℕ) (w : Spelled) → GoodWalk w → textIn room w ≡ refused 19 [] → room < fixedBy w
 unfolding textIn among
 only-19 room (printed l r) g h = go (ltb room (length (l ++ r))) refl h where
   go : (b : Bool) → ltb room (length (l ++ r)) ≡ b → stop b 19 (answered (l ++ r)) ≡ refused 19 [] → room < length (l ++ r)
@@ -457,7 +457,7 @@ unfolding declareOf
 only-19-is s σ i room h = go (ltb longest (length s)) h where
   go : (b : Bool) → stop b 16 (textIn room (declarationOf s σ i)) ≡ refused 19 [] → room < fixedBy (declarationOf s σ i)
   go true k = absurd (let z : _≡_ {A = ℕ} 16 19 = cc in omega arith)
-  go false k = only-19 room (declarationOf s σ i) (walk-good s σ 32 i startOf) k
+  go false k = only-19 room (declarationOf s σ i) (walk-good s σ 32 i aroundFirst) k
 
 -- ---- 23 and 24
 
@@ -505,18 +505,18 @@ met-23 s σ i left at e v too-deep n = record { at = at; path = v }
 met-23 s σ i left at e v (its-own h) n = absurd (not-23 _ e (rw h at (node-is s σ at)) n)
 met-23 s σ i left at e v (its-lists {l = l} h m) n = absurd (not-23 _ e (rw m at (list-is s σ (l .0))) n)
 
-stops-unlimited : (e : Refusal) (w : Walked) → StopsBy e w → unlimited w ≡ no e
+stops-unlimited : (e : Refusal) (w : Spelled) → StopsBy e w → unlimited w ≡ no e
 stops-unlimited e (printed l r) h = absurd h
 stops-unlimited e (stopped k x) h = rw h
 
 -- a walk that is refused by number n in a room
-record StoppedBy (n room : ℕ) (w : Walked) : Type 0 where
+record StoppedBy (n room : ℕ) (w : Spelled) : Type 0 where
   pub refusal : Refusal
   pub stops : StopsBy refusal w
   pub number : numberOf refusal ≡ n
   pub fits : fixedBy w ≤ room
 
-text-only : (n room : ℕ) (w : Walked) → eqb 19 n ≡ false → by n (textIn room w) ≡ true → StoppedBy n room w
+text-only : (n room : ℕ) (w : Spelled) → eqb 19 n ≡ false → by n (textIn room w) ≡ true → StoppedBy n room w
 unfolding textIn
 text-only n room (printed l r) f h = go (ltb room (length (l ++ r))) h where
   go : (b : Bool) → by n (stop b 19 (answered (l ++ r))) ≡ true → StoppedBy n room (printed l r)
@@ -541,23 +541,23 @@ given-by s σ i room e h k = short-is s σ i room (h .0) ∙ within-is room (dec
 
 is-23 : (s : List ℕ) (σ : State) (i room : ℕ) → Given 23 [] (declareOf s σ i room) (HasRoom s σ i room × TooDeep s σ i)
 is-23 s σ i room = record {
-  when = λ h. given-by s σ i room refusal.TooDeep (h .0) (stopping s σ refusal.TooDeep 32 i 0 (h .1 .at) (h .1 .path) too-deep startOf);
+  when = λ h. given-by s σ i room refusal.TooDeep (h .0) (stopping s σ refusal.TooDeep 32 i 0 (h .1 .at) (h .1 .path) too-deep aroundFirst);
   only = λ h. go (declare-only s σ i room 23 refl refl h);
 } where
   go : (length s ≤ longest) × StoppedBy 23 room (declarationOf s σ i) → HasRoom s σ i room × TooDeep s σ i
   go x =
-      let m : Meets s σ 32 i (x .1 .refusal) = stopped-meets s σ (x .1 .refusal) 32 i startOf (x .1 .stops) in
+      let m : Meets s σ 32 i (x .1 .refusal) = stopped-meets s σ (x .1 .refusal) 32 i aroundFirst (x .1 .stops) in
       ((x .0, x .1 .fits), met-23 s σ i (m .left) (m .at) (x .1 .refusal) (m .path) (m .fault) (x .1 .number))
 
 is-24 : (s : List ℕ) (σ : State) (i room : ℕ) → Given 24 [] (declareOf s σ i room) (HasRoom s σ i room × OtherMet s σ i)
 is-24 s σ i room = record {
   when = λ h. given-by s σ i room refusal.LeafNotPrinted (h .0)
-      (stopping s σ refusal.LeafNotPrinted 32 i (suc (h .1 .left)) (h .1 .at) (h .1 .path) (other-fault s σ (h .1 .left) (h .1 .at) (h .1 .other)) startOf);
+      (stopping s σ refusal.LeafNotPrinted 32 i (suc (h .1 .left)) (h .1 .at) (h .1 .path) (other-fault s σ (h .1 .left) (h .1 .at) (h .1 .other)) aroundFirst);
   only = λ h. go (declare-only s σ i room 24 refl refl h);
 } where
   go : (length s ≤ longest) × StoppedBy 24 room (declarationOf s σ i) → HasRoom s σ i room × OtherMet s σ i
   go x =
-      let m : Meets s σ 32 i (x .1 .refusal) = stopped-meets s σ (x .1 .refusal) 32 i startOf (x .1 .stops) in
+      let m : Meets s σ 32 i (x .1 .refusal) = stopped-meets s σ (x .1 .refusal) 32 i aroundFirst (x .1 .stops) in
       ((x .0, x .1 .fits), met-24 s σ i (m .left) (m .at) (x .1 .refusal) (m .path) (m .fault) (x .1 .number))
 
 -- ---- each refusal
@@ -565,19 +565,19 @@ is-24 s σ i room = record {
 declined : (s : List ℕ) (σ : State) (i room n : ℕ) (d : List ℕ) → Declined s σ i room n d → declareOf s σ i room ≡ refused n d
 declined s σ i room n d (long h) = long-is s σ i room h
 declined s σ i room n d (full h k) = short-is s σ i room h ∙ over-is room (declarationOf s σ i) k
-declined s σ i room n d (met {e = e} h m) = given-by s σ i room e h (stopping s σ e 32 i (m .left) (m .at) (m .path) (m .fault) startOf)
+declined s σ i room n d (met {e = e} h m) = given-by s σ i room e h (stopping s σ e 32 i (m .left) (m .at) (m .path) (m .fault) aroundFirst)
 
 declined-only : (s : List ℕ) (σ : State) (i room n : ℕ) (d : List ℕ) → declareOf s σ i room ≡ refused n d → Declined s σ i room n d
 unfolding declareOf textIn
 declined-only s σ i room n d h = first (ltb longest (length s)) refl h
   where
-    over : length s ≤ longest → (w : Walked) → declarationOf s σ i ≡ w → room < fixedBy w → _≡_ {A = Answer (List ℕ)} (refused 19 []) (refused n d) → Declined s σ i room n d
+    over : length s ≤ longest → (w : Spelled) → declarationOf s σ i ≡ w → room < fixedBy w → _≡_ {A = Answer (List ℕ)} (refused 19 []) (refused n d) → Declined s σ i room n d
     over l w q k x =
         let e : 19 ≡ n = cc in
         let f : [] ≡ d = cc in
         rw (sym e, sym f) (full l (rw q k))
 
-    walked : length s ≤ longest → (w : Walked) → declarationOf s σ i ≡ w → textIn room w ≡ refused n d → Declined s σ i room n d
+    walked : length s ≤ longest → (w : Spelled) → declarationOf s σ i ≡ w → textIn room w ≡ refused n d → Declined s σ i room n d
     walked l (printed a b) q x = go (ltb room (length (a ++ b))) refl x where
       go : (c : Bool) → ltb room (length (a ++ b)) ≡ c → stop c 19 (answered (a ++ b)) ≡ refused n d → Declined s σ i room n d
       go true t y = over l (printed a b) q (ltb-true _ _ t) y
@@ -588,7 +588,7 @@ declined-only s σ i room n d h = first (ltb longest (length s)) refl h
       go false t y =
           let e : numberOf r ≡ n = cc in
           let f : detailsOf r ≡ d = cc in
-          let m : Meets s σ 32 i r = stopped-meets s σ r 32 i startOf (rw q refl) in
+          let m : Meets s σ 32 i r = stopped-meets s σ r 32 i aroundFirst (rw q refl) in
           rw (sym e, sym f) (met (l, rw q (ltb-false _ _ t)) m)
 
     first : (b : Bool) → ltb longest (length s) ≡ b → stop b 16 (textIn room (declarationOf s σ i)) ≡ refused n d → Declined s σ i room n d
@@ -606,10 +606,10 @@ declare-when = record {
   no-room = λ s σ i room h k. short-is s σ i room h ∙ over-is room (declarationOf s σ i) k;
   only-then = only-19-is;
   as-unlimited = λ s σ i room h k. short-is s σ i room h ∙ within-is room (declarationOf s σ i) k;
-  prints = λ s σ i h. printing s σ 32 i h startOf;
-  prints-only = λ s σ i h. printed-has s σ 32 i startOf h;
-  stops = λ s σ i e m. stopping s σ e 32 i (m .left) (m .at) (m .path) (m .fault) startOf;
-  stops-only = λ s σ i e h. stopped-meets s σ e 32 i startOf h;
+  prints = λ s σ i h. printing s σ 32 i h aroundFirst;
+  prints-only = λ s σ i h. printed-has s σ 32 i aroundFirst h;
+  stops = λ s σ i e m. stopping s σ e 32 i (m .left) (m .at) (m .path) (m .fault) aroundFirst;
+  stops-only = λ s σ i e h. stopped-meets s σ e 32 i aroundFirst h;
   at-23 = is-23;
   at-24 = is-24;
   five-modes = five-modes;
@@ -618,7 +618,7 @@ declare-when = record {
 
 -- ---- demand 1
 
-buffer-of : (o : List ℕ) (a : Answer (List ℕ)) (n : ℕ) (d : List ℕ) → lengthOf a ≡ refused n d → bufferAfter o a ≡ o
+buffer-of : (o : List ℕ) (a : Answer (List ℕ)) (n : ℕ) (d : List ℕ) → textLength a ≡ refused n d → textBufferAfter o a ≡ o
 buffer-of o (answered bs) n d e = let z : _≡_ {A = ℕ} 0 1 = cc in absurd (omega arith)
 buffer-of o (refused m x) n d e = refl
 
@@ -643,7 +643,7 @@ said-16 : Said 16 []
 unfolding among listed inTable refusals
 said-16 = (refl, refl)
 
-text-says : (room : ℕ) (w : Walked) → GoodWalk w → (n : ℕ) (d : List ℕ) → textIn room w ≡ refused n d → Said n d
+text-says : (room : ℕ) (w : Spelled) → GoodWalk w → (n : ℕ) (d : List ℕ) → textIn room w ≡ refused n d → Said n d
 unfolding textIn
 text-says room (printed l r) g n d h = go (ltb room (length (l ++ r))) h where
   go : (b : Bool) → stop b 19 (answered (l ++ r)) ≡ refused n d → Said n d
@@ -662,7 +662,7 @@ unfolding declareOf
 declare-says s σ i room n d h = go (ltb longest (length s)) h where
   go : (b : Bool) → stop b 16 (textIn room (declarationOf s σ i)) ≡ refused n d → Said n d
   go true k = let e : 16 ≡ n = cc in let f : [] ≡ d = cc in rw (sym e, sym f) said-16
-  go false k = text-says room (declarationOf s σ i) (walk-good s σ 32 i startOf) n d k
+  go false k = text-says room (declarationOf s σ i) (walk-good s σ 32 i aroundFirst) n d k
 
 -- ---- a declaration's parts
 
@@ -696,15 +696,15 @@ step-right O (node.Array i e) a h = tt
 step-right O (node.Procedure i j) a h = tt
 step-right O (node.Refused e) a h = h
 
-step-is : (s : List ℕ) (σ : State) (i : ℕ) (a : Around) → StepRight ((0x1000 ≤ i) × OtherLeaf declaredLeaves s σ i) (stepOf s σ i a)
-unfolding stepOf
+step-is : (s : List ℕ) (σ : State) (i : ℕ) (a : Around) → StepRight ((0x1000 ≤ i) × OtherLeaf declaredLeaves s σ i) (inwardStep s σ i a)
+unfolding inwardStep
 step-is s σ i a = step-right _ (nodeOf s σ i) a (node-is s σ i)
 
-pub step-says : (s : List ℕ) (σ : State) (i : ℕ) (a : Around) (e : Refusal) → stepOf s σ i a ≡ step.Refused e → among (numberOf e) ofNodes ≡ true
+pub step-says : (s : List ℕ) (σ : State) (i : ℕ) (a : Around) (e : Refusal) → inwardStep s σ i a ≡ step.Refused e → among (numberOf e) ofNodes ≡ true
 step-says s σ i a e h = reason-says _ e (rw h at (step-is s σ i a))
 
 pub walk-says : (s : List ℕ) (σ : State) (d i : ℕ) (a : Around) (k : ℕ) (e : Refusal) → walk s σ d i a ≡ stopped k e → among (numberOf e) ofWalks ≡ true
-walk-says s σ d i a k e h = let g : Good e = subst (λ (w : Walked). GoodWalk w) h (walk-good s σ d i a) in g .good
+walk-says s σ d i a k e h = let g : Good e = subst (λ (w : Spelled). GoodWalk w) h (walk-good s σ d i a) in g .good
 
 -- in a room
 abbrev GoodMeasured : Measured → Type 0
@@ -715,7 +715,7 @@ measured-pick : (b : Bool) (x y : Measured) → GoodMeasured x → GoodMeasured 
 measured-pick true x y p q = p
 measured-pick false x y p q = q
 
-capped-good : (room : ℕ) (w : Walked) → GoodWalk w → GoodMeasured (capped room w)
+capped-good : (room : ℕ) (w : Spelled) → GoodWalk w → GoodMeasured (capped room w)
 unfolding capped
 capped-good room (printed l r) g = measured-pick (ltb room (length l + length r)) (measured.Refused refusal.NoRoom) (measured.Fits (length l) (length r)) said-19 tt
 capped-good room (stopped k e) g = measured-pick (ltb room k) (measured.Refused refusal.NoRoom) (measured.Refused e) said-19 (one-more (numberOf e) (g .good), in-table e)

@@ -4,7 +4,7 @@ use Rattle.stream_finder.specs.Finder.{state, begunIn, createBy, updateOf}
 use mathlib.Core.Path.{sym, ap, _∙_}
 use lib.ListN.{length}
 use Rattle.stream_index.specs.Walk.{turnOf, saidEnd}
-use Rattle.stream_places.specs.File.{narrow, formOf}
+use Rattle.stream_places.specs.File.{narrow, fileFormOf}
 use Rattle.stream_places.specs.Places.{loadOf, loadWideOf, formFor, saveOf, saveWideOf}
 use Rattle.record_list.specs.Lists.{stepOf}
 use Rattle.claim_promises.proofs.ReadingRefuses.{fixed-refuses, signed-refuses, optional-refuses, string-refuses, counted-refuses, string-of-refuses, bytes-refuses, padding-refuses, numeral-refuses, sized-refuses}
@@ -59,8 +59,8 @@ demand1 = record {
   trailers = trailer-refuses narrow;
   loads = load-refuses narrow;
   saves = save-refuses narrow;
-  wide-trailers = λ f. trailer-refuses (formOf f) f;
-  wide-loads = λ s f t. load-refuses (formOf f) s f t;
+  wide-trailers = λ f. trailer-refuses (fileFormOf f) f;
+  wide-loads = λ s f t. load-refuses (fileFormOf f) s f t;
   wide-saves = λ s σ room. save-refuses (formFor (σ .finder .held)) s σ room;
   additions = add-refuses;
   drops = drop-refuses;

@@ -17,7 +17,7 @@ use Rattle.stream_header.specs.declared.Header.{Header}
 use Rattle.stream_item.specs.Iterator.{iterOf}
 use Rattle.stream_item.specs.declared.iter.ItemIter.{ItemIter}
 use Rattle.stream_fit.specs.Fit.{Verdict, fit, unfit, judged, fitOf}
-use Rattle.stream_prune.specs.Links.{Walked}
+use Rattle.stream_prune.specs.Links.{ComesPast}
 use Rattle.stream_prune.specs.Dropped.{IsIn}
 use Rattle.stream_drop.specs.Drop.{stays, numbersOnly, written, dropOf, saidDrop, Drops}
 use Rattle.stream_drop.specs.Sentences.{OldToNew, ReadsAsNone, FirstAbove, here, later, When}
@@ -108,7 +108,7 @@ module _ (s roots : List ℕ) (places room n : ℕ) (entries : List ℕ) (o : dr
     old-to-new : OldToNew roots h ps entries
     old-to-new = subst (OldToNew roots h ps) same (w .old-to-new inside)
 
-  holds : (h : Header) (c : ItemIter) (ps : List (List ℕ)) → Octets s → headerOf s ≡ answered h → iterOf stream.Types s ≡ answered c → Walked s c ps → OldToNew roots h ps entries
+  holds : (h : Header) (c : ItemIter) (ps : List (List ℕ)) → Octets s → headerOf s ≡ answered h → iterOf stream.Types s ≡ answered c → ComesPast s c ps → OldToNew roots h ps entries
   holds h c ps b e i w = old-to-new h c ps (sentences .when s roots h c ps b e i (is-fit h c e i) w)
 
 pub drop-leaves : (s roots t b : List ℕ) (r : DropAnswer) (t′ b′ : List ℕ) (n : ℕ) (d : List ℕ)

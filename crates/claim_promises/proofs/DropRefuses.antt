@@ -20,7 +20,7 @@ use Rattle.stream_fit.specs.Fit.{Verdict, fit, unfit, fitOf}
 use Rattle.stream_prune.specs.Links.{payloadsFrom}
 use Rattle.stream_prune.specs.Pruned.{numbers, newStream}
 use Rattle.stream_prune.specs.Dropped.{marksOf}
-use Rattle.stream_drop.specs.Drop.{Outcome, stays, numbersOnly, written, unless, firstAbove, unlessAbove, someReadAsNone, settled, droppedOf, unlessUnfit, dropOf, answerOf, tableAfter, bufferAfter, saidDrop, Drops}
+use Rattle.stream_drop.specs.Drop.{Outcome, stays, numbersOnly, written, unless, firstAbove, unlessAbove, someReadAsNone, settled, droppedOf, unlessUnfit, dropOf, answerOf, dropTableAfter, dropBufferAfter, saidDrop, Drops}
 use Rattle.stream_drop.specs.declared.DropAnswer.{DropAnswer}
 use Rattle.claim_promises.specs.ByTable.{Refuses, elsewhere, fits, gives, refuses}
 use Rattle.claim_promises.proofs.ByTable.{within, wider, both-first}
@@ -102,7 +102,7 @@ drop-refuses s roots places room = go (every-drop s roots places room)
 pub drops-no-bytes : (t b : List ℕ) (o : Outcome) (r : DropAnswer) (t′ b′ : List ℕ) (n : ℕ) (d : List ℕ) → Drops t b o r t′ b′ → saidDrop r ≡ refused n d → b′ ≡ b
 drops-no-bytes t b o r t′ b′ n d l e = go o (sym (l .says) ∙ e) (l .buffer)
   where
-    go : (o : Outcome) → answerOf o ≡ refused n d → b′ ≡ bufferAfter b o → b′ ≡ b
+    go : (o : Outcome) → answerOf o ≡ refused n d → b′ ≡ dropBufferAfter b o → b′ ≡ b
     go (stays m x) p q = q
     go (numbersOnly m entries) p q = q
     go (written entries new) p q = let z : _≡_ {A = ℕ} 0 1 = cc in absurd (omega arith)
@@ -125,7 +125,7 @@ pub drops-no-entry : (s roots t b : List ℕ) (r : DropAnswer) (t′ b′ : List
 unfolding fits
 drops-no-entry s roots t b r t′ b′ n d l e k = go (every-drop s roots (length t) (length b)) (sym (l .says) ∙ e) (l .table)
   where
-    go : {o : Outcome} → Drop o → answerOf o ≡ refused n d → t′ ≡ tableAfter t o → t′ ≡ t
+    go : {o : Outcome} → Drop o → answerOf o ≡ refused n d → t′ ≡ dropTableAfter t o → t′ ≡ t
     go (stayed p) h q = q
     go (numbered {n = m} p) h q = absurd (false≢true (sym k ∙ subst (λ (i : ℕ). among i ofNumbers ≡ true) (same-number m n [] d h) (both-first (among m ofNumbers) _ p)))
     go wrote h q = let z : _≡_ {A = ℕ} 0 1 = cc in absurd (omega arith)
@@ -141,7 +141,7 @@ pub drops-numbers : (s roots t b : List ℕ) (r : DropAnswer) (t′ b′ : List 
     → Drops t b (dropOf s roots (length t) (length b)) r t′ b′ → saidDrop r ≡ refused n d → among n ofNumbers ≡ true → Numbered (dropOf s roots (length t) (length b)) t t′
 drops-numbers s roots t b r t′ b′ n d l e k = go (dropOf s roots (length t) (length b)) refl (every-drop s roots (length t) (length b)) (sym (l .says) ∙ e) (l .table)
   where
-    go : (o : Outcome) → dropOf s roots (length t) (length b) ≡ o → Drop o → answerOf o ≡ refused n d → t′ ≡ tableAfter t o → Numbered (dropOf s roots (length t) (length b)) t t′
+    go : (o : Outcome) → dropOf s roots (length t) (length b) ≡ o → Drop o → answerOf o ≡ refused n d → t′ ≡ dropTableAfter t o → Numbered (dropOf s roots (length t) (length b)) t t′
     go (stays m x) i (stayed p) h q = absurd (two-apart m x p (subst (λ (j : ℕ). among j ofNumbers ≡ true) (sym (same-number m n x d h)) k))
     go (numbersOnly m entries) i w h q = record { number = m; entries = entries; outcome = i; table = q }
     go (written entries new) i w h q = let z : _≡_ {A = ℕ} 0 1 = cc in absurd (omega arith)

@@ -12,7 +12,7 @@ use borrow.Author.Tests.{ltb-true, ltb-false, lt-ltb, le-ltb}
 use Rattle.answer.specs.Answer.{Answer, answered, refused, pick, stop, then}
 use Rattle.answer.specs.Tables.{find, among}
 use Rattle.field.specs.Fields.{littleAt}
-use Rattle.field.specs.Indices.{numberIn}
+use Rattle.field.specs.Indices.{indexNumber}
 use Rattle.field_text.specs.Texts.{Part}
 use Rattle.field.specs.declared.index.ItemIndex.{ItemIndex}
 use Rattle.field.specs.declared.index.ItemIndex.the-variants as index
@@ -24,12 +24,12 @@ use Rattle.stream_item.specs.declared.Item.{Item}
 use Rattle.stream_item.specs.declared.Entry.{Entry}
 use Rattle.stream_item.specs.declared.Entry.the-variants as entry
 use Rattle.stream_item.specs.declared.iter.ItemIter.{ItemIter}
-use Rattle.stream_view.specs.Views.{partOf, named, shortOf, viewOf, rawKindOf}
+use Rattle.stream_view.specs.Views.{partOf, streamNamed, shortOf, viewOf, rawKindOf}
 use Rattle.stream_finder.specs.Finder.{State}
 use Rattle.stream_index.specs.Walk.{over, updating, turnOf}
 use Rattle.record_layout.specs.Fields.{Shown}
 use Rattle.record_layout.specs.Layouts.{Table, typeLeaves, idLeaves, recordOf}
-use Rattle.record_parse.specs.Record.{Parsed, primitive, bytes, numberedOf, typeBytes, idBytes, typeItem, typeMarker, itemOf, markerOf, entryOf as parsedOf, parseOf}
+use Rattle.record_parse.specs.Record.{Parsed, primitive, payloadAt, numberedOf, typeBytes, idBytes, typeItem, typeMarker, itemOf, markerOf, entryOf as parsedOf, parseOf}
 use Rattle.section_read.specs.Readers.{sortedOf, readOf}
 use Rattle.claim_promises.specs.ByTable.{Refuses}
 use Rattle.claim_promises.specs.Given.{by, Given}
@@ -56,26 +56,26 @@ short-never n t p a h none-by = record { when = λ x. absurd x; only = streams.s
 -- the record in n bytes of s from place p
 module _ (table : Table) (s : List ℕ) (p m : ℕ) (wrap : List Shown → Parsed) where
   abbrev inBytes : Answer Parsed
-  inBytes = stop (ltb (length s) (p + m)) 1 (then (recordOf table (bytes s p m)) (λ vs. answered (wrap vs)))
+  inBytes = stop (ltb (length s) (p + m)) 1 (then (recordOf table (payloadAt s p m)) (λ vs. answered (wrap vs)))
 
-  bytes-1 : {R : Type 0} → Given 1 [] (recordOf table (bytes s p m)) R → Given 1 [] inBytes ((length s < p + m) ⊎ ((p + m ≤ length s) × R))
+  bytes-1 : {R : Type 0} → Given 1 [] (recordOf table (payloadAt s p m)) R → Given 1 [] inBytes ((length s < p + m) ⊎ ((p + m ≤ length s) × R))
   bytes-1 {R = R} g = record {
     when = to;
-    only = at-stop 1 (ltb (length s) (p + m)) 1 _ (λ b _. inl (ltb-true _ _ b)) (λ b. at-then 1 (recordOf table (bytes s p m)) _ (λ x. inr (ltb-false _ _ b, g .only x)) (λ _ _. off));
+    only = at-stop 1 (ltb (length s) (p + m)) 1 _ (λ b _. inl (ltb-true _ _ b)) (λ b. at-then 1 (recordOf table (payloadAt s p m)) _ (λ x. inr (ltb-false _ _ b, g .only x)) (λ _ _. off));
   }
     where
       to : (length s < p + m) ⊎ ((p + m ≤ length s) × R) → inBytes ≡ refused 1 []
       to (inl h) = rw (lt-ltb _ _ h) refl
       to (inr (l, x)) = rw (le-ltb _ _ l, g .when x) refl
 
-  bytes-given : {n : ℕ} {d : List ℕ} {R : Type 0} → eqb 1 n ≡ false → Given n d (recordOf table (bytes s p m)) R → Given n d inBytes ((p + m ≤ length s) × R)
+  bytes-given : {n : ℕ} {d : List ℕ} {R : Type 0} → eqb 1 n ≡ false → Given n d (recordOf table (payloadAt s p m)) R → Given n d inBytes ((p + m ≤ length s) × R)
   bytes-given {n = n} h g = record {
     when = λ (l, x). rw (le-ltb _ _ l, g .when x) refl;
-    only = at-stop n (ltb (length s) (p + m)) 1 _ (λ _ e. off (sym h ∙ e)) (λ b. at-then n (recordOf table (bytes s p m)) _ (λ x. (ltb-false _ _ b, g .only x)) (λ _ _. off));
+    only = at-stop n (ltb (length s) (p + m)) 1 _ (λ _ e. off (sym h ∙ e)) (λ b. at-then n (recordOf table (payloadAt s p m)) _ (λ x. (ltb-false _ _ b, g .only x)) (λ _ _. off));
   }
 
-  bytes-not-8 : by 8 (recordOf table (bytes s p m)) ≡ false → by 8 inBytes ≡ false
-  bytes-not-8 h = go (ltb (length s) (p + m)) (recordOf table (bytes s p m)) h
+  bytes-not-8 : by 8 (recordOf table (payloadAt s p m)) ≡ false → by 8 inBytes ≡ false
+  bytes-not-8 h = go (ltb (length s) (p + m)) (recordOf table (payloadAt s p m)) h
     where
       go : (b : Bool) (a : Answer (List Shown)) → by 8 a ≡ false → by 8 (stop b 1 (then a (λ vs. answered (wrap vs)))) ≡ false
       go true a h = refl
@@ -107,8 +107,8 @@ numbered-8 i a h =
 
 module _ (t p : List ℕ) where
   -- items: by any number but 1, 8 and 16
-  item-given : {n : ℕ} {d : List ℕ} {R : Type 0} (ix : ItemIndex) (at m : ℕ) → eqb 1 n ≡ false → among n (8 ∷ []) ≡ false → Given n d (recordOf (leavesFor ix) (bytes (named t p ix) at m)) R
-      → Given n d (itemOf t p ix at m) (((OfNumber ix → ⊥) × (at + m ≤ length (named t p ix))) × R)
+  item-given : {n : ℕ} {d : List ℕ} {R : Type 0} (ix : ItemIndex) (at m : ℕ) → eqb 1 n ≡ false → among n (8 ∷ []) ≡ false → Given n d (recordOf (leavesFor ix) (payloadAt (streamNamed t p ix) at m)) R
+      → Given n d (itemOf t p ix at m) (((OfNumber ix → ⊥) × (at + m ≤ length (streamNamed t p ix))) × R)
   unfolding typeItem typeBytes idBytes
   item-given (index.Types i) at m one eight g =
       let h = unnumbered (i .0) _ eight (bytes-given typeLeaves t at m _ one g) in
@@ -117,8 +117,8 @@ module _ (t p : List ℕ) where
       let h = bytes-given idLeaves p at m _ one g in
       record { when = λ ((u, l), x). h .when (l, x); only = λ e. let y = h .only e in (((λ z. z), y .0), y .1) }
 
-  item-1 : {R : Type 0} (ix : ItemIndex) (at m : ℕ) → Given 1 [] (recordOf (leavesFor ix) (bytes (named t p ix) at m)) R
-      → Given 1 [] (itemOf t p ix at m) (((OfNumber ix → ⊥) × (length (named t p ix) < at + m)) ⊎ (((OfNumber ix → ⊥) × (at + m ≤ length (named t p ix))) × R))
+  item-1 : {R : Type 0} (ix : ItemIndex) (at m : ℕ) → Given 1 [] (recordOf (leavesFor ix) (payloadAt (streamNamed t p ix) at m)) R
+      → Given 1 [] (itemOf t p ix at m) (((OfNumber ix → ⊥) × (length (streamNamed t p ix) < at + m)) ⊎ (((OfNumber ix → ⊥) × (at + m ≤ length (streamNamed t p ix))) × R))
   unfolding typeItem typeBytes idBytes among
   item-1 {R = R} (index.Types i) at m g = record { when = to; only = λ e. back (h .only e) }
     where
@@ -144,7 +144,7 @@ module _ (t p : List ℕ) where
 
   items-1 : (i : Item) → Given 1 [] (parseOf t p (entry.Record i))
       (Short t p
-      × (((OfNumber (i .index) → ⊥) × (length (named t p (i .index)) < i .place + i .length))
+      × (((OfNumber (i .index) → ⊥) × (length (streamNamed t p (i .index)) < i .place + i .length))
       ⊎ (Whole t p i × ((length (payload t p i) < 2) ⊎ AtLeaf CutField (leavesFor (i .index)) (payload t p i) 0))))
   unfolding parseOf
   items-1 i = short-given t p _ refl (item-1 (i .index) (i .place) (i .length) (records.records-1 (leavesFor (i .index)) (payload t p i)))
@@ -162,23 +162,23 @@ module _ (t p : List ℕ) where
   unfolding parseOf among
   items-12 i = short-given t p _ refl (item-given (i .index) (i .place) (i .length) refl refl (records.records-12 (leavesFor (i .index)) (payload t p i)))
 
-  parsed-8 : (e : Entry) → Given 8 (numberIn (indexOf e) ∷ []) (parsedOf t p e) (OfNumber (indexOf e) × NoPrimitive (numberIn (indexOf e)))
+  parsed-8 : (e : Entry) → Given 8 (indexNumber (indexOf e) ∷ []) (parsedOf t p e) (OfNumber (indexOf e) × NoPrimitive (indexNumber (indexOf e)))
   unfolding typeItem typeMarker typeBytes idBytes among
   parsed-8 (entry.Record i) = item (i .index) (i .place) (i .length)
     where
-      item : (ix : ItemIndex) (at m : ℕ) → Given 8 (numberIn ix ∷ []) (itemOf t p ix at m) (OfNumber ix × NoPrimitive (numberIn ix))
-      item (index.Types j) at m = numbered-8 (j .0) _ (bytes-not-8 typeLeaves t at m _ (not-by 8 refl (type-refuses (bytes t at m))))
+      item : (ix : ItemIndex) (at m : ℕ) → Given 8 (indexNumber ix ∷ []) (itemOf t p ix at m) (OfNumber ix × NoPrimitive (indexNumber ix))
+      item (index.Types j) at m = numbered-8 (j .0) _ (bytes-not-8 typeLeaves t at m _ (not-by 8 refl (type-refuses (payloadAt t at m))))
       item (index.Ids j) at m = record {
         when = λ (x, _). absurd x;
-        only = λ e. off (sym (bytes-not-8 idLeaves p at m _ (not-by 8 refl (id-refuses (bytes p at m)))) ∙ e);
+        only = λ e. off (sym (bytes-not-8 idLeaves p at m _ (not-by 8 refl (id-refuses (payloadAt p at m)))) ∙ e);
       }
   parsed-8 (entry.Marker i) = marker i
     where
-      marker : (ix : ItemIndex) → Given 8 (numberIn ix ∷ []) (markerOf ix) (OfNumber ix × NoPrimitive (numberIn ix))
+      marker : (ix : ItemIndex) → Given 8 (indexNumber ix ∷ []) (markerOf ix) (OfNumber ix × NoPrimitive (indexNumber ix))
       marker (index.Types j) = numbered-8 (j .0) (refused 10 (0xffff ∷ [])) refl
       marker (index.Ids j) = record { when = λ (x, _). absurd x; only = off }
 
-  entries-8 : (e : Entry) → Given 8 (numberIn (indexOf e) ∷ []) (parseOf t p e) (Short t p × (OfNumber (indexOf e) × NoPrimitive (numberIn (indexOf e))))
+  entries-8 : (e : Entry) → Given 8 (indexNumber (indexOf e) ∷ []) (parseOf t p e) (Short t p × (OfNumber (indexOf e) × NoPrimitive (indexNumber (indexOf e))))
   unfolding parseOf
   entries-8 e = short-given t p (parsedOf t p e) refl (parsed-8 e)
 
@@ -211,9 +211,9 @@ module _ (t p : List ℕ) where
   unfolding parseOf
   marker-never n long ten eight i = short-never n t p (markerOf i) long (marker-not n ten eight i)
 
-  item-views-8 : (i : Item) → Given 8 (numberIn (i .index) ∷ []) (viewOf t p (entry.Record i)) ⊥
+  item-views-8 : (i : Item) → Given 8 (indexNumber (i .index) ∷ []) (viewOf t p (entry.Record i)) ⊥
   unfolding partOf
-  item-views-8 i = short-never 8 t p _ refl (go (ltb (length (named t p (i .index))) (i .place + i .length)))
+  item-views-8 i = short-never 8 t p _ refl (go (ltb (length (streamNamed t p (i .index))) (i .place + i .length)))
     where
       go : (b : Bool) → by {A = Part} 8 (stop b 1 (answered (record { place = i .place; length = i .length }))) ≡ false
       go true = refl
@@ -241,7 +241,7 @@ entries-when = record {
   markers-12 = λ t p. marker-never t p 12 refl refl refl;
   section-entries = section-entries;
   item-views-8 = item-views-8;
-  marker-views-1 = λ t p i. short-never 1 t p (refused 8 (numberIn i ∷ [])) refl refl;
+  marker-views-1 = λ t p i. short-never 1 t p (refused 8 (indexNumber i ∷ [])) refl refl;
   marker-kinds-1 = λ t p i. short-never 1 t p (answered 0xffff) refl refl;
   marker-kinds = λ t p i. streams.short-is t p (answered 0xffff);
   turns-done = turns-done;

@@ -18,7 +18,7 @@ use Rattle.field.specs.declared.index.Stream.{Stream}
 use Rattle.field.specs.declared.index.Stream.the-variants as stream
 use Rattle.record_layout.specs.Fields.{Field, id, Elements, types, ids, runBytes, word, run, readField, readFields, Shown, readFieldBy, readFieldsBy}
 use Rattle.record_layout.specs.Layouts.{always, T, Layout, typeLeaves, memberLeaves, method, idLeaves, readRecord}
-use Rattle.record_list.specs.Lists.{ElementValues, typeElement, idElement, Step, countedBy, counted, startTypes, startIds, startOf, countedStep, methodStep, memberStep, nextMember, stepOf, elementBy, elementOf}
+use Rattle.record_list.specs.Lists.{ElementValues, typeElement, idElement, Step, countedBy, countedList, startTypes, startIds, startOf, countedStep, methodStep, memberStep, nextMember, stepOf, elementBy, elementOf}
 use Rattle.record_list.specs.declared.ListCursor.{ListCursor}
 use Rattle.record_list.proofs.ListLaws.{element-refused}
 use Rattle.claim_promises.specs.ByTable.{Refuses}
@@ -46,7 +46,7 @@ count-1 s w e four leaf = record { when = reading.count-short s w e four leaf; o
 
 module _ (s : List ℕ) where
   pub type-lists-1 : Given 1 [] (startOf stream.Types s) ((length s < 2) ⊎ ((littleAt 2 s 0 ≡ 0x1201) × (length s < 6 + 4 * littleAt 4 s 2)))
-  unfolding startOf startTypes counted find typeLeaves
+  unfolding startOf startTypes countedList find typeLeaves
   type-lists-1 = record {
     when = go;
     only = at-then 1 (fixedAt 2 s 0) _ (λ x. inl (reading.fields 2 s 0 .only x)) (λ g e.
@@ -71,7 +71,7 @@ module _ (s : List ℕ) where
       ⊎ ((littleAt 2 s 0 ≡ 0x1604) × (length s < 6 + 4 * littleAt 4 s 2))
 
   pub id-lists-1 : Given 1 [] (startOf stream.Ids s) CutIds
-  unfolding startOf startIds counted find idLeaves
+  unfolding startOf startIds countedList find idLeaves
   id-lists-1 = record {
     when = go;
     only = at-then 1 (fixedAt 2 s 0) _ (λ x. inl (reading.fields 2 s 0 .only x)) (λ g e.

@@ -29,10 +29,10 @@ use Rattle.word_primitive.specs.declared.PrimitiveType.{PrimitiveType}
 use Rattle.word_attributes.specs.Bits.{bits}
 use Rattle.word_attributes.specs.declared.PointerKind.{PointerKind}
 use Rattle.word_attributes.specs.declared.PointerMode.{PointerMode}
-use Rattle.word_attributes.specs.Pointers.{pointerKinds, pointerModes, good, kindOf, modeOf, toMemberOf, referenceOf, kindSize, sizeOf}
+use Rattle.word_attributes.specs.Pointers.{pointerKinds, pointerModes, goodOr12, kindOf, modeOf, toMemberOf, referenceOf, pointerKindSize, sizeOf}
 use Rattle.record_layout.specs.Fields.{number, Elements, types, ids, runBytes, Field, fixed, type, id, stringReference, optionalType, optionalId, word, gap, numeric, size, string, run, methods, members, when, wordAfter, readField, readFields, Shown, readFieldBy, readFieldsBy}
 use Rattle.record_layout.specs.Layouts.{always, T, pointer, memberO, Layout, Table, isAnswered, typeLeaves, memberLeaves, method, idLeaves, byLayout, readLeaf, readRecord, leafOf, recordOf}
-use Rattle.record_list.specs.Lists.{ElementValues, typeElement, idElement, inCounted, countedBy, counted, startTypes, startIds, startOf, countedStep, methodStep, memberStep, nextMember, stepOf, elementBy, elementOf}
+use Rattle.record_list.specs.Lists.{ElementValues, typeElement, idElement, inCounted, countedBy, countedList, startTypes, startIds, startOf, countedStep, methodStep, memberStep, nextMember, stepOf, elementBy, elementOf}
 use Rattle.record_list.specs.declared.ListCursor.{ListCursor}
 use Rattle.field.specs.declared.index.Stream.the-variants as stream
 use Rattle.claim_promises.specs.Given.{by, Given}
@@ -286,21 +286,21 @@ module _ (i : ℕ) where
 
 -- ---- pointer words
 
-good-12 : {A : Type 0} (o : Option A) → by 12 (good o) ≡ true → o ≡ none
+good-12 : {A : Type 0} (o : Option A) → by 12 (goodOr12 o) ≡ true → o ≡ none
 good-12 none e = refl
 good-12 (some a) e = off e
 
 pub kinds-12 : (w : ℕ) → Given 12 [] (kindOf w) (13 ≤ bits 0 4 w)
 unfolding kindOf under covers find pointerKinds
 kinds-12 w = record {
-  when = λ h. ap good (above 13 pointerKinds refl (bits 0 4 w) h);
+  when = λ h. ap goodOr12 (above 13 pointerKinds refl (bits 0 4 w) h);
   only = λ e. reaches 13 pointerKinds refl (bits 0 4 w) (good-12 (find (bits 0 4 w) pointerKinds) e);
 }
 
 pub modes-12 : (w : ℕ) → Given 12 [] (modeOf w) (5 ≤ bits 5 7 w)
 unfolding modeOf under covers find pointerModes
 modes-12 w = record {
-  when = λ h. ap good (above 5 pointerModes refl (bits 5 7 w) h);
+  when = λ h. ap goodOr12 (above 5 pointerModes refl (bits 5 7 w) h);
   only = λ e. reaches 5 pointerModes refl (bits 5 7 w) (good-12 (find (bits 5 7 w) pointerModes) e);
 }
 
@@ -315,7 +315,7 @@ references-12 w = given-then _ (modes-12 w) (λ m. refl)
 pub sizes-12 : (w : ℕ) → Given 12 [] (sizeOf w) ((bits 13 18 w ≡ 0) × (13 ≤ bits 0 4 w))
 unfolding sizeOf
 sizes-12 w =
-    let by-kind : Given 12 [] (then (kindOf w) (λ k. answered (kindSize k))) (13 ≤ bits 0 4 w) = given-then _ (kinds-12 w) (λ k. refl) in
+    let by-kind : Given 12 [] (then (kindOf w) (λ k. answered (pointerKindSize k))) (13 ≤ bits 0 4 w) = given-then _ (kinds-12 w) (λ k. refl) in
     record {
       when = λ (z, h). rw (eq-eqb _ _ z) (by-kind .when h);
       only = at-pick 12 (eqb (bits 13 18 w) 0) _ _ (λ b e. (eqb-true _ _ b, by-kind .only e)) (λ _. off);
@@ -336,7 +336,7 @@ takes id = refl
 takes stringReference = refl
 takes optionalType = refl
 takes optionalId = refl
-takes (word k good) = (refl, λ n. either (good n))
+takes (word k goodOr12) = (refl, λ n. either (goodOr12 n))
 takes (gap k) = refl
 takes numeric = refl
 takes size = refl
@@ -395,7 +395,7 @@ unfolding kindOf modeOf covers find pointerKinds pointerModes
 word-bad w = go (find (bits 0 4 w) pointerKinds) (find (bits 5 7 w) pointerModes) refl refl
   where
     go : (k : Option PointerKind) (m : Option PointerMode) → find (bits 0 4 w) pointerKinds ≡ k → find (bits 5 7 w) pointerModes ≡ m
-        → both (isAnswered (good k)) (isAnswered (good m)) ≡ false → (13 ≤ bits 0 4 w) ⊎ (5 ≤ bits 5 7 w)
+        → both (isAnswered (goodOr12 k)) (isAnswered (goodOr12 m)) ≡ false → (13 ≤ bits 0 4 w) ⊎ (5 ≤ bits 5 7 w)
     go none m x y e = inl (reaches 13 pointerKinds refl (bits 0 4 w) x)
     go (some k) none x y e = inr (reaches 5 pointerModes refl (bits 5 7 w) y)
     go (some k) (some m) x y e = off (sym e)
@@ -416,9 +416,9 @@ module _ (s : List ℕ) where
   unfolding readFieldsBy readFieldBy
   word-12 true a x =
       let ten = field-there 4 s 6 (littleAt 4 s 6) (leb-true _ _ a) refl in
-      let good = both (isAnswered (kindOf (littleAt 4 s 6))) (isAnswered (modeOf (littleAt 4 s 6))) in
-      at-then 12 (pick good (got (number (littleAt 4 s 6)) 10) (refused 12 [])) _
-      (at-pick 12 good _ _ (λ _. off) (λ b _. (leb-true _ _ a, word-bad (littleAt 4 s 6) b)))
+      let goodOr12 = both (isAnswered (kindOf (littleAt 4 s 6))) (isAnswered (modeOf (littleAt 4 s 6))) in
+      at-then 12 (pick goodOr12 (got (number (littleAt 4 s 6)) 10) (refused 12 [])) _
+      (at-pick 12 goodOr12 _ _ (λ _. off) (λ b _. (leb-true _ _ a, word-bad (littleAt 4 s 6) b)))
       (λ v _. at-then 12 (readFields (memberO ∷ []) (wordAfter pointer (v .value) 0) s (v .next)) _ (no-12 (wordAfter pointer (v .value) 0) (v .next)) (λ _ _. off))
       (rw (sym ten) at x)
   word-12 false a x = off (rw (fields 4 s 6 .when (leb-false _ _ a)) at x)
@@ -475,7 +475,7 @@ unfolding countedBy
 counted-10 fs leaf s p = at-then 10 (readFields fs 0 s p) _ (no-10 fs 0 s p) (λ _ _. off)
 
 pub type-lists-10 : (s : List ℕ) → Given 10 (littleAt 2 s 0 ∷ []) (startOf stream.Types s) ((2 ≤ length s) × (among (littleAt 2 s 0) (0x1201 ∷ 0x1206 ∷ 0x1203 ∷ []) ≡ false))
-unfolding startOf startTypes counted find typeLeaves among
+unfolding startOf startTypes countedList find typeLeaves among
 type-lists-10 s = record {
   when = λ (a, b).
       let n = among-3 (littleAt 2 s 0) 0x1201 0x1206 0x1203 b in
@@ -489,7 +489,7 @@ type-lists-10 s = record {
 }
 
 pub id-lists-10 : (s : List ℕ) → Given 10 (littleAt 2 s 0 ∷ []) (startOf stream.Ids s) ((2 ≤ length s) × (among (littleAt 2 s 0) (0x1603 ∷ 0x1604 ∷ []) ≡ false))
-unfolding startOf startIds counted find idLeaves among
+unfolding startOf startIds countedList find idLeaves among
 id-lists-10 s = record {
   when = λ (a, b).
       let n = among-2 (littleAt 2 s 0) 0x1603 0x1604 b in
@@ -623,7 +623,7 @@ module _ (s : List ℕ) where
   cut-15 e never = rw e (record { when = λ p. absurd (never p); only = off })
 
   pub arguments-15 : littleAt 2 s 0 ≡ 0x1201 → (k : ℕ) → Given 15 [] (elementOf stream.Types s k) ((6 + 4 * littleAt 4 s 2 ≤ length s) × (littleAt 4 s 2 ≤ k))
-  unfolding elementOf startOf startTypes stepOf counted find typeLeaves readFieldBy
+  unfolding elementOf startOf startTypes stepOf countedList find typeLeaves readFieldBy
   arguments-15 leaf k = go (leb 2 (length s)) refl
     where
       go : (b : Bool) → leb 2 (length s) ≡ b → Given 15 [] (elementOf stream.Types s k) ((6 + 4 * littleAt 4 s 2 ≤ length s) × (littleAt 4 s 2 ≤ k))
@@ -631,7 +631,7 @@ module _ (s : List ℕ) where
       go false q = let h = leb-false _ _ q in cut-15 (rw (fields 2 s 0 .when h) refl) (λ (a, _). omega arith)
 
   pub build-arguments-15 : littleAt 2 s 0 ≡ 0x1603 → (k : ℕ) → Given 15 [] (elementOf stream.Ids s k) ((4 + 4 * littleAt 2 s 2 ≤ length s) × (littleAt 2 s 2 ≤ k))
-  unfolding elementOf startOf startIds stepOf counted find idLeaves readFieldBy
+  unfolding elementOf startOf startIds stepOf countedList find idLeaves readFieldBy
   build-arguments-15 leaf k = go (leb 2 (length s)) refl
     where
       go : (b : Bool) → leb 2 (length s) ≡ b → Given 15 [] (elementOf stream.Ids s k) ((4 + 4 * littleAt 2 s 2 ≤ length s) × (littleAt 2 s 2 ≤ k))
@@ -639,7 +639,7 @@ module _ (s : List ℕ) where
       go false q = let h = leb-false _ _ q in cut-15 (rw (fields 2 s 0 .when h) refl) (λ (a, _). omega arith)
 
   pub substrings-15 : littleAt 2 s 0 ≡ 0x1604 → (k : ℕ) → Given 15 [] (elementOf stream.Ids s k) ((6 + 4 * littleAt 4 s 2 ≤ length s) × (littleAt 4 s 2 ≤ k))
-  unfolding elementOf startOf startIds stepOf counted find idLeaves readFieldBy
+  unfolding elementOf startOf startIds stepOf countedList find idLeaves readFieldBy
   substrings-15 leaf k = go (leb 2 (length s)) refl
     where
       go : (b : Bool) → leb 2 (length s) ≡ b → Given 15 [] (elementOf stream.Ids s k) ((6 + 4 * littleAt 4 s 2 ≤ length s) × (littleAt 4 s 2 ≤ k))

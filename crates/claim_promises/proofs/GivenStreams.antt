@@ -12,10 +12,10 @@ use borrow.Author.Tests.{ltb-true, ltb-false, leb-true, leb-false, eqb-true, eqb
 use Rattle.answer.specs.Answer.{Answer, answered, refused, pick, stop, both, then}
 use Rattle.field.specs.Fields.{littleAt}
 use Rattle.field_text.specs.Texts.{Part}
-use Rattle.stream_header.specs.Header.{longest, empty, fieldsOf, headerOf}
+use Rattle.stream_header.specs.Header.{longest, zeroHeader, fieldsOf, headerOf}
 use Rattle.stream_header.specs.declared.Header.{Header}
 use Rattle.stream_header.proofs.HeaderLaws.{There, Sized, header-long, header-cut, header-small, header-large, header-past, minimum-low, maximum-low}
-use Rattle.field.specs.Indices.{numberIn}
+use Rattle.field.specs.Indices.{indexNumber}
 use Rattle.stream_item.specs.Links.{linkOf}
 use Rattle.stream_item.specs.Iterator.{iterOf, Next, done, overRecord, nextOf}
 use Rattle.stream_item.specs.Information.{lenOf, isEmptyOf}
@@ -28,7 +28,7 @@ use Rattle.stream_item.specs.declared.iter.ItemIter.{ItemIter}
 use Rattle.stream_item.specs.declared.link.Hit.{Hit}
 use Rattle.stream_item.specs.declared.link.Hit.the-variants.{Landed, Missed}
 use Rattle.stream_item.proofs.NextLaws.{next-long, next-past, next-length, next-short, next-payload, next-used}
-use Rattle.stream_view.specs.Views.{partOf, named, shortOf, entryOf, viewOf, kindAt, entryKind, rawKindOf}
+use Rattle.stream_view.specs.Views.{partOf, streamNamed, shortOf, entryPart, viewOf, kindAt, entryKind, rawKindOf}
 use Rattle.stream_finder.specs.Finder.{State, blockOf, distance, begunBy, createBy, due, stored, updateOf, landed, maxIndexOf, lookOf, Found, findOf}
 use Rattle.stream_finder.specs.Places.{Ready}
 use Rattle.stream_finder.proofs.FinderLaws.{begun-shift, begun-full, create-is, Open, update-long, update-shift, update-claims, update-foreign, update-full, due-yes, find-long, find-shift, find-claims, find-above, find-unheld, find-held}
@@ -207,9 +207,9 @@ module _ (t p : List ℕ) where
     only = short-ways 16 a (λ h _. h) (λ _ e. off (sym own ∙ e));
   }
 
-  not-long : (e : Entry) → by 16 (entryOf t p e) ≡ false
+  not-long : (e : Entry) → by 16 (entryPart t p e) ≡ false
   unfolding partOf
-  not-long (entry.Record i) = go (ltb (length (named t p (i .index))) (i .place + i .length))
+  not-long (entry.Record i) = go (ltb (length (streamNamed t p (i .index))) (i .place + i .length))
     where
       go : (b : Bool) → by {A = Part} 16 (stop b 1 (answered (record { place = i .place; length = i .length }))) ≡ false
       go true = refl
@@ -217,44 +217,44 @@ module _ (t p : List ℕ) where
   not-long (entry.Marker i) = refl
 
   pub views-16 : (e : Entry) → Given 16 [] (viewOf t p e) ((longest < length t) ⊎ (longest < length p))
-  views-16 e = view-long (entryOf t p e) (not-long e)
+  views-16 e = view-long (entryPart t p e) (not-long e)
 
-  pub views-8 : (i : ItemIndex) → Given 8 (numberIn i ∷ []) (viewOf t p (entry.Marker i)) (Short t p)
+  pub views-8 : (i : ItemIndex) → Given 8 (indexNumber i ∷ []) (viewOf t p (entry.Marker i)) (Short t p)
   views-8 i = record {
-    when = short-is (refused 8 (numberIn i ∷ []));
-    only = short-ways 8 (refused 8 (numberIn i ∷ [])) (λ _. off) (λ h _. h);
+    when = short-is (refused 8 (indexNumber i ∷ []));
+    only = short-ways 8 (refused 8 (indexNumber i ∷ [])) (λ _. off) (λ h _. h);
   }
 
-  pub views-1 : (i : Item) → Given 1 [] (viewOf t p (entry.Record i)) (Short t p × (length (named t p (i .index)) < i .place + i .length))
+  pub views-1 : (i : Item) → Given 1 [] (viewOf t p (entry.Record i)) (Short t p × (length (streamNamed t p (i .index)) < i .place + i .length))
   unfolding partOf
   views-1 i = record {
     when = λ (h, b). short-is _ h ∙ simp (lt-ltb _ _ b);
-    only = short-ways 1 _ (λ _. off) (λ h. at-stop 1 (ltb (length (named t p (i .index))) (i .place + i .length)) 1 _ (λ b _. (h, ltb-true _ _ b)) (λ _. off));
+    only = short-ways 1 _ (λ _. off) (λ h. at-stop 1 (ltb (length (streamNamed t p (i .index))) (i .place + i .length)) 1 _ (λ b _. (h, ltb-true _ _ b)) (λ _. off));
   }
 
-  kind-ends : (i : Item) → (length (named t p (i .index)) < i .place + i .length) ⊎ (i .length < 2) → kindAt (named t p (i .index)) (i .place) (i .length) ≡ refused 1 []
+  kind-ends : (i : Item) → (length (streamNamed t p (i .index)) < i .place + i .length) ⊎ (i .length < 2) → kindAt (streamNamed t p (i .index)) (i .place) (i .length) ≡ refused 1 []
   unfolding kindAt
   kind-ends i (inl h) = simp (lt-ltb _ _ h)
-  kind-ends i (inr h) = go (ltb (length (named t p (i .index))) (i .place + i .length))
+  kind-ends i (inr h) = go (ltb (length (streamNamed t p (i .index))) (i .place + i .length))
     where
-      go : (b : Bool) → stop b 1 (stop (ltb (i .length) 2) 1 (answered (littleAt 2 (named t p (i .index)) (i .place)))) ≡ refused 1 []
+      go : (b : Bool) → stop b 1 (stop (ltb (i .length) 2) 1 (answered (littleAt 2 (streamNamed t p (i .index)) (i .place)))) ≡ refused 1 []
       go true = refl
       go false = simp (lt-ltb _ _ h)
 
-  pub raw-kinds-1 : (i : Item) → Given 1 [] (rawKindOf t p (entry.Record i)) (Short t p × ((length (named t p (i .index)) < i .place + i .length) ⊎ (i .length < 2)))
+  pub raw-kinds-1 : (i : Item) → Given 1 [] (rawKindOf t p (entry.Record i)) (Short t p × ((length (streamNamed t p (i .index)) < i .place + i .length) ⊎ (i .length < 2)))
   unfolding kindAt
   raw-kinds-1 i = record {
     when = λ (h, b). short-is _ h ∙ kind-ends i b;
     only = short-ways 1 _ (λ _. off) (λ h.
-        at-stop 1 (ltb (length (named t p (i .index))) (i .place + i .length)) 1 _ (λ b _. (h, inl (ltb-true _ _ b))) (λ _.
+        at-stop 1 (ltb (length (streamNamed t p (i .index))) (i .place + i .length)) 1 _ (λ b _. (h, inl (ltb-true _ _ b))) (λ _.
         at-stop 1 (ltb (i .length) 2) 1 _ (λ b _. (h, inr (ltb-true _ _ b))) (λ _. off)));
   }
 
   kind-not-long : (e : Entry) → by 16 (entryKind t p e) ≡ false
   unfolding kindAt
-  kind-not-long (entry.Record i) = go (ltb (length (named t p (i .index))) (i .place + i .length)) (ltb (i .length) 2)
+  kind-not-long (entry.Record i) = go (ltb (length (streamNamed t p (i .index))) (i .place + i .length)) (ltb (i .length) 2)
     where
-      go : (a b : Bool) → by 16 (stop a 1 (stop b 1 (answered (littleAt 2 (named t p (i .index)) (i .place))))) ≡ false
+      go : (a b : Bool) → by 16 (stop a 1 (stop b 1 (answered (littleAt 2 (streamNamed t p (i .index)) (i .place))))) ≡ false
       go true b = refl
       go false true = refl
       go false false = refl
@@ -365,9 +365,9 @@ module _ (s : List ℕ) (σ : State) (i : ItemIndex) where
       → (longest < length s → eqb 16 n ≡ true → P)
       → (length s ≤ longest → 6 < σ .finder .shift → eqb 26 n ≡ true → P)
       → (length s ≤ longest → σ .finder .shift ≤ 6 → length (σ .table) < σ .finder .held → eqb 13 n ≡ true → P)
-      → (Usable s σ → σ .finder .«minimum_index» ≤ numberIn i → σ .finder .«maximum_index» < numberIn i → eqb 8 n ≡ true → P)
-      → (Usable s σ → InBounds σ (numberIn i) → σ .finder .held ≤ block σ (numberIn i) → eqb 9 n ≡ true → P)
-      → (Usable s σ → InBounds σ (numberIn i) → block σ (numberIn i) < σ .finder .held → by n (landed i (linksSkipped σ (numberIn i)) (walked s σ (numberIn i))) ≡ true → P)
+      → (Usable s σ → σ .finder .«minimum_index» ≤ indexNumber i → σ .finder .«maximum_index» < indexNumber i → eqb 8 n ≡ true → P)
+      → (Usable s σ → InBounds σ (indexNumber i) → σ .finder .held ≤ block σ (indexNumber i) → eqb 9 n ≡ true → P)
+      → (Usable s σ → InBounds σ (indexNumber i) → block σ (indexNumber i) < σ .finder .held → by n (landed i (linksSkipped σ (indexNumber i)) (walked s σ (indexNumber i))) ≡ true → P)
       → by n (findOf s σ i) ≡ true → P
   unfolding lookOf
   find-ways n long large claims above unheld walks =
@@ -375,13 +375,13 @@ module _ (s : List ℕ) (σ : State) (i : ItemIndex) where
       at-stop n (ltb 6 (σ .finder .shift)) 26 _ (λ z. large (ltb-false _ _ a) (ltb-true _ _ z)) (λ z.
       at-stop n (ltb (length (σ .table)) (σ .finder .held)) 13 _ (λ b. claims (ltb-false _ _ a) (ltb-false _ _ z) (ltb-true _ _ b)) (λ b.
       let good : Usable s σ = (ltb-false _ _ a, ltb-false _ _ z, ltb-false _ _ b) in
-      at-pick n (ltb (numberIn i) (σ .finder .«minimum_index»)) _ _ (λ _. off) (λ c.
-      at-pick n (ltb (σ .finder .«maximum_index») (numberIn i)) _ _ (λ d. above good (ltb-false _ _ c) (ltb-true _ _ d)) (λ d.
-      at-pick n (leb (σ .finder .held) (block σ (numberIn i))) _ _ (λ e. unheld good (ltb-false _ _ c, ltb-false _ _ d) (leb-true _ _ e)) (λ e.
+      at-pick n (ltb (indexNumber i) (σ .finder .«minimum_index»)) _ _ (λ _. off) (λ c.
+      at-pick n (ltb (σ .finder .«maximum_index») (indexNumber i)) _ _ (λ d. above good (ltb-false _ _ c) (ltb-true _ _ d)) (λ d.
+      at-pick n (leb (σ .finder .held) (block σ (indexNumber i))) _ _ (λ e. unheld good (ltb-false _ _ c, ltb-false _ _ d) (leb-true _ _ e)) (λ e.
       walks good (ltb-false _ _ c, ltb-false _ _ d) (leb-false _ _ e)))))))
 
   -- a walk along the links gives 1 alone
-  landed-not : (n : ℕ) → eqb 1 n ≡ false → (h : Hit) → by n (landed i (linksSkipped σ (numberIn i)) h) ≡ false
+  landed-not : (n : ℕ) → eqb 1 n ≡ false → (h : Hit) → by n (landed i (linksSkipped σ (indexNumber i)) h) ≡ false
   landed-not n e (Landed p l) = refl
   landed-not n e (Missed j) = e
 
@@ -390,44 +390,44 @@ module _ (s : List ℕ) (σ : State) (i : ItemIndex) where
 
   pub finds-16 : Given 16 [] (findOf s σ i) (longest < length s)
   finds-16 = record {
-    when = find-long s σ i (numberIn i);
-    only = find-ways 16 (λ h _. h) (λ _ _. off) (λ _ _ _. off) (λ _ _ _. off) (λ _ _ _. off) (λ _ _ _ e. off (sym (landed-not 16 refl (walked s σ (numberIn i))) ∙ e));
+    when = find-long s σ i (indexNumber i);
+    only = find-ways 16 (λ h _. h) (λ _ _. off) (λ _ _ _. off) (λ _ _ _. off) (λ _ _ _. off) (λ _ _ _ e. off (sym (landed-not 16 refl (walked s σ (indexNumber i))) ∙ e));
   }
 
   pub finds-26 : Given 26 [] (findOf s σ i) ((length s ≤ longest) × (6 < σ .finder .shift))
   finds-26 = record {
-    when = λ (a, h). find-shift s σ i (numberIn i) a h;
-    only = find-ways 26 (λ _. off) (λ a h _. (a, h)) (λ _ _ _. off) (λ _ _ _. off) (λ _ _ _. off) (λ _ _ _ e. off (sym (landed-not 26 refl (walked s σ (numberIn i))) ∙ e));
+    when = λ (a, h). find-shift s σ i (indexNumber i) a h;
+    only = find-ways 26 (λ _. off) (λ a h _. (a, h)) (λ _ _ _. off) (λ _ _ _. off) (λ _ _ _. off) (λ _ _ _ e. off (sym (landed-not 26 refl (walked s σ (indexNumber i))) ∙ e));
   }
 
   pub finds-13 : Given 13 [] (findOf s σ i) ((length s ≤ longest) × (σ .finder .shift ≤ 6) × (length (σ .table) < σ .finder .held))
   finds-13 = record {
-    when = λ (a, z, h). find-claims s σ i (numberIn i) a z h;
-    only = find-ways 13 (λ _. off) (λ _ _. off) (λ a z h _. (a, z, h)) (λ _ _ _. off) (λ _ _ _. off) (λ _ _ _ e. off (sym (landed-not 13 refl (walked s σ (numberIn i))) ∙ e));
+    when = λ (a, z, h). find-claims s σ i (indexNumber i) a z h;
+    only = find-ways 13 (λ _. off) (λ _ _. off) (λ a z h _. (a, z, h)) (λ _ _ _. off) (λ _ _ _. off) (λ _ _ _ e. off (sym (landed-not 13 refl (walked s σ (indexNumber i))) ∙ e));
   }
 
-  pub finds-8 : Given 8 (numberIn i ∷ []) (findOf s σ i) (Usable s σ × (σ .finder .«minimum_index» ≤ numberIn i) × (σ .finder .«maximum_index» < numberIn i))
+  pub finds-8 : Given 8 (indexNumber i ∷ []) (findOf s σ i) (Usable s σ × (σ .finder .«minimum_index» ≤ indexNumber i) × (σ .finder .«maximum_index» < indexNumber i))
   finds-8 = record {
-    when = λ (g, l, h). find-above s σ i (numberIn i) (ready g) l h;
-    only = find-ways 8 (λ _. off) (λ _ _. off) (λ _ _ _. off) (λ g l h _. (g, l, h)) (λ _ _ _. off) (λ _ _ _ e. off (sym (landed-not 8 refl (walked s σ (numberIn i))) ∙ e));
+    when = λ (g, l, h). find-above s σ i (indexNumber i) (ready g) l h;
+    only = find-ways 8 (λ _. off) (λ _ _. off) (λ _ _ _. off) (λ g l h _. (g, l, h)) (λ _ _ _. off) (λ _ _ _ e. off (sym (landed-not 8 refl (walked s σ (indexNumber i))) ∙ e));
   }
 
-  pub finds-9 : Given 9 (numberIn i ∷ maxIndexOf (σ .finder) ∷ []) (findOf s σ i) (Usable s σ × InBounds σ (numberIn i) × (σ .finder .held ≤ block σ (numberIn i)))
+  pub finds-9 : Given 9 (indexNumber i ∷ maxIndexOf (σ .finder) ∷ []) (findOf s σ i) (Usable s σ × InBounds σ (indexNumber i) × (σ .finder .held ≤ block σ (indexNumber i)))
   finds-9 = record {
-    when = λ (g, (l, u), h). find-unheld s σ i (numberIn i) (ready g) l u h;
-    only = find-ways 9 (λ _. off) (λ _ _. off) (λ _ _ _. off) (λ _ _ _. off) (λ g n h _. (g, n, h)) (λ _ _ _ e. off (sym (landed-not 9 refl (walked s σ (numberIn i))) ∙ e));
+    when = λ (g, (l, u), h). find-unheld s σ i (indexNumber i) (ready g) l u h;
+    only = find-ways 9 (λ _. off) (λ _ _. off) (λ _ _ _. off) (λ _ _ _. off) (λ g n h _. (g, n, h)) (λ _ _ _ e. off (sym (landed-not 9 refl (walked s σ (indexNumber i))) ∙ e));
   }
 
-  breaks : (h : Hit) → LinkBreaks h → landed i (linksSkipped σ (numberIn i)) h ≡ refused 1 (brokeAfter h ∷ [])
+  breaks : (h : Hit) → LinkBreaks h → landed i (linksSkipped σ (indexNumber i)) h ≡ refused 1 (brokeAfter h ∷ [])
   breaks (Missed j) b = refl
 
-  broke : (h : Hit) → by 1 (landed i (linksSkipped σ (numberIn i)) h) ≡ true → LinkBreaks h
+  broke : (h : Hit) → by 1 (landed i (linksSkipped σ (indexNumber i)) h) ≡ true → LinkBreaks h
   broke (Landed p l) e = off e
   broke (Missed j) e = tt
 
-  pub finds-1 : Given 1 (brokeAfter (walked s σ (numberIn i)) ∷ []) (findOf s σ i)
-      (Usable s σ × InBounds σ (numberIn i) × (block σ (numberIn i) < σ .finder .held) × LinkBreaks (walked s σ (numberIn i)))
+  pub finds-1 : Given 1 (brokeAfter (walked s σ (indexNumber i)) ∷ []) (findOf s σ i)
+      (Usable s σ × InBounds σ (indexNumber i) × (block σ (indexNumber i) < σ .finder .held) × LinkBreaks (walked s σ (indexNumber i)))
   finds-1 = record {
-    when = λ (g, (l, u), h, b). find-held s σ i (numberIn i) _ refl (ready g) l u h ∙ breaks (walked s σ (numberIn i)) b;
-    only = find-ways 1 (λ _. off) (λ _ _. off) (λ _ _ _. off) (λ _ _ _. off) (λ _ _ _. off) (λ g n h e. (g, n, h, broke (walked s σ (numberIn i)) e));
+    when = λ (g, (l, u), h, b). find-held s σ i (indexNumber i) _ refl (ready g) l u h ∙ breaks (walked s σ (indexNumber i)) b;
+    only = find-ways 1 (λ _. off) (λ _ _. off) (λ _ _ _. off) (λ _ _ _. off) (λ _ _ _. off) (λ g n h e. (g, n, h, broke (walked s σ (indexNumber i)) e));
   }

@@ -10,7 +10,7 @@ use borrow.Author.Tests.{eq-eqb}
 use Rattle.answer.specs.Answer.{Answer, answered, refused}
 use Rattle.answer.specs.Tables.{among}
 use Rattle.stream_finder.specs.Finder.{State, createBy}
-use Rattle.stream_places.specs.File.{Form}
+use Rattle.stream_places.specs.File.{FileForm}
 use Rattle.stream_places.specs.Places.{loadBy, saveBy}
 use Rattle.section_finder.specs.Finders as section
 use Rattle.claim_promises.specs.ByTable.{elsewhere, Refuses, fits, gives, refuses}
@@ -40,11 +40,11 @@ no-idle : {A : Type 0} (ns : List ℕ) (k : ℕ) (a : Answer A) (x : A) → amon
 no-idle ns k a x h e r = denied k h (subst (λ (y : Answer _). Refuses ns (idle k y)) e r) (eq-eqb k k refl)
 
 -- so `loads-else`, `saves-else` and the two `creations-else` do: 16 is the header's, and 25 the section's
-pub no-idle-load : (form : Form) (s f t : List ℕ) (σ : State) → loadBy form s f t ≡ answered σ → Refuses (20 ∷ 21 ∷ 13 ∷ 22 ∷ []) (idle 16 (loadBy form s f t)) → ⊥
+pub no-idle-load : (form : FileForm) (s f t : List ℕ) (σ : State) → loadBy form s f t ≡ answered σ → Refuses (20 ∷ 21 ∷ 13 ∷ 22 ∷ []) (idle 16 (loadBy form s f t)) → ⊥
 unfolding among
 no-idle-load form s f t σ e = no-idle (20 ∷ 21 ∷ 13 ∷ 22 ∷ []) 16 (loadBy form s f t) σ refl e
 
-pub no-idle-save : (form : Form) (s : List ℕ) (σ : State) (room : ℕ) (bs : List ℕ) → saveBy form s σ room ≡ answered bs
+pub no-idle-save : (form : FileForm) (s : List ℕ) (σ : State) (room : ℕ) (bs : List ℕ) → saveBy form s σ room ≡ answered bs
     → Refuses (21 ∷ 26 ∷ 13 ∷ 19 ∷ []) (idle 16 (saveBy form s σ room)) → ⊥
 unfolding among
 no-idle-save form s σ room bs e = no-idle (21 ∷ 26 ∷ 13 ∷ 19 ∷ []) 16 (saveBy form s σ room) bs refl e

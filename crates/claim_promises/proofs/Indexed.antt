@@ -23,7 +23,7 @@ use Rattle.stream_finder.specs.Finder.{State, state, runOf, begunIn, begunBy, c
 use Rattle.stream_finder.specs.declared.ItemFinder.{ItemFinder}
 use Rattle.stream_finder.specs.Demand.{Premises, looked, Demand3By, Demand3Every, NotIndexedBy, NotIndexedEvery}
 use Rattle.stream_finder.specs.Shared.{Roamed, begun, called, Updated, untouched, by, Serves, SharedBy, Shared}
-use Rattle.stream_finder.specs.Runs.{onward, startIn}
+use Rattle.stream_finder.specs.Runs.{iterAfter, startIn}
 use Rattle.stream_finder.proofs.DemandProof.{created-in, fresh-iter, demand3-every, not-indexed-every}
 use Rattle.stream_finder.proofs.SharedProof.{shared}
 use Rattle.stream_finder.proofs.Examples.{finderTo}
@@ -33,7 +33,7 @@ use Rattle.stream_index.specs.declared.Tour.{Tour}
 use Rattle.stream_index.specs.declared.IndexAnswer.the-variants as walk
 use Rattle.stream_index.proofs.WalkLaws.{Moves, turn-back}
 use Rattle.stream_index.proofs.WalkedWhole.{walk-holds, walk-premises}
-use Rattle.stream_places.specs.Places.{loadOf, loadWideOf, saveOf, saveWideOf, bufferAfter}
+use Rattle.stream_places.specs.Places.{loadOf, loadWideOf, saveOf, saveWideOf, fileBufferAfter}
 use Rattle.stream_places.specs.Kept.{Loaded, Serving, TripOf}
 use Rattle.stream_places.proofs.KeptProof.{load-serves, wide-serves, round-trip, wide-trip}
 use Rattle.claim_promises.specs.Indexed.{walkedBy, KeptBy, Indexed, StreamsIndexed}
@@ -48,7 +48,7 @@ went s c σ zero d τ g none = record { roamed = g; updated = untouched }
 went s c σ (suc n) d τ g (more {d = d₀} {τ = τ₀} w e) =
     let k = went s c σ n d₀ τ₀ g w in
     let m : Moves s τ₀ d₀ τ d = turn-back s τ₀ d₀ τ d e in
-    let on : Roamed s d = subst (Roamed s) (ap (onward d₀) (m .yield)) (called (k .roamed)) in
+    let on : Roamed s d = subst (Roamed s) (ap (iterAfter d₀) (m .yield)) (called (k .roamed)) in
     record { roamed = on; updated = subst (Updated s σ) (ap (after τ₀) (m .update)) (by (k .updated) on) }
 
 -- ---- and each is one index further
@@ -66,7 +66,7 @@ module _ (tag : Stream) (s : List ℕ) (h : Header) (σ : State) (e : headerOf s
   kept-by save load trip serving o u f small saved room =
       let τ : State = state (σ .finder) (put u 0 (take (σ .finder .held) (σ .table))) in
       let l = trip s o u h σ f small e (v .placed) some saved room in
-      let g : Loaded tag s h τ = serving tag s (take (length f) (bufferAfter o (save s σ (length o)))) u h τ e l in
+      let g : Loaded tag s h τ = serving tag s (take (length f) (fileBufferAfter o (save s σ (length o)))) u h τ e l in
       (τ, l, refl, λ d b. g .serves .lookups d b ∙ sym (v .lookups d b))
 
 -- ---- of a whole walk

@@ -12,7 +12,7 @@ use Rattle.stream_finder.specs.declared.FinderAnswer.{FinderAnswer}
 use Rattle.stream_finder.specs.declared.lent.UpdateAnswer.{UpdateAnswer}
 use Rattle.stream_index.specs.Walk.{Turn, over, moved, saidTurn, turnTable, Leads}
 use Rattle.stream_index.specs.declared.TurnAnswer.{TurnAnswer}
-use Rattle.stream_places.specs.Places.{sizeIn, bufferAfter, saidSave, Saves}
+use Rattle.stream_places.specs.Places.{fileSize, fileBufferAfter, saidSave, Saves}
 use Rattle.stream_places.specs.declared.SaveAnswer.{SaveAnswer}
 use Rattle.record_list.specs.Lists.{Step}
 use Rattle.record_list.specs.Said.{saidElement}
@@ -46,7 +46,7 @@ pub leads-nowhere : (t : List ℕ) (a : Answer Turn) (r : TurnAnswer) (t′ : Li
 leads-nowhere t a r t′ n d l e = l .table ∙ turn-of t a n d (sym (l .answer) ∙ e)
 
 -- the buffer, after a places file that was not written
-buffer-of : (o : List ℕ) (a : Answer (List ℕ)) (n : ℕ) (d : List ℕ) → sizeIn a ≡ refused n d → bufferAfter o a ≡ o
+buffer-of : (o : List ℕ) (a : Answer (List ℕ)) (n : ℕ) (d : List ℕ) → fileSize a ≡ refused n d → fileBufferAfter o a ≡ o
 buffer-of o (answered bs) n d e = let z : _≡_ {A = ℕ} 0 1 = cc in absurd (omega arith)
 buffer-of o (refused m x) n d e = refl
 

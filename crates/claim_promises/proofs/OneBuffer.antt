@@ -19,7 +19,7 @@ use Rattle.write_layout.specs.Fields.{Encoded}
 use Rattle.write_layout.specs.Buffer.{Written, lay}
 use Rattle.write_header.specs.Headers.{headerBytes, Narrow}
 use Rattle.write_header.specs.Streams as streams
-use Rattle.write_header.specs.Streams.{WrittenAs, AllWritten, inOrder, payloadOf, start, Walks}
+use Rattle.write_header.specs.Streams.{WrittenAs, AllWritten, inOrder, behindLength, start, HasPayloads}
 use Rattle.write_header.proofs.StreamWalks.{stream-walks}
 use Rattle.claim_promises.specs.OneBuffer.{laidAll, Writing, by-table, field-list, method-list, AllWriting, InOneBuffer, OneBuffer}
 
@@ -115,7 +115,7 @@ one-buffer h bs o w e = go (laid (headerBytes h ∷ bs) o 0 w e)
           stream = s;
           rest = ap (drop (w .next)) i ∙ drop-at (hs ++ inOrder rss) (drop (0 + length (hs ++ inOrder rss)) o) (w .next) l ∙ ap (λ (k : ℕ). drop k o) (sym n);
           walks = λ tag small a u m.
-              subst (λ (x : List ℕ). (iterOf tag x ≡ answered (start tag h)) × Walks x (start tag h) (map payloadOf rss)) (sym s)
+              subst (λ (x : List ℕ). (iterOf tag x ≡ answered (start tag h)) × HasPayloads x (start tag h) (map behindLength rss)) (sym s)
               (stream-walks tag h hs rss f small (all-written bs rss g a) (omega arith)
               (let c : length bs ≡ length rss = ap length g ∙ map-length rss in omega arith));
         }

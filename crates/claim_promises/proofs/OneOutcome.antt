@@ -3,7 +3,7 @@
 use Prim.Native.Nat.{ℕ}
 use denote.Ref.{now}
 use mathlib.Core.List.{List}
-use mathlib.Core.Path.{_≡_, sym, ap, _∙_}
+use mathlib.Core.Path.{sym, ap, _∙_}
 use Rattle.answer.proofs.OneOutcome.{one-details}
 use Rattle.field.proofs.OneOutcome.{one-u8, one-u16, one-u32, one-u64, one-type, one-id, one-string-ref, one-optional-type, one-optional-id, one-read-type, one-read-id}
 use Rattle.field_put.specs.Bytes.{bytes}
@@ -42,18 +42,13 @@ use Rattle.write_cells.specs.Cells.{cellValues}
 use Rattle.write_pieces.proofs.OneOutcome.{one-measure, one-writes}
 use Rattle.stream_item.specs.declared.iter.ItemIter.{ItemIter}
 use Rattle.stream_finder.specs.Finder.{State, state, begunIn, createOf, createBy, updateOf}
-use Rattle.stream_finder.specs.Lent.{Updates}
 use Rattle.stream_finder.specs.declared.ItemFinder.{ItemFinder}
-use Rattle.stream_finder.specs.declared.lent.UpdateStep.{UpdateStep}
 use Rattle.stream_index.specs.Walk.{turnOf}
 use Rattle.record_list.specs.Lists.{stepOf}
-use Rattle.record_list.specs.declared.ListCursor.{ListCursor}
 use Rattle.record_reader.specs.declared.ListReader.{ListReader}
 use Rattle.record_layout.specs.Layouts.{typeLeaves, idLeaves}
-use Rattle.record_data.specs.Said.{typeValues}
-use Rattle.record_id.specs.Said.{idValues}
 use Rattle.write_layout.specs.Fields.{givenAll}
-use Rattle.write_layout.specs.Records.{limited, recordBytes, writeRecord}
+use Rattle.write_layout.specs.Records.{limited, writeRecord}
 use Rattle.write_layout.specs.Lists.{filledEach, fieldListBytes, methodListBytes}
 use Rattle.write_layout.specs.Buffer.{lay}
 use Rattle.write_pieces.specs.Pieces.{piecesOf}
@@ -61,7 +56,7 @@ use Rattle.write_header.specs.Headers.{headerBytes}
 use Rattle.section_finder.specs.Finders as sections
 use Rattle.section_finder.proofs.OneOutcome.{one-indexes as one-section}
 use Rattle.section_stream.specs.Streams.{sectionStream}
-use Rattle.write_row.specs.Rows.{memberRows, methodRows}
+use Rattle.write_list.specs.Rows.{memberRows, methodRows}
 use Rattle.declare_piece.specs.Pieces.{textOf}
 use Rattle.declare_word.specs.Spellings.{kindText, byText, modeText, qualsText}
 use Rattle.declare_word.proofs.OneOutcome.{one-spells}
@@ -71,7 +66,7 @@ use Rattle.declare_type.specs.Declares.{declareOf}
 use Rattle.declare_type.proofs.OneOutcome.{one-declares}
 use Rattle.write_layout.specs.Types.{writtenLeaves}
 use Rattle.claim_promises.specs.Contracts as contract
-use Rattle.claim_promises.specs.OneOutcome.{Once, OnceLent, OnceLentTwo, OneOutcome}
+use Rattle.claim_promises.specs.OneOutcome.{OnceLent, OnceLentTwo, OneOutcome}
 use Rattle.record_reference.proofs.OneOutcome.{one-references, one-element-references}
 use Rattle.stream_fit.proofs.OneOutcome.{one-fit}
 
@@ -79,16 +74,6 @@ one-update-lent : (f : ItemFinder) (t : List ℕ) (c : ItemIter) → OnceLentTwo
 one-update-lent f t c r q g h m k x y =
     let e = one-change (state f t) (updateOf (state f t) c) r q (state g m) (state h k) x y in
     (e .0, ap (λ (σ : State). σ .finder) (e .1), ap (λ (σ : State). σ .table) (e .1))
-
-one-update-step : (f : ItemFinder) (t : List ℕ) (c : ItemIter) → OnceLent (contract.stream-finder-lent-update-local f t c)
-one-update-step f t c u v m k x y =
-    let e = one-update-lent f t c (u .answer) (v .answer) (u .finder) (v .finder) m k x y in
-    (λ i. record { answer = e .0 i; finder = e .1 i }, e .2)
-
-one-stepped : (s : List ℕ) (c : ListCursor) → Once (contract.record-reader-step-of s c)
-one-stepped s c u v x y =
-    let h = one-steps c (stepOf s c) (u .answer) (v .answer) (u .cursor) (v .cursor) x y in
-    λ i. record { cursor = h .1 i; answer = h .0 i }
 
 one-reader-step : (x : ListReader) → OnceLent (contract.record-reader-list-reader-step x)
 one-reader-step x r q m k a b =
@@ -160,8 +145,8 @@ one-outcome = record {
   record-cells-layout-id-layout = λ leaf r q a b. a .1 ∙ sym (b .1);
   write-cells-write-type = λ text leaf row out at. one-writes out (lay (writeRecord writtenLeaves (givenAll text (cellValues leaf row))) out at);
   write-cells-write-id = λ text leaf row out at. one-writes out (lay (writeRecord idLeaves (givenAll text (cellValues leaf row))) out at);
-  declare-kind-kind = λ k. one-spells (kindText k);
-  declare-kind-size = λ k by r q a b. a ∙ sym b;
+  declare-word-kind-spelled = λ k. one-spells (kindText k);
+  declare-word-kind-size = λ k by r q a b. a ∙ sym b;
   declare-node-node-of = λ s f t i r q a b. a ∙ sym b;
   declare-node-list-of = λ s f t i r q a b. a .0 ∙ sym (b .0);
   declare-node-index-at = λ s p r q a b. a ∙ sym b;
@@ -170,8 +155,8 @@ one-outcome = record {
   declare-step-start = λ r q a b. a ∙ sym b;
   declare-step-step-of = λ s f t i x r q a b. a ∙ sym b;
   declare-type-declare = λ s f t i out. one-declares (declareOf s (state f t) (i .0) (length out)) out;
-  declare-walk-declarator = λ s f t i d x room r q a b. a ∙ sym b;
-  declare-word-by = λ y. one-spells (byText y);
+  declare-walk-measure-declarator = λ s f t i d x room r q a b. a ∙ sym b;
+  declare-word-indirection = λ y. one-spells (byText y);
   declare-word-mode = λ m. one-spells (modeText m);
   declare-word-qualifiers = λ q. one-spells (qualsText q);
   answer-name-name-of = λ e. one-holds (nameText e);
@@ -223,7 +208,6 @@ one-outcome = record {
   record-reader-list-reader-new = λ bytes cursor r q a b. one-reader r q (a .0 ∙ sym (b .0)) (a .1 ∙ sym (b .1));
   record-reader-list-reader-element = λ self k r q a b. one-element r q (a ∙ sym b);
   record-reader-list-reader-step = one-reader-step;
-  record-reader-step-of = one-stepped;
   record-reader-nth = λ stream s k r q a b. one-element r q (a ∙ sym b);
   section-finder-create = λ s t. one-fills t (sections.sectionCreateOf s t);
   section-finder-create-by = λ s t shift. one-fills t (sections.sectionCreateBy shift s t);
@@ -243,13 +227,12 @@ one-outcome = record {
   stream-finder-find-type = λ s f t i r q a b. one-find r q (a ∙ sym b);
   stream-finder-find-id = λ s f t i r q a b. one-find r q (a ∙ sym b);
   stream-finder-lent-item-finder-update = one-update-lent;
-  stream-finder-lent-update-local = one-update-step;
   stream-header-header-parse = λ s r q a b. one-header r q (a ∙ sym b);
   record-reference-record-references = λ d r q a b. one-references r q (a ∙ sym b);
   record-reference-element-references = λ e r q a b. one-element-references _ r q a b;
   stream-fit-fit = λ s r q a b. one-fit r q (a ∙ sym b);
   stream-header-header-count = λ self r q a b. a ∙ sym b;
-  stream-index-turn = λ s f t c. one-leads t (turnOf s (state f t) c);
+  stream-index-next-and-update = λ s f t c. one-leads t (turnOf s (state f t) c);
   stream-index-index-on = λ s f t c. one-walks s c (state f t);
   stream-index-index-all = one-indexes 3;
   stream-index-index-all-by = λ stream s t shift. one-indexes shift stream s t;
@@ -272,7 +255,7 @@ one-outcome = record {
   stream-drop-drop = λ s roots table out. one-drops table out (dropOf s roots (length table) (length out));
   stream-view-bytes-of = λ tpi ipi entry r q a b. a ∙ sym b;
   stream-view-view = λ tpi ipi entry r q a b. one-entry-view r q a b;
-  stream-view-why = λ tpi ipi entry r q a b. one-view r q (a ∙ sym b);
+  stream-view-view-answer = λ tpi ipi entry r q a b. one-view r q (a ∙ sym b);
   stream-view-raw-kind = λ tpi ipi entry r q a b. one-kind r q (a ∙ sym b);
   word-attributes-type-properties-packed = λ self r q a b. a ∙ sym b;
   word-attributes-type-properties-constructors = λ self r q a b. a ∙ sym b;
@@ -313,22 +296,16 @@ one-outcome = record {
   word-attributes-pointer-attributes-size = λ self r q a b. one-pointer-size r q (a ∙ sym b);
   word-attributes-pointer-attributes-is-mocom = λ self r q a b. a ∙ sym b;
   word-primitive-primitive = λ index r q a b. one-primitive r q (a ∙ sym b);
-  write-fit-half = λ x r q a b. a .0 ∙ sym (b .0);
-  write-fit-word = λ x r q a b. a .0 ∙ sym (b .0);
-  write-fit-natural = λ n r q a b. a .0 ∙ sym (b .0);
-  write-fit-text = λ s r q a b. a .0 ∙ sym (b .0);
-  write-fit-gap = λ r q a b. a .0 ∙ sym (b .0);
-  write-fit-types = λ place n r q a b. a .0 ∙ sym (b .0);
+  write-pieces-fields-two-bytes = λ x r q a b. a .0 ∙ sym (b .0);
+  write-pieces-fields-natural = λ n r q a b. a .0 ∙ sym (b .0);
+  write-pieces-fields-unnamed = λ r q a b. a .0 ∙ sym (b .0);
   write-header-write-header = λ h out at. one-writes out (lay (headerBytes h) out at);
-  write-id-write-id = λ text d out at. one-writes out (lay (writeRecord idLeaves (givenAll text (idValues d))) out at);
   write-list-write-field-list = λ text rows out at. one-writes out (lay (fieldListBytes (memberRows text rows)) out at);
   write-list-write-method-list = λ text rows out at. one-writes out (lay (methodListBytes (methodRows text rows)) out at);
-  write-pieces-held-sum = λ n k r q a b. a ∙ sym b;
+  write-pieces-capped-sum = λ n k r q a b. a ∙ sym b;
   write-pieces-measured = λ text xs r q a b. one-measure r q (a ∙ sym b);
   write-pieces-write-plain = λ text xs out at. one-writes out (lay (limited (piecesOf text xs)) out at);
   write-pieces-write-filled = λ text xs out at. one-writes out (lay (limited (filledEach (piecesOf text xs))) out at);
-  write-pieces-write-record = λ text xs out at. one-writes out (lay (recordBytes (piecesOf text xs)) out at);
-  write-row-of-member = λ m r q a b. a ∙ sym b;
-  write-row-of-method = λ m r q a b. a ∙ sym b;
-  write-type-write-type = λ text d out at. one-writes out (lay (writeRecord writtenLeaves (givenAll text (typeValues d))) out at);
+  write-list-rows-of-member = λ m r q a b. a ∙ sym b;
+  write-list-rows-of-method = λ m r q a b. a ∙ sym b;
 }

@@ -11,14 +11,14 @@ use Rattle.answer.specs.Refusals.{listed, inTable, refusals}
 use Rattle.field.specs.Fields.{littleAt}
 use Rattle.stream_header.specs.declared.Header.{Header}
 use Rattle.stream_finder.specs.Finder.{State}
-use Rattle.stream_places.specs.File.{Form, trailerSize, wordsAt, trailerAt, spells, checked, trailerBy}
+use Rattle.stream_places.specs.File.{FileForm, trailerSize, wordsAt, trailerAt, spells, checked, trailerBy}
 use Rattle.stream_places.specs.Places.{onChain, loadFor, loadBy, saveFor, saveBy}
 use Rattle.stream_places.specs.declared.trailer.Trailer.{Trailer}
 use Rattle.claim_promises.specs.ByTable.{Refuses, fits, gives}
 use Rattle.claim_promises.proofs.ByTable.{by-stop, by-then, within, wider}
 use Rattle.claim_promises.proofs.StreamRefuses.{header-refuses}
 
-pub trailer-refuses : (F : Form) (f : List ℕ) → Refuses (20 ∷ []) (trailerBy F f)
+pub trailer-refuses : (F : FileForm) (f : List ℕ) → Refuses (20 ∷ []) (trailerBy F f)
 unfolding trailerBy checked fits among listed find inTable refusals
 trailer-refuses F f =
     by-stop (ltb (length f) (trailerSize F)) 20 refl
@@ -46,18 +46,18 @@ load-for-refuses s f t h k =
     (by-stop (not (onChain s (2 ^ k .shift) (h .«header_size») (wordsAt (k .count) f 0))) 22 refl
     gives))))))
 
-pub loading-refuses : (F : Form) (s f t : List ℕ) (h : Header) → Refuses ofLoading (then (trailerBy F f) (loadFor s f t h))
+pub loading-refuses : (F : FileForm) (s f t : List ℕ) (h : Header) → Refuses ofLoading (then (trailerBy F f) (loadFor s f t h))
 unfolding among within
 loading-refuses F s f t h = by-then (wider refl (trailer-refuses F f)) (λ k. load-for-refuses s f t h k)
 
 abbrev pub ofLoads : List ℕ
 ofLoads = 16 ∷ 1 ∷ 2 ∷ 3 ∷ 4 ∷ 5 ∷ 20 ∷ 21 ∷ 13 ∷ 22 ∷ []
 
-pub load-refuses : (F : Form) (s f t : List ℕ) → Refuses ofLoads (loadBy F s f t)
+pub load-refuses : (F : FileForm) (s f t : List ℕ) → Refuses ofLoads (loadBy F s f t)
 unfolding loadBy among within
 load-refuses F s f t = by-then (wider refl (header-refuses s)) (λ h. wider refl (loading-refuses F s f t h))
 
-pub save-for-refuses : (F : Form) (n : ℕ) (σ : State) (room : ℕ) (h : Header) → Refuses (21 ∷ 26 ∷ 13 ∷ 19 ∷ []) (saveFor F n σ room h)
+pub save-for-refuses : (F : FileForm) (n : ℕ) (σ : State) (room : ℕ) (h : Header) → Refuses (21 ∷ 26 ∷ 13 ∷ 19 ∷ []) (saveFor F n σ room h)
 unfolding saveFor fits among listed find inTable refusals
 save-for-refuses F n σ room h =
     by-stop (not (eqb (σ .finder .«minimum_index») (h .«minimum_index»))) 21 refl
@@ -71,6 +71,6 @@ save-for-refuses F n σ room h =
 abbrev pub ofSaves : List ℕ
 ofSaves = 16 ∷ 1 ∷ 2 ∷ 3 ∷ 4 ∷ 5 ∷ 21 ∷ 26 ∷ 13 ∷ 19 ∷ []
 
-pub save-refuses : (F : Form) (s : List ℕ) (σ : State) (room : ℕ) → Refuses ofSaves (saveBy F s σ room)
+pub save-refuses : (F : FileForm) (s : List ℕ) (σ : State) (room : ℕ) → Refuses ofSaves (saveBy F s σ room)
 unfolding saveBy among within
 save-refuses F s σ room = by-then (wider refl (header-refuses s)) (λ h. wider refl (save-for-refuses F (length s) σ room h))

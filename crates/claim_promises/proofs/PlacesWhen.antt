@@ -16,7 +16,7 @@ use Rattle.stream_header.specs.declared.Header.{Header}
 use Rattle.stream_item.specs.Links.{chain, reached}
 use Rattle.field_put.specs.Bytes.{put}
 use Rattle.stream_finder.specs.Finder.{State, state, holding}
-use Rattle.stream_places.specs.File.{Form, trailerSize, wordsAt, trailerAt, spells, checked, trailerBy}
+use Rattle.stream_places.specs.File.{FileForm, trailerSize, wordsAt, trailerAt, spells, checked, trailerBy}
 use Rattle.stream_places.specs.Places.{onChain, fileOf, loadFor, loadBy, saveFor, saveBy}
 use Rattle.stream_places.specs.declared.trailer.Trailer.{Trailer}
 use Rattle.stream_places.proofs.FileLaws.{length-words, trailer-by, checked-right, Trailed, trailed}
@@ -55,7 +55,7 @@ spells-all f p (b ∷ bs) h =
     (spells-all f (p + 1) bs (λ i l. let r : p + 1 + i ≡ p + suc i = omega arith in ap (λ (n : ℕ). getD f n 0) r ∙ h (suc i) (omega arith)))
 
 -- ---- the trailer, by its places from the file's end
-abbrev fromEnd : Form → List ℕ → Trailer
+abbrev fromEnd : FileForm → List ℕ → Trailer
 fromEnd F f = record {
   count = countIn F f;
   shift = littleAt 1 f (length f - 26);
@@ -70,7 +70,7 @@ fromEnd F f = record {
 from-either : (n w a b : ℕ) → w + 26 ≤ n → a + b ≡ 26 → n - (w + 26) + w + a ≡ n - b
 from-either n w a b l e = omega arith
 
-from-end : (F : Form) (f : List ℕ) → trailerSize F ≤ length f → trailerAt F f (length f - trailerSize F) ≡ fromEnd F f
+from-end : (F : FileForm) (f : List ℕ) → trailerSize F ≤ length f → trailerAt F f (length f - trailerSize F) ≡ fromEnd F f
 unfolding trailerAt
 from-end F f l =
     let first : length f - (F .width + 26) + F .width ≡ length f - 26 = omega arith in
@@ -83,16 +83,16 @@ from-end F f l =
       first,
     )
 
-right-answered : (F : Form) (f : List ℕ) → Right F f → trailerBy F f ≡ answered (fromEnd F f)
+right-answered : (F : FileForm) (f : List ℕ) → Right F f → trailerBy F f ≡ answered (fromEnd F f)
 right-answered F f r =
     let z : length f - trailerSize F + F .width + 1 ≡ length f - 25 = from-either (length f) (F .width) 1 25 (r .long) refl in
     sym (trailer-by F f (length f - trailerSize F) (fromEnd F f) (answered (fromEnd F f)) (omega (arith, r .long)) (spells-all f (length f - 4) (F .letters) (r .spelt)) (sym (from-end F f (r .long)))
     (checked-right F f (length f - trailerSize F) (fromEnd F f) (length f - 25) (sym z) (r .zero-byte) (r .shift) (r .distance) (r .whole) (r .many)))
 
-fields-are : (F : Form) (f : List ℕ) (k : Trailer) → trailerBy F f ≡ answered k → k ≡ fromEnd F f
+fields-are : (F : FileForm) (f : List ℕ) (k : Trailer) → trailerBy F f ≡ answered k → k ≡ fromEnd F f
 fields-are F f k e = let x = trailed F f k e in x .fields ∙ from-end F f (x .long)
 
-answered-right : (F : Form) (f : List ℕ) (k : Trailer) → trailerBy F f ≡ answered k → Right F f
+answered-right : (F : FileForm) (f : List ℕ) (k : Trailer) → trailerBy F f ≡ answered k → Right F f
 answered-right F f k e =
     let x = trailed F f k e in
     let q : k ≡ fromEnd F f = fields-are F f k e in
@@ -115,7 +115,7 @@ two-stop : {P : Type 0} (b : Bool) (x : Answer Trailer) → Two P x → Two P (s
 two-stop true x w f g = g refl
 two-stop false x w f g = w f g
 
-by-20 : {P : Type 0} (F : Form) (f : List ℕ) → Two P (trailerBy F f)
+by-20 : {P : Type 0} (F : FileForm) (f : List ℕ) → Two P (trailerBy F f)
 unfolding trailerBy checked
 by-20 F f =
     two-stop (ltb (length f) (trailerSize F)) _
@@ -127,10 +127,10 @@ by-20 F f =
     (two-stop (ltb (trailerAt F f (length f - trailerSize F) .count) (F .least)) _
     (λ g n. g _ refl)))))))
 
-never-right : {P : Type 0} (F : Form) (f : List ℕ) (n : ℕ) → by n (trailerBy F f) ≡ true → Right F f → P
+never-right : {P : Type 0} (F : FileForm) (f : List ℕ) (n : ℕ) → by n (trailerBy F f) ≡ true → Right F f → P
 never-right F f n y r = off (sym (ap (by n) (right-answered F f r)) ∙ y)
 
-trailers-20 : (F : Form) (f : List ℕ) → Given 20 [] (trailerBy F f) (Right F f → ⊥)
+trailers-20 : (F : FileForm) (f : List ℕ) → Given 20 [] (trailerBy F f) (Right F f → ⊥)
 trailers-20 F f = record {
   when = λ h. by-20 F f (λ k e. absurd (h (answered-right F f k e))) (λ e. e);
   only = never-right F f 20;
@@ -158,7 +158,7 @@ lacks-not n m M h = go (both (eqb n 0) (ltb m M)) refl
     go true e = absurd (lacks-none n m M e h)
     go false e = refl
 
-module _ (F : Form) (s f t : List ℕ) where
+module _ (F : FileForm) (s f t : List ℕ) where
   loads-own : (n : ℕ) (d : List ℕ) → headerOf s ≡ refused n d → loadBy F s f t ≡ refused n d
   loads-own n d e = load-header F s f t (refused n d) e
 
@@ -293,7 +293,7 @@ module _ (F : Form) (s f t : List ℕ) where
     loads r m l o = is-for (r .right) ∙ load-done s f t h k (ours r m) l (unchained s (2 ^ k .shift) (h .«header_size») (wordsAt (countIn F f) f 0) (chained-on o))
 
 -- ---- saving
-module _ (F : Form) (s : List ℕ) (σ : State) (room : ℕ) where
+module _ (F : FileForm) (s : List ℕ) (σ : State) (room : ℕ) where
   saves-own : (n : ℕ) (d : List ℕ) → headerOf s ≡ refused n d → saveBy F s σ room ≡ refused n d
   saves-own n d e = save-header F s σ room (refused n d) e
 
@@ -370,15 +370,15 @@ module _ (F : Form) (s : List ℕ) (σ : State) (room : ℕ) where
 abbrev ofHeader : List ℕ
 ofHeader = 16 ∷ 1 ∷ 2 ∷ 3 ∷ 4 ∷ 5 ∷ []
 
-loads-as : (F : Form) (s f t : List ℕ) → RefusedAs ofHeader (loadBy F s f t) (headerOf s)
+loads-as : (F : FileForm) (s f t : List ℕ) → RefusedAs ofHeader (loadBy F s f t) (headerOf s)
 unfolding apart among
 loads-as F s f t = as-first ofHeader (20 ∷ 21 ∷ 13 ∷ 22 ∷ []) (loadBy F s f t) (headerOf s) refl (loads-own F s f t) (loads-else F s f t)
 
-saves-as : (F : Form) (s : List ℕ) (σ : State) (room : ℕ) → RefusedAs ofHeader (saveBy F s σ room) (headerOf s)
+saves-as : (F : FileForm) (s : List ℕ) (σ : State) (room : ℕ) → RefusedAs ofHeader (saveBy F s σ room) (headerOf s)
 unfolding apart among
 saves-as F s σ room = as-first ofHeader (21 ∷ 26 ∷ 13 ∷ 19 ∷ []) (saveBy F s σ room) (headerOf s) refl (saves-own F s σ room) (saves-else F s σ room)
 
-pub places-when : (form : Form) → PlacesWhen form
+pub places-when : (form : FileForm) → PlacesWhen form
 places-when F = record {
   loads-own = loads-as F;
   saves-own = saves-as F;

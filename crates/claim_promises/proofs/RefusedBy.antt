@@ -2,25 +2,24 @@
 -- definition does, and its refusals. Assumes nothing.
 use Prim.Native.Nat.{ℕ}
 use mathlib.Core.List.{List, [], _∷_}
-use Rattle.answer.specs.Answer.{Answer, answered, refused}
+use Rattle.answer.specs.Answer.{Answer}
 use Rattle.stream_finder.specs.Finder.{State, finderOf}
 use Rattle.stream_finder.specs.Lent.{outcome}
-use Rattle.stream_places.specs.Places.{sizeIn}
+use Rattle.stream_places.specs.Places.{fileSize}
 use Rattle.stream_report.specs.Report.{Report, totalsIn, reportIn}
 use Rattle.record_list.specs.Lists.{Step}
 use Rattle.record_reader.specs.Reader.{elementIn}
+use Rattle.record_layout.specs.Layouts.{idLeaves}
+use Rattle.write_layout.specs.Fields.{givenAll}
+use Rattle.write_layout.specs.Types.{writtenLeaves}
+use Rattle.write_cells.specs.Cells.{cellValues}
 use Rattle.write_layout.specs.Buffer.{Written, placeAfter}
 use Rattle.field.specs.Indices.{noId, noType}
-use Rattle.record_data.specs.Said.{typeValues}
-use Rattle.record_id.specs.Said.{idValues}
-use Rattle.record_layout.specs.Layouts.{idLeaves}
 use Rattle.stream_finder.specs.Finder.{state}
-use Rattle.write_layout.specs.Fields.{givenAll}
-use Rattle.write_row.specs.Rows.{memberRows, methodRows}
+use Rattle.write_list.specs.Rows.{memberRows, methodRows}
 use denote.Ref.{now}
 use lib.ListN.{length}
 use Rattle.field.specs.declared.index.ItemIndex.the-variants as item-index
-use Rattle.write_layout.specs.Types.{writtenLeaves}
 use Rattle.claim_promises.specs.ByTable.{Refuses, FindRefuses, gives, refuses}
 use Rattle.claim_promises.specs.RefusedBy.{EachRefusedBy}
 use Rattle.claim_promises.proofs.Demand1.{demand1}
@@ -35,7 +34,7 @@ of-outcome : {ns : List ℕ} {a : Answer State} → Refuses ns a → Refuses ns 
 of-outcome gives = gives
 of-outcome (refuses e) = refuses e
 
-of-size : {ns : List ℕ} {a : Answer (List ℕ)} → Refuses ns a → Refuses ns (sizeIn a)
+of-size : {ns : List ℕ} {a : Answer (List ℕ)} → Refuses ns a → Refuses ns (fileSize a)
 of-size gives = gives
 of-size (refuses e) = refuses e
 
@@ -91,7 +90,7 @@ each-refused-by = record {
   stream-places-trailer-trailer-parse = λ f. answers .stream-places-trailer-trailer-parse f (Refuses (20 ∷ [])) (demand1 .trailers f);
   stream-places-trailer-trailer-parse-wide = λ f. answers .stream-places-trailer-trailer-parse-wide f (Refuses (20 ∷ [])) (demand1 .wide-trailers f);
   stream-view-view = λ tpi ipi entry. answers .stream-view-view tpi ipi entry (Refuses (16 ∷ 1 ∷ 8 ∷ [])) (demand1 .views tpi ipi entry);
-  stream-view-why = λ tpi ipi entry. answers .stream-view-why tpi ipi entry (Refuses (16 ∷ 1 ∷ 8 ∷ [])) (demand1 .views tpi ipi entry);
+  stream-view-view-answer = λ tpi ipi entry. answers .stream-view-view-answer tpi ipi entry (Refuses (16 ∷ 1 ∷ 8 ∷ [])) (demand1 .views tpi ipi entry);
   stream-view-raw-kind = λ tpi ipi entry. answers .stream-view-raw-kind tpi ipi entry (Refuses (16 ∷ 1 ∷ [])) (demand1 .raw-kinds tpi ipi entry);
   word-attributes-pointer-attributes-pointer-kind = λ self. answers .word-attributes-pointer-attributes-pointer-kind self (Refuses (12 ∷ [])) (demand1 .pointer-kinds (self .0));
   word-attributes-pointer-attributes-pointer-mode = λ self. answers .word-attributes-pointer-attributes-pointer-mode self (Refuses (12 ∷ [])) (demand1 .pointer-modes (self .0));
@@ -106,8 +105,7 @@ each-refused-by = record {
   stream-finder-begin = λ t records shift r t′ it. along (Refuses (26 ∷ 13 ∷ [])) (it .answer) (of-finder (demand1 .beginnings shift t records));
   stream-finder-update = λ f t c r t′ it. along (Refuses (16 ∷ 26 ∷ 13 ∷ 14 ∷ [])) (it .answer) (of-finder (demand1 .updates (state f t) c));
   stream-finder-lent-item-finder-update = λ self t c r self′ t′ it. along (Refuses (16 ∷ 26 ∷ 13 ∷ 14 ∷ [])) (it .answer) (of-outcome (demand1 .updates (state self t) c));
-  stream-finder-lent-update-local = λ f t c u t′ it. along (Refuses (16 ∷ 26 ∷ 13 ∷ 14 ∷ [])) (it .answer) (of-outcome (demand1 .updates (state f t) c));
-  stream-index-turn = λ s f t c r t′ it. along (Refuses (16 ∷ 1 ∷ 6 ∷ 7 ∷ 26 ∷ 13 ∷ 14 ∷ [])) (it .answer) (demand1 .turns s (state f t) c);
+  stream-index-next-and-update = λ s f t c r t′ it. along (Refuses (16 ∷ 1 ∷ 6 ∷ 7 ∷ 26 ∷ 13 ∷ 14 ∷ [])) (it .answer) (demand1 .turns s (state f t) c);
   stream-places-load = λ s f t r t′ it. along (Refuses (16 ∷ 1 ∷ 2 ∷ 3 ∷ 4 ∷ 5 ∷ 20 ∷ 21 ∷ 13 ∷ 22 ∷ [])) (it .answer) (of-finder (demand1 .loads s f t));
   stream-places-load-wide = λ s f t r t′ it. along (Refuses (16 ∷ 1 ∷ 2 ∷ 3 ∷ 4 ∷ 5 ∷ 20 ∷ 21 ∷ 13 ∷ 22 ∷ [])) (it .answer) (of-finder (demand1 .wide-loads s f t));
   stream-places-save = λ s f t out r out′ it. along (Refuses (16 ∷ 1 ∷ 2 ∷ 3 ∷ 4 ∷ 5 ∷ 21 ∷ 26 ∷ 13 ∷ 19 ∷ [])) (it .answer) (of-size (demand1 .saves s (state f t) (length out)));
@@ -115,16 +113,14 @@ each-refused-by = record {
   stream-report-add = λ totals table s r table′ it. along (Refuses (27 ∷ 28 ∷ [])) (it .answer) (of-totals (demand1 .additions (reportIn totals table) s));
   stream-drop-drop = λ s roots table out r table′ out′ it. along (Refuses (16 ∷ 1 ∷ 2 ∷ 3 ∷ 4 ∷ 5 ∷ 29 ∷ 8 ∷ 13 ∷ 30 ∷ 19 ∷ [])) (it .says) (demand1 .drops s roots (length table) (length out));
   record-reader-list-reader-step = λ self r self′ it. along (Refuses (15 ∷ 1 ∷ 10 ∷ 11 ∷ [])) (it .0 .answer) (of-element (demand1 .steps (now (self .bytes)) (self .cursor)));
-  record-reader-step-of = λ bytes cursor u it. along (Refuses (15 ∷ 1 ∷ 10 ∷ 11 ∷ [])) (it .answer) (of-element (demand1 .steps bytes cursor));
   section-finder-create = λ s t r t′ it. along (Refuses (16 ∷ 1 ∷ 25 ∷ 6 ∷ 7 ∷ 26 ∷ 13 ∷ [])) (it .answer) (of-finder (sections-refuse .creations 3 s t));
   section-finder-create-by = λ s t shift r t′ it. along (Refuses (16 ∷ 1 ∷ 25 ∷ 6 ∷ 7 ∷ 26 ∷ 13 ∷ [])) (it .answer) (of-finder (sections-refuse .creations shift s t));
   section-stream-to-stream = λ s out r out′ it. along (Refuses (16 ∷ 1 ∷ 25 ∷ 6 ∷ 7 ∷ 19 ∷ [])) (it .answer) (of-place (sections-refuse .streams s out));
   write-header-write-header = λ h out at r out′ it. along (Refuses (2 ∷ 3 ∷ 4 ∷ 5 ∷ 19 ∷ [])) (it .answer) (of-place (demand1 .headers-written h out at));
-  write-type-write-type = λ text d out at r out′ it. along (Refuses (17 ∷ 18 ∷ 19 ∷ [])) (it .answer) (of-place (demand1 .records-written writtenLeaves (givenAll text (typeValues d)) out at));
-  write-id-write-id = λ text d out at r out′ it. along (Refuses (17 ∷ 18 ∷ 19 ∷ [])) (it .answer) (of-place (demand1 .records-written idLeaves (givenAll text (idValues d)) out at));
   write-list-write-field-list = λ text rows out at r out′ it. along (Refuses (17 ∷ 18 ∷ 19 ∷ [])) (it .answer) (of-place (demand1 .field-lists-written (memberRows text rows) out at));
   write-list-write-method-list = λ text rows out at r out′ it. along (Refuses (17 ∷ 18 ∷ 19 ∷ [])) (it .answer) (of-place (demand1 .method-lists-written (methodRows text rows) out at));
+  write-cells-write-type = λ text leaf row out at r out′ it. along (Refuses (17 ∷ 18 ∷ 19 ∷ [])) (it .answer) (of-place (demand1 .records-written writtenLeaves (givenAll text (cellValues leaf row)) out at));
+  write-cells-write-id = λ text leaf row out at r out′ it. along (Refuses (17 ∷ 18 ∷ 19 ∷ [])) (it .answer) (of-place (demand1 .records-written idLeaves (givenAll text (cellValues leaf row)) out at));
   write-pieces-write-plain = λ text xs out at r out′ it. along (Refuses (17 ∷ 18 ∷ 19 ∷ [])) (it .answer) (of-place (demand1 .pieces-written text xs out at));
   write-pieces-write-filled = λ text xs out at r out′ it. along (Refuses (17 ∷ 18 ∷ 19 ∷ [])) (it .answer) (of-place (demand1 .pieces-filled text xs out at));
-  write-pieces-write-record = λ text xs out at r out′ it. along (Refuses (17 ∷ 18 ∷ 19 ∷ [])) (it .answer) (of-place (demand1 .pieces-recorded text xs out at));
 }

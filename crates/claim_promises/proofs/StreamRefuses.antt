@@ -15,14 +15,14 @@ use Rattle.field_text.specs.Texts.{paddingAfter}
 use Rattle.word_primitive.specs.Kinds.{kinds, indirections}
 use Rattle.word_primitive.specs.Primitive.{known, primitiveOf}
 use Rattle.word_attributes.specs.Bits.{bits}
-use Rattle.word_attributes.specs.Pointers.{pointerKinds, pointerModes, good, kindOf, modeOf, toMemberOf, referenceOf, sizeOf}
+use Rattle.word_attributes.specs.Pointers.{pointerKinds, pointerModes, goodOr12, kindOf, modeOf, toMemberOf, referenceOf, sizeOf}
 use Rattle.stream_header.specs.Header.{longest, headerOf}
 use Rattle.stream_header.specs.declared.Header.{Header}
-use Rattle.field.specs.Indices.{numberIn}
+use Rattle.field.specs.Indices.{indexNumber}
 use Rattle.stream_item.specs.Links.{linkOf}
 use Rattle.stream_item.specs.Iterator.{iterOf, Next, done, yielded, nextOf}
 use Rattle.stream_fit.specs.Fit.{fitOf}
-use Rattle.stream_view.specs.Views.{partOf, named, shortOf, entryOf, viewOf, kindAt, entryKind as kindIn, rawKindOf}
+use Rattle.stream_view.specs.Views.{partOf, streamNamed, shortOf, entryPart, viewOf, kindAt, entryKind as kindIn, rawKindOf}
 use Rattle.stream_item.specs.Information.{lenOf, isEmptyOf}
 use Rattle.field.specs.declared.index.Stream.{Stream}
 use Rattle.field.specs.declared.index.Stream.the-variants as stream
@@ -40,9 +40,9 @@ use Rattle.record_layout.specs.Fields.{Field, id, run, types, ids, readFields, 
 use Rattle.record_layout.specs.Values.{nth, numberIn as countIn, stringIn}
 use Rattle.record_layout.specs.Layouts.{T, count16, count32, Layout, typeLeaves, idLeaves, memberLeaves, method, readRecord, recordOf}
 use Rattle.field_text.specs.Texts.{Part}
-use Rattle.record_list.specs.Lists.{ElementValues, typeElement, idElement, Step, stepTo, inCounted, countedBy, counted, startTypes, startIds, startOf, countedStep, methodStep, memberStep, nextMember, stepOf, elementBy, elementOf}
+use Rattle.record_list.specs.Lists.{ElementValues, typeElement, idElement, Step, stepTo, inCounted, countedBy, countedList, startTypes, startIds, startOf, countedStep, methodStep, memberStep, nextMember, stepOf, elementBy, elementOf}
 use Rattle.record_list.specs.declared.ListCursor.{ListCursor}
-use Rattle.record_parse.specs.Record.{bytes, numberedOf, typeBytes, idBytes, typeItem, typeMarker, itemOf, markerOf, entryOf as parsedOf, parseOf}
+use Rattle.record_parse.specs.Record.{payloadAt, numberedOf, typeBytes, idBytes, typeItem, typeMarker, itemOf, markerOf, entryOf as parsedOf, parseOf}
 use Rattle.claim_promises.specs.ByTable.{elsewhere, Refuses, FindRefuses, fits, gives, refuses}
 use Rattle.claim_promises.proofs.ByTable.{by-pick, by-stop, by-then, within, wider}
 use Rattle.claim_promises.proofs.ReadingRefuses.{fixed-refuses, padding-refuses, TakesAll, no-more, _&_, free, fields-refuse, read-record-refuses, record-refuses, type-takes, member-takes, method-takes, id-takes}
@@ -61,7 +61,7 @@ primitive-refuses i =
     (known-refuses i (find (i / 2 ^ 8 % 2 ^ 4) indirections) _ (λ d.
     known-refuses i (find (i % 2 ^ 8) kinds) _ (λ k. gives)))
 
-good-refuses : {A : Type 0} (o : Option A) → Refuses (12 ∷ []) (good o)
+good-refuses : {A : Type 0} (o : Option A) → Refuses (12 ∷ []) (goodOr12 o)
 unfolding fits among listed find inTable refusals
 good-refuses none = refuses refl
 good-refuses (some a) = gives
@@ -139,9 +139,9 @@ next-refuses s c =
 short-refuses : {A : Type 0} (ns t p : List ℕ) {a : Answer A} → fits elsewhere ns 16 [] ≡ true → Refuses ns a → Refuses ns (shortOf t p a)
 short-refuses ns t p h r = by-stop (ltb longest (length t)) 16 h (by-stop (ltb longest (length p)) 16 h r)
 
-entry-refuses : (t p : List ℕ) (e : Entry) → Refuses (16 ∷ 1 ∷ 8 ∷ []) (entryOf t p e)
+entry-refuses : (t p : List ℕ) (e : Entry) → Refuses (16 ∷ 1 ∷ 8 ∷ []) (entryPart t p e)
 unfolding partOf fits among listed find inTable refusals
-entry-refuses t p (entry.Record i) = by-stop (ltb (length (named t p (i .index))) (i .place + i .length)) 1 refl gives
+entry-refuses t p (entry.Record i) = by-stop (ltb (length (streamNamed t p (i .index))) (i .place + i .length)) 1 refl gives
 entry-refuses t p (entry.Marker i) = refuses refl
 
 pub view-refuses : (t p : List ℕ) (e : Entry) → Refuses (16 ∷ 1 ∷ 8 ∷ []) (viewOf t p e)
@@ -151,7 +151,7 @@ view-refuses t p e = short-refuses _ t p refl (entry-refuses t p e)
 kind-in-refuses : (t p : List ℕ) (e : Entry) → Refuses (16 ∷ 1 ∷ []) (kindIn t p e)
 unfolding kindAt fits among listed find inTable refusals
 kind-in-refuses t p (entry.Record i) =
-    by-stop (ltb (length (named t p (i .index))) (i .place + i .length)) 1 refl
+    by-stop (ltb (length (streamNamed t p (i .index))) (i .place + i .length)) 1 refl
     (by-stop (ltb (i .length) 2) 1 refl
     gives)
 kind-in-refuses t p (entry.Marker i) = gives
@@ -223,7 +223,7 @@ look-refuses s σ i n =
     (linkOf s (getD (σ .table) (distance (σ .finder) n / blockOf (σ .finder)) 0) (distance (σ .finder) n % blockOf (σ .finder)))))))))
 
 pub find-refuses : (s : List ℕ) (σ : State) (i : ItemIndex) → FindRefuses ofFind (findOf s σ i)
-find-refuses s σ i = look-refuses s σ i (numberIn i)
+find-refuses s σ i = look-refuses s σ i (indexNumber i)
 
 abbrev pub ofTurns : List ℕ
 ofTurns = 16 ∷ 1 ∷ 6 ∷ 7 ∷ 26 ∷ 13 ∷ 14 ∷ []
@@ -261,7 +261,7 @@ unfolding countedBy
 counted-by-refuses fs leaf s p h = by-then (fields-refuse _ fs 0 s p h) (λ g. gives)
 
 pub start-types-refuses : (s : List ℕ) → Refuses (1 ∷ 10 ∷ []) (startTypes s)
-unfolding startTypes counted typeLeaves fits within among listed find inTable refusals
+unfolding startTypes countedList typeLeaves fits within among listed find inTable refusals
 start-types-refuses s =
     by-then (wider refl (fixed-refuses 2 s 0)) (λ g.
     by-pick (eqb (g .value) 0x1201) (counted-by-refuses _ 0x1201 s (g .next) (free & refl & no-more))
@@ -270,7 +270,7 @@ start-types-refuses s =
     (refuses refl))))
 
 pub start-ids-refuses : (s : List ℕ) → Refuses (1 ∷ 10 ∷ []) (startIds s)
-unfolding startIds counted idLeaves fits within among listed find inTable refusals
+unfolding startIds countedList idLeaves fits within among listed find inTable refusals
 start-ids-refuses s =
     by-then (wider refl (fixed-refuses 2 s 0)) (λ g.
     by-pick (eqb (g .value) 0x1603) (counted-by-refuses _ 0x1603 s (g .next) (free & refl & no-more))
@@ -363,7 +363,7 @@ data Started : Answer ListCursor → Type 0 where
   nowhere : {n : ℕ} {d : List ℕ} → fits elsewhere ofIdSteps n d ≡ true → Started (refused n d)
 
 started : (s : List ℕ) → Started (startIds s)
-unfolding startIds counted countedBy idLeaves fits within among listed find inTable refusals
+unfolding startIds countedList countedBy idLeaves fits within among listed find inTable refusals
 started s = leaf-read (wider refl (fixed-refuses 2 s 0))
   where
     ids-read : {a : Read (List Shown)} → Refuses ofIdSteps a
@@ -380,14 +380,14 @@ started s = leaf-read (wider refl (fixed-refuses 2 s 0))
     either-list true x y = x
     either-list false x y = y
 
-    by-leaf : (leaf p : ℕ) → Started (pick (eqb leaf 0x1603) (counted idLeaves 0x1603 s p) (pick (eqb leaf 0x1604) (counted idLeaves 0x1604 s p) (refused 10 (leaf ∷ []))))
+    by-leaf : (leaf p : ℕ) → Started (pick (eqb leaf 0x1603) (countedList idLeaves 0x1603 s p) (pick (eqb leaf 0x1604) (countedList idLeaves 0x1604 s p) (refused 10 (leaf ∷ []))))
     by-leaf leaf p =
         either-list (eqb leaf 0x1603) (ids-read (fields-refuse _ (count16 ∷ run ids ∷ []) 0 s p (free & refl & no-more)))
         (either-list (eqb leaf 0x1604) (types-read (fields-refuse _ (count32 ∷ run types ∷ []) 0 s p (free & refl & no-more)))
         (nowhere refl))
 
     leaf-read : {a : Read ℕ} → Refuses ofIdSteps a
-        → Started (and-then a (λ leaf p. pick (eqb leaf 0x1603) (counted idLeaves 0x1603 s p) (pick (eqb leaf 0x1604) (counted idLeaves 0x1604 s p) (refused 10 (leaf ∷ [])))))
+        → Started (and-then a (λ leaf p. pick (eqb leaf 0x1603) (countedList idLeaves 0x1603 s p) (pick (eqb leaf 0x1604) (countedList idLeaves 0x1604 s p) (refused 10 (leaf ∷ [])))))
     leaf-read (gives {a = g}) = by-leaf (g .value) (g .next)
     leaf-read (refuses q) = nowhere q
 
@@ -414,11 +414,11 @@ numbered-refuses i = by-then (wider refl (primitive-refuses i)) (λ t. gives)
 
 type-bytes-refuses : (s : List ℕ) (p n : ℕ) → Refuses ofItems (typeBytes s p n)
 unfolding typeBytes fits within among listed find inTable refusals
-type-bytes-refuses s p n = by-stop (ltb (length s) (p + n)) 1 refl (by-then (wider refl (type-refuses (bytes s p n))) (λ vs. gives))
+type-bytes-refuses s p n = by-stop (ltb (length s) (p + n)) 1 refl (by-then (wider refl (type-refuses (payloadAt s p n))) (λ vs. gives))
 
 id-bytes-refuses : (s : List ℕ) (p n : ℕ) → Refuses ofItems (idBytes s p n)
 unfolding idBytes fits within among listed find inTable refusals
-id-bytes-refuses s p n = by-stop (ltb (length s) (p + n)) 1 refl (by-then (wider refl (id-refuses (bytes s p n))) (λ vs. gives))
+id-bytes-refuses s p n = by-stop (ltb (length s) (p + n)) 1 refl (by-then (wider refl (id-refuses (payloadAt s p n))) (λ vs. gives))
 
 item-refuses : (t s : List ℕ) (i : ItemIndex) (p n : ℕ) → Refuses ofItems (itemOf t s i p n)
 unfolding typeItem

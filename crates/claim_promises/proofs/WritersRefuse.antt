@@ -19,8 +19,8 @@ use Rattle.record_layout.specs.Fields.{number, numeral, absent, many, Field, fi
 use Rattle.record_layout.specs.Layouts.{Layout, Table, memberLeaves, method}
 use Rattle.write_layout.specs.Runs.{noZero}
 use Rattle.write_layout.specs.Fields.{ToWrite, Encoded, bad, only, ofNumber, ofNumeral, ofAbsent, ofMany, fixedBytes, optionalBytes, numericBytes, sizeBytes, stringBytes, writeField, and-also, writeFields}
-use Rattle.write_layout.specs.Records.{byLayout, writeLeaf, filled, recordBytes, limited, writeRecord}
-use Rattle.write_layout.specs.Lists.{filledMember, filledEach, memberBytes, ends, membersBytes, fieldListBytes, methodsBytes, methodListBytes}
+use Rattle.write_layout.specs.Records.{writtenBy, writeLeaf, filled, recordBytes, limited, writeRecord}
+use Rattle.write_layout.specs.Lists.{filledMember, filledEach, memberBytes, endsList, membersBytes, fieldListBytes, methodsBytes, methodListBytes}
 use Rattle.write_layout.specs.Buffer.{Written, lay, bufferAfter, placeAfter, Writes}
 use Rattle.write_pieces.specs.Pieces.{raw, fine, pieceOf, piecesOf}
 use Rattle.write_pieces.specs.declared.Piece.{Piece}
@@ -117,14 +117,14 @@ fields-refuse [] w (v ∷ vs) = bad-refuses
 fields-refuse (f ∷ fs) w [] = bad-refuses
 fields-refuse (f ∷ fs) w (v ∷ vs) = also-refuses (writeField f w v) (writeFields fs (wordAfter f v w) vs) (field-refuses f w v) (fields-refuse fs (wordAfter f v w) vs)
 
-layout-refuses : (l : Option Layout) (vs : List ToWrite) → Refuses of17 (byLayout l vs)
+layout-refuses : (l : Option Layout) (vs : List ToWrite) → Refuses of17 (writtenBy l vs)
 layout-refuses none vs = bad-refuses
 layout-refuses (some fs) vs = fields-refuse fs 0 vs
 
 pub leaf-refuses : (table : Table) (vs : List ToWrite) → Refuses of17 (writeLeaf table vs)
 unfolding writeLeaf
 leaf-refuses table [] = bad-refuses
-leaf-refuses table (number leaf ∷ vs) = also-refuses (fixedBytes 2 leaf) (byLayout (find leaf table) vs) (fixed-refuses 2 leaf) (layout-refuses (find leaf table) vs)
+leaf-refuses table (number leaf ∷ vs) = also-refuses (fixedBytes 2 leaf) (writtenBy (find leaf table) vs) (fixed-refuses 2 leaf) (layout-refuses (find leaf table) vs)
 leaf-refuses table (numeral z u ∷ vs) = bad-refuses
 leaf-refuses table (absent ∷ vs) = bad-refuses
 leaf-refuses table (many x ∷ vs) = bad-refuses
@@ -139,7 +139,7 @@ members-refuse : (ended : Bool) (vss : List (List ToWrite)) → Refuses of17 (me
 unfolding membersBytes memberBytes
 members-refuse ended [] = gives
 members-refuse true (vs ∷ vss) = bad-refuses
-members-refuse false (vs ∷ vss) = also-refuses (memberBytes vs) (membersBytes (ends vs) vss) (filled-refuses (writeLeaf memberLeaves vs) (leaf-refuses memberLeaves vs)) (members-refuse (ends vs) vss)
+members-refuse false (vs ∷ vss) = also-refuses (memberBytes vs) (membersBytes (endsList vs) vss) (filled-refuses (writeLeaf memberLeaves vs) (leaf-refuses memberLeaves vs)) (members-refuse (endsList vs) vss)
 
 methods-refuse : (vss : List (List ToWrite)) → Refuses of17 (methodsBytes vss)
 unfolding methodsBytes

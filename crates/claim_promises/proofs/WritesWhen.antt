@@ -25,7 +25,7 @@ use Rattle.write_layout.specs.Lists.{fieldListBytes, methodListBytes}
 use Rattle.write_layout.specs.Buffer.{lay}
 use Rattle.write_layout.specs.RoundTrip.{WouldRead, InBytes, AllInBytes, Exactly17}
 use Rattle.write_layout.proofs.Rewrite.{exactly-17}
-use Rattle.write_row.specs.Rows.{rowValues, listMethod, memberRows, methodRows}
+use Rattle.write_list.specs.Rows.{rowValues, listMethod, memberRows, methodRows}
 use Rattle.write_list.specs.ListsBack.{HasElements, EachInBytes}
 use Rattle.write_list.proofs.Lists17.{lists-exactly-17}
 use Rattle.write_header.specs.Headers.{headerFields, headerBytes}

@@ -31,11 +31,11 @@ use Rattle.write_layout.specs.Runs.{noZero, pads, zeros}
 use Rattle.write_layout.specs.Buffer.{Written, lay}
 use Rattle.write_layout.specs.Fields.{ToWrite, Encoded, fixedBytes, numericBytes, stringBytes, writeField, writeFields}
 use Rattle.write_layout.specs.Records.{writeLeaf, missing, filled, recordBytes, writeRecord}
-use Rattle.write_layout.specs.Lists.{filledMember, filledEach, memberBytes, ends, membersBytes, fieldListBytes}
+use Rattle.write_layout.specs.Lists.{filledMember, filledEach, memberBytes, endsList, membersBytes, fieldListBytes}
 use Rattle.write_header.specs.Headers.{headerFields, headerBytes, Fits32, Narrow}
-use Rattle.write_header.specs.Streams.{WrittenAs, by-table, field-list, AllWritten, inOrder, payloadOf, start, Walks}
+use Rattle.write_header.specs.Streams.{WrittenAs, by-table, field-list, AllWritten, inOrder, behindLength, start, HasPayloads}
 use Rattle.write_header.proofs.StreamWalks.{stream-walks}
-use Rattle.write_row.specs.Rows.{memberRows, memberRow}
+use Rattle.write_list.specs.Rows.{memberRows, rowOfMember}
 use Rattle.write_list.specs.ListsBack.{ElementsAre, payloadIn}
 use Rattle.write_list.proofs.ListBack.{lists-read-back}
 use Rattle.claim_promises.specs.OneBuffer as buffer
@@ -113,7 +113,7 @@ unfolding writeRecord recordBytes writeLeaf filled missing pads fixedBytes write
 pointer-written = by-table typeLeaves (number 0x1002 ∷ number 4096 ∷ number 65548 ∷ absent ∷ []) refl
 
 fields-are : fieldListBytes elementsE ≡ answered fieldsE
-unfolding fieldListBytes recordBytes membersBytes memberBytes filledEach filledMember ends writeLeaf filled missing pads fixedBytes writeFields writeField find memberLeaves bytes numericBytes shortest carried stringBytes noZero
+unfolding fieldListBytes recordBytes membersBytes memberBytes filledEach filledMember endsList writeLeaf filled missing pads fixedBytes writeFields writeField find memberLeaves bytes numericBytes shortest carried stringBytes noZero
 fields-are = refl
 
 fields-written : WrittenAs fieldsE
@@ -121,7 +121,7 @@ fields-written = field-list elementsE fields-are
 
 -- its three records are its items, and then it is done
 pub written-walks : (iterOf Types (headerFields headerE ++ inOrder recordsE) ≡ answered (start Types headerE))
-    × Walks (headerFields headerE ++ inOrder recordsE) (start Types headerE) (map payloadOf recordsE)
+    × HasPayloads (headerFields headerE ++ inOrder recordsE) (start Types headerE) (map behindLength recordsE)
 unfolding AllWritten headerFields inOrder bytes zeros
 written-walks = stream-walks Types headerE (headerFields headerE) recordsE accepted narrow (modifier-written, (pointer-written, (fields-written, tt))) (omega arith) (omega arith)
 
@@ -137,7 +137,7 @@ abbrev bufferE : Written
 bufferE = record { buffer = (headerFields headerE ++ inOrder recordsE) ++ replicate 6 7; next = 104 }
 
 laidE : laidAll (headerBytes headerE ∷ writesE) (replicate 110 7) 0 ≡ answered bufferE
-unfolding laidAll lay put headerBytes headerFields inOrder zeros fieldListBytes writeRecord recordBytes membersBytes memberBytes filledEach filledMember ends writeLeaf filled missing pads fixedBytes writeFields writeField find typeLeaves memberLeaves bytes numericBytes shortest carried stringBytes noZero kindOf modeOf toMemberOf pointerKinds pointerModes
+unfolding laidAll lay put headerBytes headerFields inOrder zeros fieldListBytes writeRecord recordBytes membersBytes memberBytes filledEach filledMember endsList writeLeaf filled missing pads fixedBytes writeFields writeField find typeLeaves memberLeaves bytes numericBytes shortest carried stringBytes noZero kindOf modeOf toMemberOf pointerKinds pointerModes
 laidE = refl
 
 pub one-buffer-of : buffer.InOneBuffer headerE writesE (replicate 110 7) bufferE
@@ -149,7 +149,7 @@ unfolding AllWriting
 all-writing = (buffer.by-table typeLeaves _, (buffer.by-table typeLeaves _, (buffer.field-list elementsE, tt)))
 
 pub buffer-walks : (iterOf Types (take 104 (bufferE .buffer)) ≡ answered (start Types headerE))
-    × Walks (take 104 (bufferE .buffer)) (start Types headerE) (map payloadOf (one-buffer-of .records))
+    × HasPayloads (take 104 (bufferE .buffer)) (start Types headerE) (map behindLength (one-buffer-of .records))
 buffer-walks = one-buffer-of .walks Types narrow all-writing (omega arith) (omega arith)
 
 -- its field list reads as two members, and these, made rows, are written as the same bytes
@@ -167,5 +167,5 @@ readE : ElementsAre (λ m. memberElement (memberValues m)) (elementOf Types (pay
 unfolding ElementsAre elementOf startOf startTypes elementBy stepOf nextMember memberStep readRecord readLeaf find memberLeaves readFieldsBy readFieldBy fixedAt littleAt numeralBy numericAt prefixes signedAt formOf shortest stringAt toZero paddingAfter pad among bytes
 readE = (refl, (refl, refl))
 
-pub again-E : fieldListBytes (memberRows (payloadIn fieldsE) (map memberRow membersE)) ≡ answered fieldsE
+pub again-E : fieldListBytes (memberRows (payloadIn fieldsE) (map rowOfMember membersE)) ≡ answered fieldsE
 again-E = lists-read-back .fields-again elementsE fieldsE membersE fields-are readE

@@ -6,7 +6,6 @@ use denote.Ref.{now}
 use lib.Dec.{eqb, leb}
 use lib.ListN.{length}
 use mathlib.Core.List.{List}
-use mathlib.Core.Path.{_≡_}
 use Rattle.declare_type.specs.Declares.{Declares, declareOf}
 use Rattle.declare_type.specs.declared.DeclareAnswer.{DeclareAnswer}
 use Rattle.field.specs.Fields.{fixedAt, said16, said32, said64, said8}
@@ -19,8 +18,7 @@ use Rattle.field_number.specs.Forms.{numeralAt, saidSize as saidSize-of-field-n
 use Rattle.field_text.specs.Texts.{paddingAfter, saidString, stringAt, stringOf}
 use Rattle.record_data.specs.Said.{saidTypeData, typeValues}
 use Rattle.record_data.specs.declared.TypeData.{TypeData}
-use Rattle.record_id.specs.Said.{idValues, saidIdData}
-use Rattle.record_id.specs.declared.IdData.{IdData}
+use Rattle.record_id.specs.Said.{saidIdData}
 use Rattle.record_layout.specs.Fields.{readFields}
 use Rattle.record_layout.specs.Layouts.{idLeaves, memberLeaves, method, readRecord, recordOf, typeLeaves}
 use Rattle.record_list.specs.Lists.{elementBy, elementOf, startOf as startOf-of-record-list, stepOf as stepOf-of-record-list}
@@ -31,7 +29,6 @@ use Rattle.record_member.specs.Said.{saidEntry, saidMember}
 use Rattle.record_parse.specs.Record.{parseOf, saidParse}
 use Rattle.record_reader.specs.Reader.{Steps}
 use Rattle.record_reader.specs.declared.ListReader.{ListReader}
-use Rattle.record_reader.specs.declared.Stepped.{Stepped}
 use Rattle.section_finder.specs.Finders.{SectionIndexesBy, sectionCreateBy, sectionCreateOf}
 use Rattle.section_item.specs.Sections.{countOf, sectionStart}
 use Rattle.section_read.specs.Readers.{readOf, readerAt}
@@ -44,7 +41,6 @@ use Rattle.stream_finder.specs.declared.FinderAnswer.{FinderAnswer}
 use Rattle.stream_finder.specs.declared.ItemFinder.{ItemFinder}
 use Rattle.stream_finder.specs.declared.Run.{Run}
 use Rattle.stream_finder.specs.declared.lent.UpdateAnswer.{UpdateAnswer}
-use Rattle.stream_finder.specs.declared.lent.UpdateStep.{UpdateStep}
 use Rattle.stream_header.specs.Header.{headerOf, saidHeader}
 use Rattle.stream_header.specs.declared.Header.{Header}
 use Rattle.stream_index.specs.Walk.{IndexesBy as IndexesBy-of-stream-index, Leads, Walks, turnOf}
@@ -66,22 +62,23 @@ use Rattle.stream_report.specs.declared.Totals.{Totals}
 use Rattle.stream_view.specs.Views.{rawKindOf, saidRawKind, saidView, viewBytes, viewOf}
 use Rattle.word_attributes.specs.Bits.{bit, bits}
 use Rattle.word_attributes.specs.Pointers.{kindOf, modeOf, referenceOf, sizeOf, toMemberOf}
-use Rattle.word_attributes.specs.Said.{saidFlag, saidKind, saidMode, saidSize as saidSize-of-word-attributes}
+use Rattle.word_attributes.specs.Said.{saidFlag, saidKind, saidMode, saidPointerSize as saidSize-of-word-attributes}
 use Rattle.word_attributes.specs.declared.FieldAttributes.{FieldAttributes}
 use Rattle.word_attributes.specs.declared.FunctionAttributes.{FunctionAttributes}
 use Rattle.word_attributes.specs.declared.PointerAttributes.{PointerAttributes}
 use Rattle.word_attributes.specs.declared.TypeProperties.{TypeProperties}
 use Rattle.word_primitive.specs.Primitive.{primitiveOf, saidPrimitive}
-use Rattle.write_layout.specs.Types.{writtenLeaves}
 use Rattle.write_header.specs.Headers.{headerBytes}
 use Rattle.write_layout.specs.Buffer.{Writes, lay}
-use Rattle.write_layout.specs.Fields.{givenAll}
 use Rattle.write_layout.specs.Lists.{fieldListBytes, filledEach, methodListBytes}
-use Rattle.write_layout.specs.Records.{limited, recordBytes, writeRecord}
+use Rattle.write_layout.specs.Records.{limited, writeRecord}
+use Rattle.write_layout.specs.Fields.{givenAll}
+use Rattle.write_layout.specs.Types.{writtenLeaves}
+use Rattle.write_cells.specs.Cells.{cellValues}
 use Rattle.write_pieces.specs.Pieces.{piecesOf, saidWrite}
 use Rattle.write_pieces.specs.declared.Piece.{Piece as Piece-of-write-pieces}
 use Rattle.write_pieces.specs.declared.WriteAnswer.{WriteAnswer}
-use Rattle.write_row.specs.Rows.{memberRows, methodRows}
+use Rattle.write_list.specs.Rows.{memberRows, methodRows}
 use Rattle.field.specs.declared.index.ItemIndex.the-variants as item-index
 use Rattle.claim_model.specs.TpiWords as crate
 use Rattle.claim_promises.specs.Contracts as contract
@@ -124,11 +121,10 @@ pub record Answers : Type 1 where
   pub stream-finder-find-type : (s : List ℕ) (f : ItemFinder) (t : List ℕ) (i : TypeIndex) → Says (contract.stream-finder-find-type s f t i) saidFind (findOf s (state f t) (item-index.Types i))
   pub stream-finder-find-id : (s : List ℕ) (f : ItemFinder) (t : List ℕ) (i : IdIndex) → Says (contract.stream-finder-find-id s f t i) saidFind (findOf s (state f t) (item-index.Ids i))
   pub stream-finder-lent-item-finder-update : (self : ItemFinder) (t : List ℕ) (c : ItemIter) (r : UpdateAnswer) (self′ : ItemFinder) (t′ : List ℕ) → contract.stream-finder-lent-item-finder-update self t c r self′ t′ → Updates (state self t) c r (state self′ t′)
-  pub stream-finder-lent-update-local : (f : ItemFinder) (t : List ℕ) (c : ItemIter) (u : UpdateStep) (t′ : List ℕ) → contract.stream-finder-lent-update-local f t c u t′ → Updates (state f t) c (u .answer) (state (u .finder) t′)
   pub stream-header-header-parse : (s : List ℕ) → Says (contract.stream-header-header-parse s) saidHeader (headerOf s)
   pub stream-fit-fit : (s : List ℕ) → Says (contract.stream-fit-fit s) saidFit (fitOf s)
   pub record-reference-record-references : (d : TypeData) → Says (contract.record-reference-record-references d) saidReferences (slots 4 (slotsBy typeLeaves (typeValues d) 2))
-  pub stream-index-turn : (s : List ℕ) (f : ItemFinder) (t : List ℕ) (c : ItemIter) (r : TurnAnswer) (t′ : List ℕ) → contract.stream-index-turn s f t c r t′ → Leads t (turnOf s (state f t) c) r t′
+  pub stream-index-next-and-update : (s : List ℕ) (f : ItemFinder) (t : List ℕ) (c : ItemIter) (r : TurnAnswer) (t′ : List ℕ) → contract.stream-index-next-and-update s f t c r t′ → Leads t (turnOf s (state f t) c) r t′
   pub stream-index-index-on : (s : List ℕ) (f : ItemFinder) (t : List ℕ) (c : ItemIter) (r : Tour) (t′ : List ℕ) → contract.stream-index-index-on s f t c r t′ → Walks s c (state f t) r t′
   pub stream-index-index-all : (stream : Stream) (s : List ℕ) (t : List ℕ) (r : IndexAnswer) (t′ : List ℕ) → contract.stream-index-index-all stream s t r t′ → IndexesBy-of-stream-index 3 stream s t r t′
   pub stream-index-index-all-by : (stream : Stream) (s : List ℕ) (t : List ℕ) (shift : ℕ) (r : IndexAnswer) (t′ : List ℕ) → contract.stream-index-index-all-by stream s t shift r t′ → IndexesBy-of-stream-index shift stream s t r t′
@@ -151,7 +147,7 @@ pub record Answers : Type 1 where
   pub stream-drop-drop : (s : List ℕ) (roots : List ℕ) (table : List ℕ) (out : List ℕ) (r : DropAnswer) (table′ : List ℕ) (out′ : List ℕ) → contract.stream-drop-drop s roots table out r table′ out′ → Drops table out (dropOf s roots (length table) (length out)) r table′ out′
   pub stream-view-bytes-of : (tpi : List ℕ) (ipi : List ℕ) (entry : Entry) → Says (contract.stream-view-bytes-of tpi ipi entry) (λ r. r) (viewBytes tpi ipi entry)
   pub stream-view-view : (tpi : List ℕ) (ipi : List ℕ) (entry : Entry) → Says (contract.stream-view-view tpi ipi entry) (λ r. saidView (r .answer)) (viewOf tpi ipi entry)
-  pub stream-view-why : (tpi : List ℕ) (ipi : List ℕ) (entry : Entry) → Says (contract.stream-view-why tpi ipi entry) saidView (viewOf tpi ipi entry)
+  pub stream-view-view-answer : (tpi : List ℕ) (ipi : List ℕ) (entry : Entry) → Says (contract.stream-view-view-answer tpi ipi entry) saidView (viewOf tpi ipi entry)
   pub stream-view-raw-kind : (tpi : List ℕ) (ipi : List ℕ) (entry : Entry) → Says (contract.stream-view-raw-kind tpi ipi entry) saidRawKind (rawKindOf tpi ipi entry)
   -- records, members, lists, entries
   pub record-data-type-data : (s : List ℕ) → Says (contract.record-data-type-data s) saidTypeData (recordOf typeLeaves s)
@@ -164,7 +160,6 @@ pub record Answers : Type 1 where
   pub record-parse-parse : (tpi : List ℕ) (ipi : List ℕ) (entry : Entry) → Says (contract.record-parse-parse tpi ipi entry) saidParse (parseOf tpi ipi entry)
   pub record-reader-list-reader-element : (self : ListReader) (k : ℕ) → Says (contract.record-reader-list-reader-element self k) saidElement (elementBy (stepOf-of-record-list (now (self .bytes))) k (self .cursor))
   pub record-reader-list-reader-step : (self : ListReader) (r : ElementAnswer) (self′ : ListReader) → contract.record-reader-list-reader-step self r self′ → Steps (self .cursor) (stepOf-of-record-list (now (self .bytes)) (self .cursor)) r (self′ .cursor)
-  pub record-reader-step-of : (bytes : List ℕ) (cursor : ListCursor) (u : Stepped) → contract.record-reader-step-of bytes cursor u → Steps cursor (stepOf-of-record-list bytes cursor) (u .answer) (u .cursor)
   pub record-reader-nth : (stream : Stream) (s : List ℕ) (k : ℕ) → Says (contract.record-reader-nth stream s k) saidElement (elementOf stream s k)
   -- sections of object files
   pub section-finder-create : (s : List ℕ) (t : List ℕ) (r : FinderAnswer) (t′ : List ℕ) → contract.section-finder-create s t r t′ → Fills t (sectionCreateOf s t) r t′
@@ -179,13 +174,12 @@ pub record Answers : Type 1 where
   -- what is written, into a buffer that is lent; a declaration
   pub declare-type-declare : (s : List ℕ) (f : ItemFinder) (t : List ℕ) (i : TypeIndex) (out : List ℕ) (r : DeclareAnswer) (out′ : List ℕ) → contract.declare-type-declare s f t i out r out′ → Declares (declareOf s (state f t) (i .0) (length out)) out r out′
   pub write-header-write-header : (h : Header) (out : List ℕ) (at : ℕ) (r : WriteAnswer) (out′ : List ℕ) → contract.write-header-write-header h out at r out′ → Writes out (lay (headerBytes h) out at) (saidWrite r) out′
-  pub write-id-write-id : (text : List ℕ) (d : IdData) (out : List ℕ) (at : ℕ) (r : WriteAnswer) (out′ : List ℕ) → contract.write-id-write-id text d out at r out′ → Writes out (lay (writeRecord idLeaves (givenAll text (idValues d))) out at) (saidWrite r) out′
   pub write-list-write-field-list : (text : List ℕ) (rows : List (List ℕ)) (out : List ℕ) (at : ℕ) (r : WriteAnswer) (out′ : List ℕ) → contract.write-list-write-field-list text rows out at r out′ → Writes out (lay (fieldListBytes (memberRows text rows)) out at) (saidWrite r) out′
   pub write-list-write-method-list : (text : List ℕ) (rows : List (List ℕ)) (out : List ℕ) (at : ℕ) (r : WriteAnswer) (out′ : List ℕ) → contract.write-list-write-method-list text rows out at r out′ → Writes out (lay (methodListBytes (methodRows text rows)) out at) (saidWrite r) out′
+  pub write-cells-write-type : (text : List ℕ) (leaf : ℕ) (row : List ℕ) (out : List ℕ) (at : ℕ) (r : WriteAnswer) (out′ : List ℕ) → contract.write-cells-write-type text leaf row out at r out′ → Writes out (lay (writeRecord writtenLeaves (givenAll text (cellValues leaf row))) out at) (saidWrite r) out′
+  pub write-cells-write-id : (text : List ℕ) (leaf : ℕ) (row : List ℕ) (out : List ℕ) (at : ℕ) (r : WriteAnswer) (out′ : List ℕ) → contract.write-cells-write-id text leaf row out at r out′ → Writes out (lay (writeRecord idLeaves (givenAll text (cellValues leaf row))) out at) (saidWrite r) out′
   pub write-pieces-write-plain : (text : List ℕ) (xs : List Piece-of-write-pieces) (out : List ℕ) (at : ℕ) (r : WriteAnswer) (out′ : List ℕ) → contract.write-pieces-write-plain text xs out at r out′ → Writes out (lay (limited (piecesOf text xs)) out at) (saidWrite r) out′
   pub write-pieces-write-filled : (text : List ℕ) (xs : List Piece-of-write-pieces) (out : List ℕ) (at : ℕ) (r : WriteAnswer) (out′ : List ℕ) → contract.write-pieces-write-filled text xs out at r out′ → Writes out (lay (limited (filledEach (piecesOf text xs))) out at) (saidWrite r) out′
-  pub write-pieces-write-record : (text : List ℕ) (xs : List Piece-of-write-pieces) (out : List ℕ) (at : ℕ) (r : WriteAnswer) (out′ : List ℕ) → contract.write-pieces-write-record text xs out at r out′ → Writes out (lay (recordBytes (piecesOf text xs)) out at) (saidWrite r) out′
-  pub write-type-write-type : (text : List ℕ) (d : TypeData) (out : List ℕ) (at : ℕ) (r : WriteAnswer) (out′ : List ℕ) → contract.write-type-write-type text d out at r out′ → Writes out (lay (writeRecord writtenLeaves (givenAll text (typeValues d))) out at) (saidWrite r) out′
   -- attribute words: the crate's own methods
   pub word-attributes-type-properties-packed : (self : TypeProperties) → Says (contract.word-attributes-type-properties-packed self) (λ r. r) (crate.packed (self .0))
   pub word-attributes-type-properties-constructors : (self : TypeProperties) → Says (contract.word-attributes-type-properties-constructors self) (λ r. r) (crate.constructors (self .0))

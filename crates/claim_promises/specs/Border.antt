@@ -18,9 +18,9 @@ use Rattle.pane_fit.specs.Out.{outFit}
 use Rattle.pane_index.specs.Out.{outKind, outSave, outView}
 use Rattle.pane_out.specs.Handed.{isSet, mark}
 use Rattle.pane_parse.specs.Out.{outRead, recordAt}
-use Rattle.pane_record.specs.Out.{cursorAt as cursorAt-of-pane-record, outId, outList as outList-of-pane-record, outStep, outType, streamAt}
+use Rattle.pane_record.specs.Out.{listCursorAt as cursorAt-of-pane-record, outId, outList as outList-of-pane-record, outStep, outType, streamAt}
 use Rattle.pane_report.specs.Out.{outReport, totalsAt}
-use Rattle.pane_section.specs.Out.{sectionIndexBy, outCount, outList as outList-of-pane-section, outStart, outStream}
+use Rattle.pane_section.specs.Out.{sectionIndexBy, outCount, outSectionList as outList-of-pane-section, outStart, outStream}
 use Rattle.pane_state.specs.Entries.{entryAt}
 use Rattle.pane_state.specs.Finders.{outFinder}
 use Rattle.pane_state.specs.Given.{cursorAt as cursorAt-of-pane-state, finderAt, finderWith}
@@ -53,7 +53,7 @@ use Rattle.write_layout.specs.Fields.{givenAll}
 use Rattle.write_layout.specs.Lists.{fieldListBytes, methodListBytes}
 use Rattle.write_layout.specs.Records.{writeRecord}
 use Rattle.write_layout.specs.Types.{writtenLeaves}
-use Rattle.write_row.specs.Rows.{memberRows, methodRows}
+use Rattle.write_list.specs.Rows.{memberRows, methodRows}
 use Rattle.claim_promises.specs.Contracts as contract
 
 pub record Border : Type 0 where

@@ -1,5 +1,5 @@
 -- The contract of each public function, word for word as its source has it, over the arguments' values. Written by tools/contracts.
-use Prim.Native.Nat.{_*_, _+_, _-_, min, ℕ}
+use Prim.Native.Nat.{_+_, _-_, min, ℕ}
 use denote.Ref.{RefT, now}
 use lib.Dec.{eqb, leb}
 use lib.IntN.{pos}
@@ -16,27 +16,27 @@ use Rattle.answer.specs.declared.Details.{Details}
 use Rattle.answer.specs.declared.Refusal.{Refusal}
 use Rattle.answer_name.specs.Names.{Holds, nameText}
 use Rattle.answer_name.specs.declared.Name.{Name}
-use Rattle.declare_kind.specs.Sizes.{primitiveSize}
 use Rattle.declare_node.specs.Inside.{ListInside}
 use Rattle.declare_node.specs.Nodes.{indexAt, listOf, nodeOf}
 use Rattle.declare_node.specs.declared.Arguments.{Arguments}
 use Rattle.declare_node.specs.declared.Node.{Node}
 use Rattle.declare_piece.specs.Pieces.{textOf}
 use Rattle.declare_piece.specs.declared.Piece.{Piece as Piece-of-declare-piece}
-use Rattle.declare_step.specs.Steps.{startOf as startOf-of-declare-step, stepOf as stepOf-of-declare-step}
+use Rattle.declare_step.specs.Steps.{aroundFirst, inwardStep}
 use Rattle.declare_step.specs.declared.Around.{Around}
 use Rattle.declare_step.specs.declared.Step.{Step}
 use Rattle.declare_type.specs.Declares.{Declares, declareOf}
 use Rattle.declare_type.specs.declared.DeclareAnswer.{DeclareAnswer}
 use Rattle.declare_walk.specs.Walk.{capped, walk}
 use Rattle.declare_walk.specs.declared.Measured.{Measured}
+use Rattle.declare_word.specs.Sizes.{primitiveSize}
 use Rattle.declare_word.specs.Spellings.{byText, kindText, modeText, qualsText}
 use Rattle.declare_word.specs.Words.{Spells}
 use Rattle.declare_word.specs.declared.Quals.{Quals}
 use Rattle.declare_word.specs.declared.Word.{Word}
 use Rattle.field.specs.Bytes.{bytes as bytes-of-field}
 use Rattle.field.specs.Fields.{fixedAt, said16, said32, said64, said8}
-use Rattle.field.specs.Indices.{idOption, indexIn, noId, noType, numberIn, optionalAt, optionalOf, saidId, saidOptId, saidOptType, saidStringRef, saidType, streamIn, typeOption}
+use Rattle.field.specs.Indices.{idOption, indexIn, indexNumber, noId, noType, optionalAt, optionalOf, saidId, saidOptId, saidOptType, saidStringRef, saidType, streamIn, typeOption}
 use Rattle.field.specs.Runs.{bytesAfter, bytesAt, saidAfter}
 use Rattle.field.specs.declared.fixed.Read16.{Read16}
 use Rattle.field.specs.declared.fixed.Read32.{Read32}
@@ -56,11 +56,11 @@ use Rattle.field.specs.declared.index.Stream.the-variants.{Types}
 use Rattle.field.specs.declared.index.Stream.{Stream}
 use Rattle.field.specs.declared.index.TypeIndex.{TypeIndex}
 use Rattle.field.specs.declared.run.After.{After}
-use Rattle.field_number.specs.Forms.{numeralAt, saidSize as saidSize-of-field-number, saidVariant, sizedAt}
+use Rattle.field_number.specs.Forms.{numeralAt, saidSize, saidVariant, sizedAt}
 use Rattle.field_number.specs.declared.ReadSize.{ReadSize}
 use Rattle.field_number.specs.declared.ReadVariant.{ReadVariant}
 use Rattle.field_put.specs.Bytes.{Lays, bytes as bytes-of-field-put}
-use Rattle.field_text.specs.Texts.{paddingAfter, part, saidString, stringAt, stringOf, stringOption}
+use Rattle.field_text.specs.Texts.{paddingAfter, saidString, stringAt, stringOf, stringOption}
 use Rattle.field_text.specs.declared.OptString.{OptString}
 use Rattle.field_text.specs.declared.RawString.{RawString}
 use Rattle.field_text.specs.declared.ReadString.{ReadString}
@@ -71,16 +71,16 @@ use Rattle.pane_fit.specs.Out.{outFit}
 use Rattle.pane_index.specs.Out.{outKind, outSave, outView}
 use Rattle.pane_out.specs.Handed.{isSet, mark}
 use Rattle.pane_parse.specs.Out.{outRead, recordAt}
-use Rattle.pane_record.specs.Out.{cursorAt as cursorAt-of-pane-record, outId, outList as outList-of-pane-record, outStep, outType, streamAt}
+use Rattle.pane_record.specs.Out.{listCursorAt, outId, outList, outStep, outType, streamAt}
 use Rattle.pane_report.specs.Out.{outReport, totalsAt}
-use Rattle.pane_row.specs.ElementPlaces.{indexRow, memberRow as memberRow-of-pane-row, methodRow as methodRow-of-pane-row}
+use Rattle.pane_row.specs.ElementPlaces.{indexRow, memberRow, methodRow}
 use Rattle.pane_row.specs.IdPlaces.{idRow}
 use Rattle.pane_row.specs.ListPlaces.{cursorRow}
 use Rattle.pane_row.specs.TypePlaces.{typeRow}
-use Rattle.pane_section.specs.Out.{outCount, outList as outList-of-pane-section, outStart, outStream, sectionIndexBy}
+use Rattle.pane_section.specs.Out.{outCount, outSectionList, outStart, outStream, sectionIndexBy}
 use Rattle.pane_state.specs.Entries.{entryAt}
 use Rattle.pane_state.specs.Finders.{outFinder}
-use Rattle.pane_state.specs.Given.{cursorAt as cursorAt-of-pane-state, finderAt, finderWith}
+use Rattle.pane_state.specs.Given.{cursorAt, finderAt, finderWith}
 use Rattle.pane_state.specs.Walk.{indexAllBy, outWalk, tourOut}
 use Rattle.pane_word.specs.Fields.{outNumber, outPadding, outSize, outString, present}
 use Rattle.pane_word.specs.Words.{outField, outFunction, outPointer, outProperties}
@@ -96,9 +96,9 @@ use Rattle.record_data.specs.declared.TypeData.{TypeData}
 use Rattle.record_id.specs.Said.{idValues, saidIdData}
 use Rattle.record_id.specs.declared.IdAnswer.{IdAnswer}
 use Rattle.record_id.specs.declared.IdData.{IdData}
-use Rattle.record_layout.specs.Fields.{number, readFields, run, types}
-use Rattle.record_layout.specs.Layouts.{S, idLeaves, memberLeaves, method, readRecord, recordOf, typeLeaves}
-use Rattle.record_list.specs.Lists.{elementBy, elementOf, startOf as startOf-of-record-list, stepOf as stepOf-of-record-list}
+use Rattle.record_layout.specs.Fields.{number, readFields}
+use Rattle.record_layout.specs.Layouts.{idLeaves, memberLeaves, method, readRecord, recordOf, typeLeaves}
+use Rattle.record_list.specs.Lists.{elementBy, elementOf, startOf, stepOf}
 use Rattle.record_list.specs.Said.{elementValues, saidElement, saidStart, saidStep}
 use Rattle.record_list.specs.declared.Element.{Element}
 use Rattle.record_list.specs.declared.ElementAnswer.{ElementAnswer}
@@ -114,7 +114,6 @@ use Rattle.record_parse.specs.Record.{parseOf, saidParse}
 use Rattle.record_parse.specs.declared.ParseAnswer.{ParseAnswer}
 use Rattle.record_reader.specs.Reader.{Steps}
 use Rattle.record_reader.specs.declared.ListReader.{ListReader}
-use Rattle.record_reader.specs.declared.Stepped.{Stepped}
 use Rattle.record_reference.specs.Said.{saidOfElement, saidReferences}
 use Rattle.record_reference.specs.Values.{elementRefs, slots, slotsBy}
 use Rattle.record_reference.specs.declared.ElementReferences.{ElementReferences}
@@ -133,7 +132,6 @@ use Rattle.stream_finder.specs.declared.FinderAnswer.{FinderAnswer}
 use Rattle.stream_finder.specs.declared.ItemFinder.{ItemFinder}
 use Rattle.stream_finder.specs.declared.Run.{Run}
 use Rattle.stream_finder.specs.declared.lent.UpdateAnswer.{UpdateAnswer}
-use Rattle.stream_finder.specs.declared.lent.UpdateStep.{UpdateStep}
 use Rattle.stream_fit.specs.Fit.{fitOf, saidFit}
 use Rattle.stream_fit.specs.declared.FitAnswer.{FitAnswer}
 use Rattle.stream_header.specs.Header.{headerOf, saidHeader}
@@ -167,7 +165,7 @@ use Rattle.stream_view.specs.declared.RawKindAnswer.{RawKindAnswer}
 use Rattle.stream_view.specs.declared.ViewAnswer.{ViewAnswer}
 use Rattle.word_attributes.specs.Bits.{bit, bits}
 use Rattle.word_attributes.specs.Pointers.{kindOf, modeOf, referenceOf, sizeOf, toMemberOf}
-use Rattle.word_attributes.specs.Said.{saidFlag, saidKind, saidMode, saidSize as saidSize-of-word-attributes}
+use Rattle.word_attributes.specs.Said.{saidFlag, saidKind, saidMode, saidPointerSize}
 use Rattle.word_attributes.specs.Words.{introducing, methodProperty}
 use Rattle.word_attributes.specs.declared.FieldAttributes.{FieldAttributes}
 use Rattle.word_attributes.specs.declared.FlagAnswer.{FlagAnswer}
@@ -183,18 +181,18 @@ use Rattle.word_primitive.specs.declared.Indirection.{Indirection}
 use Rattle.word_primitive.specs.declared.PrimitiveAnswer.{PrimitiveAnswer}
 use Rattle.word_primitive.specs.declared.PrimitiveKind.{PrimitiveKind}
 use Rattle.write_cells.specs.Cells.{cellValues}
-use Rattle.write_fit.specs.Fit.{halfPiece, naturalPiece, ofPart, ofRun, runPiece, textPiece, wordPiece}
 use Rattle.write_header.specs.Headers.{headerBytes}
 use Rattle.write_layout.specs.Buffer.{Writes, lay}
-use Rattle.write_layout.specs.Fields.{fixedBytes, givenAll, numericBytes, writeField}
+use Rattle.write_layout.specs.Fields.{fixedBytes, givenAll, numericBytes}
 use Rattle.write_layout.specs.Lists.{fieldListBytes, filledEach, methodListBytes}
-use Rattle.write_layout.specs.Records.{limited, recordBytes, writeRecord}
+use Rattle.write_layout.specs.Records.{limited, writeRecord}
 use Rattle.write_layout.specs.Types.{writtenLeaves}
+use Rattle.write_list.specs.Rows.{memberRows, methodRows, rowOfMember, rowOfMethod}
+use Rattle.write_pieces.specs.Fit.{halfPiece, naturalPiece}
 use Rattle.write_pieces.specs.Pieces.{pieceOf, piecesOf, saidMeasure, saidWrite}
 use Rattle.write_pieces.specs.declared.Measure.{Measure}
 use Rattle.write_pieces.specs.declared.Piece.{Piece as Piece-of-write-pieces}
 use Rattle.write_pieces.specs.declared.WriteAnswer.{WriteAnswer}
-use Rattle.write_row.specs.Rows.{memberRow as memberRow-of-write-row, memberRows, methodRow as methodRow-of-write-row, methodRows}
 
 -- answer::Refusal::number
 abbrev pub answer-refusal-number : (self : Refusal) → ℕ → Type 0
@@ -207,14 +205,6 @@ answer-refusal-details self r = detailsValue r ≡ detailsOf self
 -- answer_name::name_of
 abbrev pub answer-name-name-of : (e : Refusal) → Name → Type 0
 answer-name-name-of e r = Holds r (nameText e)
-
--- declare_kind::kind
-abbrev pub declare-kind-kind : (k : PrimitiveKind) → Word → Type 0
-declare-kind-kind k r = Spells r (kindText k)
-
--- declare_kind::size
-abbrev pub declare-kind-size : (k : PrimitiveKind) (by : Indirection) → ℕ → Type 0
-declare-kind-size k by r = r ≡ primitiveSize k by
 
 -- declare_node::node_of
 abbrev pub declare-node-node-of : (s : List ℕ) (f : ItemFinder) (t : List ℕ) (i : TypeIndex) → Node → Type 0
@@ -238,23 +228,23 @@ declare-piece-put s p out at r out′ = Lays out at (textOf s p) r out′
 
 -- declare_step::start
 abbrev pub declare-step-start : Around → Type 0
-declare-step-start r = r ≡ startOf-of-declare-step
+declare-step-start r = r ≡ aroundFirst
 
 -- declare_step::step_of
 abbrev pub declare-step-step-of : (s : List ℕ) (f : ItemFinder) (t : List ℕ) (i : TypeIndex) (a : Around) → Step → Type 0
-declare-step-step-of s f t i a r = r ≡ stepOf-of-declare-step s (state f t) (i .0) a
+declare-step-step-of s f t i a r = r ≡ inwardStep s (state f t) (i .0) a
 
 -- declare_type::declare
 abbrev pub declare-type-declare : (s : List ℕ) (f : ItemFinder) (t : List ℕ) (i : TypeIndex) (out : List ℕ) → DeclareAnswer → List ℕ → Type 0
 declare-type-declare s f t i out r out′ = Declares (declareOf s (state f t) (i .0) (length out)) out r out′
 
--- declare_walk::declarator
-abbrev pub declare-walk-declarator : (s : List ℕ) (f : ItemFinder) (t : List ℕ) (i : TypeIndex) (d : ℕ) (a : Around) (room : ℕ) → Measured → Type 0
-declare-walk-declarator s f t i d a room r = r ≡ capped room (walk s (state f t) d (i .0) a)
+-- declare_walk::measure_declarator
+abbrev pub declare-walk-measure-declarator : (s : List ℕ) (f : ItemFinder) (t : List ℕ) (i : TypeIndex) (d : ℕ) (a : Around) (room : ℕ) → Measured → Type 0
+declare-walk-measure-declarator s f t i d a room r = r ≡ capped room (walk s (state f t) d (i .0) a)
 
--- declare_word::by
-abbrev pub declare-word-by : (y : Indirection) → Word → Type 0
-declare-word-by y r = Spells r (byText y)
+-- declare_word::indirection
+abbrev pub declare-word-indirection : (y : Indirection) → Word → Type 0
+declare-word-indirection y r = Spells r (byText y)
 
 -- declare_word::mode
 abbrev pub declare-word-mode : (m : ℕ) → Word → Type 0
@@ -263,6 +253,14 @@ declare-word-mode m r = Spells r (modeText m)
 -- declare_word::qualifiers
 abbrev pub declare-word-qualifiers : (q : Quals) → Word → Type 0
 declare-word-qualifiers q r = Spells r (qualsText q)
+
+-- declare_word::kind::spelled
+abbrev pub declare-word-kind-spelled : (k : PrimitiveKind) → Word → Type 0
+declare-word-kind-spelled k r = Spells r (kindText k)
+
+-- declare_word::kind::size
+abbrev pub declare-word-kind-size : (k : PrimitiveKind) (by : Indirection) → ℕ → Type 0
+declare-word-kind-size k by r = r ≡ primitiveSize k by
 
 -- field::fixed::u8_at
 abbrev pub field-fixed-u8-at : (s : List ℕ) (p : ℕ) → Read8 → Type 0
@@ -290,7 +288,7 @@ field-index-item-index-stream self r = r ≡ streamIn self
 
 -- field::index::ItemIndex::number
 abbrev pub field-index-item-index-number : (self : ItemIndex) → ℕ → Type 0
-field-index-item-index-number self r = r ≡ numberIn self
+field-index-item-index-number self r = r ≡ indexNumber self
 
 -- field::index::TypeIndex::is_cross_module
 abbrev pub field-index-type-index-is-cross-module : (self : TypeIndex) → Bool → Type 0
@@ -342,7 +340,7 @@ field-number-number-at s p r = saidVariant r ≡ numeralAt s p
 
 -- field_number::size_at
 abbrev pub field-number-size-at : (s : List ℕ) (p : ℕ) → ReadSize → Type 0
-field-number-size-at s p r = saidSize-of-field-number r ≡ sizedAt s p
+field-number-size-at s p r = saidSize r ≡ sizedAt s p
 
 -- field_put::put8
 abbrev pub field-put-put8 : (out : List ℕ) (p : ℕ) (x : ℕ) → ℕ → List ℕ → Type 0
@@ -382,11 +380,11 @@ pane-pdb-header s r out′ = (r, out′) ≡ outHeader (headerOf s)
 
 -- pane::pdb_next
 abbrev pub pane-pdb-next : (s : List ℕ) (at : ℕ) (index : ℕ) → ℕ → List ℕ → Type 0
-pane-pdb-next s at index r out′ = (r, out′) ≡ outNext (nextOf s (cursorAt-of-pane-state at index))
+pane-pdb-next s at index r out′ = (r, out′) ≡ outNext (nextOf s (cursorAt at index))
 
 -- pane::pdb_update
 abbrev pub pane-pdb-update : (table : List ℕ) (minimum : ℕ) (maximum : ℕ) (held : ℕ) (shift : ℕ) (at : ℕ) (index : ℕ) → ℕ → List ℕ → List ℕ → Type 0
-pane-pdb-update table minimum maximum held shift at index r table′ out′ = (r, out′, table′) ≡ outUpdate table (updateOf (finderAt minimum maximum held shift table) (cursorAt-of-pane-state at index))
+pane-pdb-update table minimum maximum held shift at index r table′ out′ = (r, out′, table′) ≡ outUpdate table (updateOf (finderAt minimum maximum held shift table) (cursorAt at index))
 
 -- pane::pdb_find
 abbrev pub pane-pdb-find : (s : List ℕ) (table : List ℕ) (minimum : ℕ) (maximum : ℕ) (held : ℕ) (shift : ℕ) (index : ℕ) → ℕ → List ℕ → Type 0
@@ -478,11 +476,11 @@ pane-record-pdb-id s r out′ = (r, out′) ≡ outId (recordOf idLeaves s)
 
 -- pane_record::pdb_list
 abbrev pub pane-record-pdb-list : (s : List ℕ) (ids : ℕ) → ℕ → List ℕ → Type 0
-pane-record-pdb-list s ids r out′ = (r, out′) ≡ outList-of-pane-record (startOf-of-record-list (streamAt ids) s)
+pane-record-pdb-list s ids r out′ = (r, out′) ≡ outList (startOf (streamAt ids) s)
 
 -- pane_record::pdb_step
 abbrev pub pane-record-pdb-step : (s : List ℕ) (leaf : ℕ) (at : ℕ) (left : ℕ) (padded : ℕ) → ℕ → List ℕ → Type 0
-pane-record-pdb-step s leaf at left padded r out′ = (r, out′) ≡ outStep (stepOf-of-record-list s (cursorAt-of-pane-record leaf at left padded))
+pane-record-pdb-step s leaf at left padded r out′ = (r, out′) ≡ outStep (stepOf s (listCursorAt leaf at left padded))
 
 -- pane_report::pdb_report
 abbrev pub pane-report-pdb-report : (s : List ℕ) (taken : ℕ) (refused : ℕ) (headers : ℕ) (records : ℕ) (bytes : ℕ) (length : ℕ) (stream : ℕ) (index : ℕ) (rows : ℕ) (table : List ℕ) → ℕ → List ℕ → List ℕ → Type 0
@@ -502,11 +500,11 @@ pane-row-cursor-row c r = r ≡ 0 ∷ 0 ∷ cursorRow c
 
 -- pane_row::member_row
 abbrev pub pane-row-member-row : (at : ℕ) (left : ℕ) (padded : ℕ) (m : Member) → List ℕ → Type 0
-pane-row-member-row at left padded m r = r ≡ 0 ∷ 0 ∷ at ∷ left ∷ padded ∷ memberRow-of-pane-row (memberValues m)
+pane-row-member-row at left padded m r = r ≡ 0 ∷ 0 ∷ at ∷ left ∷ padded ∷ memberRow (memberValues m)
 
 -- pane_row::entry_row
 abbrev pub pane-row-entry-row : (at : ℕ) (left : ℕ) (padded : ℕ) (m : MethodListEntry) → List ℕ → Type 0
-pane-row-entry-row at left padded m r = r ≡ 0 ∷ 0 ∷ at ∷ left ∷ padded ∷ methodRow-of-pane-row (entryValues m)
+pane-row-entry-row at left padded m r = r ≡ 0 ∷ 0 ∷ at ∷ left ∷ padded ∷ methodRow (entryValues m)
 
 -- pane_row::index_row
 abbrev pub pane-row-index-row : (at : ℕ) (left : ℕ) (padded : ℕ) (i : ℕ) → List ℕ → Type 0
@@ -534,7 +532,7 @@ pane-section-pdb-section-stream s buffer r buffer′ out′ = (r, out′, buffer
 
 -- pane_section::pdb_section_list
 abbrev pub pane-section-pdb-section-list : (s : List ℕ) → ℕ → List ℕ → Type 0
-pane-section-pdb-section-list s r out′ = (r, out′) ≡ outList-of-pane-section (startOf-of-record-list (readerAt s 0) s)
+pane-section-pdb-section-list s r out′ = (r, out′) ≡ outSectionList (startOf (readerAt s 0) s)
 
 -- pane_state::walk_out
 abbrev pub pane-state-walk-out : (t : Tour) → List ℕ → Type 0
@@ -654,15 +652,15 @@ record-id-id-data s r = saidIdData r ≡ recordOf idLeaves s
 
 -- record_list::start
 abbrev pub record-list-start : (stream : Stream) (s : List ℕ) → StartAnswer → Type 0
-record-list-start stream s r = saidStart r ≡ startOf-of-record-list stream s
+record-list-start stream s r = saidStart r ≡ startOf stream s
 
 -- record_list::step
 abbrev pub record-list-step : (s : List ℕ) (c : ListCursor) → StepAnswer → Type 0
-record-list-step s c r = saidStep r ≡ stepOf-of-record-list s c
+record-list-step s c r = saidStep r ≡ stepOf s c
 
 -- record_list::element_from
 abbrev pub record-list-element-from : (s : List ℕ) (c : ListCursor) (k : ℕ) → ElementAnswer → Type 0
-record-list-element-from s c k r = saidElement r ≡ elementBy (stepOf-of-record-list s) k c
+record-list-element-from s c k r = saidElement r ≡ elementBy (stepOf s) k c
 
 -- record_member::Member::name
 abbrev pub record-member-member-name : (self : Member) → OptString → Type 0
@@ -686,15 +684,11 @@ record-reader-list-reader-new bytes cursor r = (r .bytes ≡ bytes) × (r .curso
 
 -- record_reader::ListReader::element
 abbrev pub record-reader-list-reader-element : (self : ListReader) (k : ℕ) → ElementAnswer → Type 0
-record-reader-list-reader-element self k r = saidElement r ≡ elementBy (stepOf-of-record-list (now (self .bytes))) k (self .cursor)
+record-reader-list-reader-element self k r = saidElement r ≡ elementBy (stepOf (now (self .bytes))) k (self .cursor)
 
 -- record_reader::ListReader::step
 abbrev pub record-reader-list-reader-step : (self : ListReader) → ElementAnswer → ListReader → Type 0
-record-reader-list-reader-step self r self′ = Steps (self .cursor) (stepOf-of-record-list (now (self .bytes)) (self .cursor)) r (self′ .cursor) × (self′ .bytes ≡ self .bytes)
-
--- record_reader::step_of
-abbrev pub record-reader-step-of : (bytes : List ℕ) (cursor : ListCursor) → Stepped → Type 0
-record-reader-step-of bytes cursor u = Steps cursor (stepOf-of-record-list bytes cursor) (u .answer) (u .cursor)
+record-reader-list-reader-step self r self′ = Steps (self .cursor) (stepOf (now (self .bytes)) (self .cursor)) r (self′ .cursor) × (self′ .bytes ≡ self .bytes)
 
 -- record_reader::nth
 abbrev pub record-reader-nth : (stream : Stream) (s : List ℕ) (k : ℕ) → ElementAnswer → Type 0
@@ -738,7 +732,7 @@ section-read-parse s entry r = saidParse r ≡ readOf s entry
 
 -- section_read::start
 abbrev pub section-read-start : (bytes : List ℕ) → StartAnswer → Type 0
-section-read-start bytes r = saidStart r ≡ startOf-of-record-list (readerAt bytes 0) bytes
+section-read-start bytes r = saidStart r ≡ startOf (readerAt bytes 0) bytes
 
 -- section_stream::to_stream
 abbrev pub section-stream-to-stream : (s : List ℕ) (out : List ℕ) → WriteAnswer → List ℕ → Type 0
@@ -784,10 +778,6 @@ stream-finder-find-id s f t i r = saidFind r ≡ findOf s (state f t) (item-inde
 abbrev pub stream-finder-lent-item-finder-update : (self : ItemFinder) (t : List ℕ) (c : ItemIter) → UpdateAnswer → ItemFinder → List ℕ → Type 0
 stream-finder-lent-item-finder-update self t c r self′ t′ = Updates (state self t) c r (state self′ t′)
 
--- stream_finder::lent::update_local
-abbrev pub stream-finder-lent-update-local : (f : ItemFinder) (t : List ℕ) (c : ItemIter) → UpdateStep → List ℕ → Type 0
-stream-finder-lent-update-local f t c u t′ = Updates (state f t) c (u .answer) (state (u .finder) t′)
-
 -- stream_fit::fit
 abbrev pub stream-fit-fit : (s : List ℕ) → FitAnswer → Type 0
 stream-fit-fit s r = saidFit r ≡ fitOf s
@@ -800,9 +790,9 @@ stream-header-header-parse s r = saidHeader r ≡ headerOf s
 abbrev pub stream-header-header-count : (self : Header) → ℕ → Type 0
 stream-header-header-count self r = r ≡ self .«maximum_index» - self .«minimum_index»
 
--- stream_index::turn
-abbrev pub stream-index-turn : (s : List ℕ) (f : ItemFinder) (t : List ℕ) (c : ItemIter) → TurnAnswer → List ℕ → Type 0
-stream-index-turn s f t c r t′ = Leads t (turnOf s (state f t) c) r t′
+-- stream_index::next_and_update
+abbrev pub stream-index-next-and-update : (s : List ℕ) (f : ItemFinder) (t : List ℕ) (c : ItemIter) → TurnAnswer → List ℕ → Type 0
+stream-index-next-and-update s f t c r t′ = Leads t (turnOf s (state f t) c) r t′
 
 -- stream_index::index_on
 abbrev pub stream-index-index-on : (s : List ℕ) (f : ItemFinder) (t : List ℕ) (c : ItemIter) → Tour → List ℕ → Type 0
@@ -880,6 +870,10 @@ stream-report-new r = r ≡ totalsOf fresh
 abbrev pub stream-report-add : (totals : Totals) (table : List ℕ) (s : List ℕ) → ReportAnswer → List ℕ → Type 0
 stream-report-add totals table s r table′ = Reports table (addOf (reportIn totals table) s) r table′
 
+-- stream_view::view_answer
+abbrev pub stream-view-view-answer : (tpi : List ℕ) (ipi : List ℕ) (entry : Entry) → ViewAnswer → Type 0
+stream-view-view-answer tpi ipi entry r = saidView r ≡ viewOf tpi ipi entry
+
 -- stream_view::bytes_of
 abbrev pub stream-view-bytes-of : (tpi : List ℕ) (ipi : List ℕ) (entry : Entry) → List ℕ → Type 0
 stream-view-bytes-of tpi ipi entry r = r ≡ viewBytes tpi ipi entry
@@ -887,10 +881,6 @@ stream-view-bytes-of tpi ipi entry r = r ≡ viewBytes tpi ipi entry
 -- stream_view::view
 abbrev pub stream-view-view : (tpi : List ℕ) (ipi : List ℕ) (entry : Entry) → EntryView → Type 0
 stream-view-view tpi ipi entry r = (saidView (r .answer) ≡ viewOf tpi ipi entry) × (now (r .bytes) ≡ viewBytes tpi ipi entry)
-
--- stream_view::why
-abbrev pub stream-view-why : (tpi : List ℕ) (ipi : List ℕ) (entry : Entry) → ViewAnswer → Type 0
-stream-view-why tpi ipi entry r = saidView r ≡ viewOf tpi ipi entry
 
 -- stream_view::raw_kind
 abbrev pub stream-view-raw-kind : (tpi : List ℕ) (ipi : List ℕ) (entry : Entry) → RawKindAnswer → Type 0
@@ -1042,7 +1032,7 @@ word-attributes-pointer-attributes-is-reference self r = saidFlag r ≡ referenc
 
 -- word_attributes::PointerAttributes::size
 abbrev pub word-attributes-pointer-attributes-size : (self : PointerAttributes) → SizeAnswer → Type 0
-word-attributes-pointer-attributes-size self r = saidSize-of-word-attributes r ≡ sizeOf (self .0)
+word-attributes-pointer-attributes-size self r = saidPointerSize r ≡ sizeOf (self .0)
 
 -- word_attributes::PointerAttributes::is_mocom
 abbrev pub word-attributes-pointer-attributes-is-mocom : (self : PointerAttributes) → Bool → Type 0
@@ -1060,37 +1050,9 @@ write-cells-write-type text leaf row out at r out′ = Writes out (lay (writeRec
 abbrev pub write-cells-write-id : (text : List ℕ) (leaf : ℕ) (row : List ℕ) (out : List ℕ) (at : ℕ) → WriteAnswer → List ℕ → Type 0
 write-cells-write-id text leaf row out at r out′ = Writes out (lay (writeRecord idLeaves (givenAll text (cellValues leaf row))) out at) (saidWrite r) out′
 
--- write_fit::half
-abbrev pub write-fit-half : (x : ℕ) → Piece-of-write-pieces → Type 0
-write-fit-half x r = (r ≡ halfPiece x) × ((t : List ℕ) → pieceOf t r ≡ fixedBytes 2 x)
-
--- write_fit::word
-abbrev pub write-fit-word : (x : ℕ) → Piece-of-write-pieces → Type 0
-write-fit-word x r = (r ≡ wordPiece x) × ((t : List ℕ) → pieceOf t r ≡ fixedBytes 4 x)
-
--- write_fit::natural
-abbrev pub write-fit-natural : (n : ℕ) → Piece-of-write-pieces → Type 0
-write-fit-natural n r = (r ≡ naturalPiece n) × ((t : List ℕ) → pieceOf t r ≡ numericBytes (pos n))
-
--- write_fit::text
-abbrev pub write-fit-text : (s : RawString) → Piece-of-write-pieces → Type 0
-write-fit-text s r = (r ≡ textPiece (part s)) × ((t : List ℕ) (w : ℕ) → pieceOf t r ≡ writeField S w (ofPart t (part s)))
-
--- write_fit::gap
-abbrev pub write-fit-gap : Piece-of-write-pieces → Type 0
-write-fit-gap r = (r ≡ halfPiece 0) × ((t : List ℕ) → pieceOf t r ≡ answered (bytes-of-field 2 0))
-
--- write_fit::types
-abbrev pub write-fit-types : (place : ℕ) (n : ℕ) → Piece-of-write-pieces → Type 0
-write-fit-types place n r = (r ≡ runPiece place (4 * n)) × ((t : List ℕ) → pieceOf t r ≡ writeField (run types) n (ofRun t place (4 * n)))
-
 -- write_header::write_header
 abbrev pub write-header-write-header : (h : Header) (out : List ℕ) (at : ℕ) → WriteAnswer → List ℕ → Type 0
 write-header-write-header h out at r out′ = Writes out (lay (headerBytes h) out at) (saidWrite r) out′
-
--- write_id::write_id
-abbrev pub write-id-write-id : (text : List ℕ) (d : IdData) (out : List ℕ) (at : ℕ) → WriteAnswer → List ℕ → Type 0
-write-id-write-id text d out at r out′ = Writes out (lay (writeRecord idLeaves (givenAll text (idValues d))) out at) (saidWrite r) out′
 
 -- write_list::write_field_list
 abbrev pub write-list-write-field-list : (text : List ℕ) (rows : List (List ℕ)) (out : List ℕ) (at : ℕ) → WriteAnswer → List ℕ → Type 0
@@ -1100,9 +1062,17 @@ write-list-write-field-list text rows out at r out′ = Writes out (lay (fieldLi
 abbrev pub write-list-write-method-list : (text : List ℕ) (rows : List (List ℕ)) (out : List ℕ) (at : ℕ) → WriteAnswer → List ℕ → Type 0
 write-list-write-method-list text rows out at r out′ = Writes out (lay (methodListBytes (methodRows text rows)) out at) (saidWrite r) out′
 
--- write_pieces::held_sum
-abbrev pub write-pieces-held-sum : (n : ℕ) (k : ℕ) → ℕ → Type 0
-write-pieces-held-sum n k r = r ≡ min (n + k) 65536
+-- write_list::rows::of_member
+abbrev pub write-list-rows-of-member : (m : Member) → List ℕ → Type 0
+write-list-rows-of-member m r = r ≡ rowOfMember m
+
+-- write_list::rows::of_method
+abbrev pub write-list-rows-of-method : (m : MethodListEntry) → List ℕ → Type 0
+write-list-rows-of-method m r = r ≡ rowOfMethod m
+
+-- write_pieces::capped_sum
+abbrev pub write-pieces-capped-sum : (n : ℕ) (k : ℕ) → ℕ → Type 0
+write-pieces-capped-sum n k r = r ≡ min (n + k) 65536
 
 -- write_pieces::measured
 abbrev pub write-pieces-measured : (text : List ℕ) (xs : List Piece-of-write-pieces) → Measure → Type 0
@@ -1116,18 +1086,14 @@ write-pieces-write-plain text xs out at r out′ = Writes out (lay (limited (pie
 abbrev pub write-pieces-write-filled : (text : List ℕ) (xs : List Piece-of-write-pieces) (out : List ℕ) (at : ℕ) → WriteAnswer → List ℕ → Type 0
 write-pieces-write-filled text xs out at r out′ = Writes out (lay (limited (filledEach (piecesOf text xs))) out at) (saidWrite r) out′
 
--- write_pieces::write_record
-abbrev pub write-pieces-write-record : (text : List ℕ) (xs : List Piece-of-write-pieces) (out : List ℕ) (at : ℕ) → WriteAnswer → List ℕ → Type 0
-write-pieces-write-record text xs out at r out′ = Writes out (lay (recordBytes (piecesOf text xs)) out at) (saidWrite r) out′
+-- write_pieces::fields::two_bytes
+abbrev pub write-pieces-fields-two-bytes : (x : ℕ) → Piece-of-write-pieces → Type 0
+write-pieces-fields-two-bytes x r = (r ≡ halfPiece x) × ((t : List ℕ) → pieceOf t r ≡ fixedBytes 2 x)
 
--- write_row::of_member
-abbrev pub write-row-of-member : (m : Member) → List ℕ → Type 0
-write-row-of-member m r = r ≡ memberRow-of-write-row m
+-- write_pieces::fields::natural
+abbrev pub write-pieces-fields-natural : (n : ℕ) → Piece-of-write-pieces → Type 0
+write-pieces-fields-natural n r = (r ≡ naturalPiece n) × ((t : List ℕ) → pieceOf t r ≡ numericBytes (pos n))
 
--- write_row::of_method
-abbrev pub write-row-of-method : (m : MethodListEntry) → List ℕ → Type 0
-write-row-of-method m r = r ≡ methodRow-of-write-row m
-
--- write_type::write_type
-abbrev pub write-type-write-type : (text : List ℕ) (d : TypeData) (out : List ℕ) (at : ℕ) → WriteAnswer → List ℕ → Type 0
-write-type-write-type text d out at r out′ = Writes out (lay (writeRecord writtenLeaves (givenAll text (typeValues d))) out at) (saidWrite r) out′
+-- write_pieces::fields::unnamed
+abbrev pub write-pieces-fields-unnamed : Piece-of-write-pieces → Type 0
+write-pieces-fields-unnamed r = (r ≡ halfPiece 0) × ((t : List ℕ) → pieceOf t r ≡ answered (bytes-of-field 2 0))

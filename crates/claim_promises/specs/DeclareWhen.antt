@@ -24,17 +24,17 @@ use Rattle.declare_node.specs.Nodes.{nodeOf, listOf, indexAt}
 use Rattle.declare_node.specs.declared.Node.{Node}
 use Rattle.declare_node.specs.declared.Node.the-variants as node
 use Rattle.declare_node.specs.declared.Arguments.the-variants as arguments
-use Rattle.declare_walk.specs.Walk.{Walked, printed, stopped, declarationOf}
+use Rattle.declare_walk.specs.Walk.{Spelled, printed, stopped, declarationOf}
 use Rattle.declare_type.specs.Declares.{declareOf}
 use Rattle.claim_promises.specs.Given.{Given}
 
 -- how many bytes the walk with no limit on room has fixed when it ends, with a text or by a refusal
-abbrev pub fixedBy : Walked → ℕ
+abbrev pub fixedBy : Spelled → ℕ
 fixedBy (printed l r) = length (l ++ r)
 fixedBy (stopped k e) = k
 
 -- what that walk answers
-abbrev pub unlimited : Walked → Answer (List ℕ)
+abbrev pub unlimited : Spelled → Answer (List ℕ)
 unlimited (printed l r) = answered (l ++ r)
 unlimited (stopped k e) = no e
 
@@ -94,11 +94,11 @@ pub record Meets (s : List ℕ) (σ : State) (d i : ℕ) (e : Refusal) : Type 0 
   pub path : TypeVisits s σ d i left at
   pub fault : Fault s σ left at e
 
-abbrev pub StopsBy : Refusal → Walked → Type 0
+abbrev pub StopsBy : Refusal → Spelled → Type 0
 StopsBy e (printed l r) = ⊥
 StopsBy e (stopped k x) = x ≡ e
 
-abbrev pub IsPrinted : Walked → Type 0
+abbrev pub IsPrinted : Spelled → Type 0
 IsPrinted (printed l r) = Unit
 IsPrinted (stopped k x) = ⊥
 

@@ -45,7 +45,7 @@ use Rattle.stream_places.specs.File.{trailerOf, trailerOfEither}
 use Rattle.stream_places.specs.Places.{loadOf, loadWideOf, saveOf, saveWideOf, saidSave, Saves}
 use Rattle.stream_places.specs.declared.SaveAnswer.{SaveAnswer}
 use Rattle.field_put.specs.Bytes.{put, Octets}
-use Rattle.stream_prune.specs.Links.{Walked}
+use Rattle.stream_prune.specs.Links.{ComesPast}
 use Rattle.stream_drop.specs.Drop.{dropOf, answerOf, saidDrop, Drops}
 use Rattle.stream_drop.specs.Sentences.{OldToNew}
 use Rattle.stream_drop.specs.declared.DropAnswer.{DropAnswer}
@@ -90,7 +90,7 @@ OneOf ns e = among (numberOf e) ns ≡ true
 pub record HoldsOldToNew (s roots t t′ : List ℕ) : Type 0 where
   pub entries : List ℕ
   pub table : t′ ≡ put t 0 entries
-  pub old-to-new : (h : Header) (c : ItemIter) (ps : List (List ℕ)) → Octets s → headerOf s ≡ answered h → iterOf stream.Types s ≡ answered c → Walked s c ps → OldToNew roots h ps entries
+  pub old-to-new : (h : Header) (c : ItemIter) (ps : List (List ℕ)) → Octets s → headerOf s ≡ answered h → iterOf stream.Types s ≡ answered c → ComesPast s c ps → OldToNew roots h ps entries
 
 pub record Demand1 : Type 0 where
   -- "Numbers a caller gets back": every case of the enum `Refusal`, which is all that a refused answer holds, is a line of the table
@@ -151,7 +151,7 @@ pub record Demand1 : Type 0 where
   -- each is one of these is all there is to say: every refusal is a line of the table, by `table`
   pub nodes : (s : List ℕ) (σ : State) (i : ℕ) (e : Refusal) → nodeOf s σ i ≡ node.Refused e → OneOf (16 ∷ 26 ∷ 13 ∷ 8 ∷ 9 ∷ 1 ∷ 11 ∷ 12 ∷ 24 ∷ []) e
   pub argument-lists : (s : List ℕ) (σ : State) (i : ℕ) (e : Refusal) → listOf s σ i ≡ arguments.Refused e → OneOf (16 ∷ 26 ∷ 13 ∷ 8 ∷ 9 ∷ 1 ∷ 11 ∷ 12 ∷ 24 ∷ []) e
-  pub declaration-steps : (s : List ℕ) (σ : State) (i : ℕ) (a : Around) (e : Refusal) → declare.stepOf s σ i a ≡ step.Refused e
+  pub declaration-steps : (s : List ℕ) (σ : State) (i : ℕ) (a : Around) (e : Refusal) → declare.inwardStep s σ i a ≡ step.Refused e
       → OneOf (16 ∷ 26 ∷ 13 ∷ 8 ∷ 9 ∷ 1 ∷ 11 ∷ 12 ∷ 24 ∷ []) e
   pub declaration-walks : (s : List ℕ) (σ : State) (left i : ℕ) (a : Around) (k : ℕ) (e : Refusal) → declaring.walk s σ left i a ≡ stopped k e
       → OneOf (16 ∷ 26 ∷ 13 ∷ 8 ∷ 9 ∷ 1 ∷ 11 ∷ 12 ∷ 23 ∷ 24 ∷ []) e

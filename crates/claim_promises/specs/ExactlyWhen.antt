@@ -13,7 +13,7 @@ use lib.ListN.{length, getD}
 use Rattle.answer.specs.Answer.{Answer, answered, refused, pick, Read, got}
 use Rattle.answer.specs.Tables.{find, among}
 use Rattle.field.specs.Fields.{littleAt, fixedAt, signedAt}
-use Rattle.field.specs.Indices.{optionalAt, numberIn}
+use Rattle.field.specs.Indices.{optionalAt, indexNumber}
 use Rattle.field.specs.Runs.{bytesAfter}
 use Rattle.field_text.specs.Texts.{stringAt, countedStringAt, more, paddingAfter}
 use Rattle.field_number.specs.Numbers.{prefixes, numericAt}
@@ -36,7 +36,7 @@ use Rattle.stream_item.specs.declared.Entry.the-variants as entry
 use Rattle.stream_item.specs.declared.iter.ItemIter.{ItemIter}
 use Rattle.stream_item.specs.declared.link.Hit.{Hit}
 use Rattle.stream_item.specs.declared.link.Hit.the-variants.{Landed, Missed}
-use Rattle.stream_view.specs.Views.{named, viewOf, rawKindOf}
+use Rattle.stream_view.specs.Views.{streamNamed, viewOf, rawKindOf}
 use Rattle.stream_finder.specs.Finder.{State, blockOf, createBy, updateOf, maxIndexOf, findOf}
 use Rattle.stream_index.specs.Walk.{turnOf}
 use Rattle.record_layout.specs.Fields.{Field, wordAfter, readField, readFields, Shown}
@@ -133,12 +133,12 @@ pub record ExactlyWhen : Type 0 where
       ⊎ ((c .at < length s) × (length s < c .at + 2))
       ⊎ ((c .at + 2 ≤ length s) × (2 ≤ lengthAt s c) × (length s < c .at + 2 + lengthAt s c))))
   -- an item
-  pub views-1 : (t p : List ℕ) (i : Item) → Given 1 [] (viewOf t p (entry.Record i)) (Short t p × (length (named t p (i .index)) < i .place + i .length))
+  pub views-1 : (t p : List ℕ) (i : Item) → Given 1 [] (viewOf t p (entry.Record i)) (Short t p × (length (streamNamed t p (i .index)) < i .place + i .length))
   pub raw-kinds-1 : (t p : List ℕ) (i : Item) → Given 1 [] (rawKindOf t p (entry.Record i))
-      (Short t p × ((length (named t p (i .index)) < i .place + i .length) ⊎ (i .length < 2)))
+      (Short t p × ((length (streamNamed t p (i .index)) < i .place + i .length) ⊎ (i .length < 2)))
   -- from `find`, with the links passed
-  pub finds-1 : (s : List ℕ) (σ : State) (i : ItemIndex) → Given 1 (brokeAfter (walked s σ (numberIn i)) ∷ []) (findOf s σ i)
-      (Usable s σ × InBounds σ (numberIn i) × (block σ (numberIn i) < σ .finder .held) × LinkBreaks (walked s σ (numberIn i)))
+  pub finds-1 : (s : List ℕ) (σ : State) (i : ItemIndex) → Given 1 (brokeAfter (walked s σ (indexNumber i)) ∷ []) (findOf s σ i)
+      (Usable s σ × InBounds σ (indexNumber i) × (block σ (indexNumber i) < σ .finder .held) × LinkBreaks (walked s σ (indexNumber i)))
   -- 2, header small; 3, header large; 4, minimum low; 5, maximum low
   pub headers-2 : (s : List ℕ) → Given 2 [] (headerOf s) ((56 ≤ length s) × (length s ≤ longest) × (fieldsOf s .«header_size» < 56))
   pub headers-3 : (s : List ℕ) → Given 3 [] (headerOf s) ((56 ≤ length s) × (length s ≤ longest) × (1024 < fieldsOf s .«header_size»))
@@ -159,13 +159,13 @@ pub record ExactlyWhen : Type 0 where
   pub nexts-7 : (s : List ℕ) (c : ItemIter) → Given 7 [] (nextOf s c)
       ((length s ≤ longest) × (2 ≤ lengthAt s c) × (c .at + 2 + lengthAt s c ≤ length s) × (4294967295 ≤ c .index))
   -- 8, not found, with the index: "lookup above maximum_index; unknown primitive; the marker's view"
-  pub finds-8 : (s : List ℕ) (σ : State) (i : ItemIndex) → Given 8 (numberIn i ∷ []) (findOf s σ i)
-      (Usable s σ × (σ .finder .«minimum_index» ≤ numberIn i) × (σ .finder .«maximum_index» < numberIn i))
+  pub finds-8 : (s : List ℕ) (σ : State) (i : ItemIndex) → Given 8 (indexNumber i ∷ []) (findOf s σ i)
+      (Usable s σ × (σ .finder .«minimum_index» ≤ indexNumber i) × (σ .finder .«maximum_index» < indexNumber i))
   pub primitives-8 : (i : ℕ) → Given 8 (i ∷ []) (primitiveOf i) ((0x1000 ≤ i) ⊎ (8 ≤ i / 2 ^ 8 % 2 ^ 4) ⊎ (find (i % 2 ^ 8) kinds ≡ none))
-  pub views-8 : (t p : List ℕ) (i : ItemIndex) → Given 8 (numberIn i ∷ []) (viewOf t p (entry.Marker i)) (Short t p)
+  pub views-8 : (t p : List ℕ) (i : ItemIndex) → Given 8 (indexNumber i ∷ []) (viewOf t p (entry.Marker i)) (Short t p)
   -- 9, not indexed, with the index and the highest indexed: its block is no held place
-  pub finds-9 : (s : List ℕ) (σ : State) (i : ItemIndex) → Given 9 (numberIn i ∷ maxIndexOf (σ .finder) ∷ []) (findOf s σ i)
-      (Usable s σ × InBounds σ (numberIn i) × (σ .finder .held ≤ block σ (numberIn i)))
+  pub finds-9 : (s : List ℕ) (σ : State) (i : ItemIndex) → Given 9 (indexNumber i ∷ maxIndexOf (σ .finder) ∷ []) (findOf s σ i)
+      (Usable s σ × InBounds σ (indexNumber i) × (σ .finder .held ≤ block σ (indexNumber i)))
   -- 10, leaf unknown, with the leaf: "leaf not among those this reader takes", of a record by any table, of a member, of a list
   pub records-10 : (table : Table) (s : List ℕ) → Given 10 (littleAt 2 s 0 ∷ []) (recordOf table s) ((2 ≤ length s) × (find (littleAt 2 s 0) table ≡ none))
   pub members-10 : (table : Table) (s : List ℕ) (p : ℕ) → Given 10 (littleAt 2 s p ∷ []) (readRecord table s p) ((p + 2 ≤ length s) × (find (littleAt 2 s p) table ≡ none))

@@ -17,7 +17,7 @@ use Rattle.word_attributes.specs.declared.PointerMode.{PointerMode}
 use Rattle.word_attributes.specs.declared.PointerMode.the-variants.{Pointer}
 use Rattle.stream_header.specs.Header.{headerOf}
 use Rattle.stream_header.specs.Examples.{four, headerE, streamE}
-use Rattle.field.specs.Indices.{indexIn, numberIn}
+use Rattle.field.specs.Indices.{indexIn, indexNumber}
 use Rattle.stream_item.specs.Iterator.{iterOf, Next, done, yielded, nextOf}
 use Rattle.field.specs.declared.index.Stream.the-variants.{Types}
 use Rattle.stream_item.specs.declared.Entry.{Entry}
@@ -61,11 +61,11 @@ stepped (suc k) s = then (stepped k s) (stepAgain s)
 
 abbrev nextShown : Next → ExampleShown
 nextShown done = over
-nextShown (yielded i c) = item (numberIn (i .index)) (i .place) (i .place + i .length)
+nextShown (yielded i c) = item (indexNumber (i .index)) (i .place) (i .place + i .length)
 
 abbrev entryShown : Entry → ℕ → ExampleShown
 entryShown (entry.Record i) k = found (i .place) (i .place + i .length) k
-entryShown (entry.Marker i) k = marker (numberIn i)
+entryShown (entry.Marker i) k = marker (indexNumber i)
 
 abbrev pub exampleOutcome : Asked → Answer ExampleShown
 exampleOutcome (step k s) = then (stepped k s) (λ x. answered (nextShown x))

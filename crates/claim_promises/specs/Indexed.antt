@@ -18,7 +18,7 @@ use Rattle.stream_finder.specs.Shared.{Serves}
 use Rattle.stream_index.specs.Walk.{IndexesBy}
 use Rattle.stream_index.specs.declared.Tour.{Tour}
 use Rattle.stream_index.specs.declared.IndexAnswer.the-variants as walk
-use Rattle.stream_places.specs.Places.{loadOf, loadWideOf, saveOf, saveWideOf, bufferAfter}
+use Rattle.stream_places.specs.Places.{loadOf, loadWideOf, saveOf, saveWideOf, fileBufferAfter}
 
 -- the records that a tour has walked: as many as its cursor is above the minimum
 abbrev pub walkedBy : Header → Tour → ℕ
@@ -28,7 +28,7 @@ walkedBy h r = r .cursor .index - h .«minimum_index»
 abbrev pub KeptBy : (List ℕ → State → ℕ → Answer (List ℕ)) → (List ℕ → List ℕ → List ℕ → Answer State) → Stream → List ℕ → Header → State → Type 0
 KeptBy save load tag s h σ =
     (o u f : List ℕ) → Octets s → save s σ (length o) ≡ answered f → σ .finder .held ≤ length u
-    → (τ : State) × (load s (take (length f) (bufferAfter o (save s σ (length o)))) u ≡ answered τ) × (τ .finder ≡ σ .finder)
+    → (τ : State) × (load s (take (length f) (fileBufferAfter o (save s σ (length o)))) u ≡ answered τ) × (τ .finder ≡ σ .finder)
     × ((d : ℕ) → h .«minimum_index» + d ≤ h .«maximum_index» → findOf s τ (indexIn tag (h .«minimum_index» + d)) ≡ findOf s σ (indexIn tag (h .«minimum_index» + d)))
 
 -- of the tour r and the table t′ that indexing an accepted stream has left

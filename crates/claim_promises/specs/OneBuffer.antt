@@ -16,7 +16,7 @@ use Rattle.write_layout.specs.Records.{writeRecord}
 use Rattle.write_layout.specs.Lists.{fieldListBytes, methodListBytes}
 use Rattle.write_layout.specs.Buffer.{Written, lay}
 use Rattle.write_header.specs.Headers.{headerBytes, Narrow}
-use Rattle.write_header.specs.Streams.{inOrder, payloadOf, start, Walks}
+use Rattle.write_header.specs.Streams.{inOrder, behindLength, start, HasPayloads}
 
 -- one write after the other: the buffer and the place behind the last, or the first refusal
 unfoldable pub laidAll : List Encoded → List ℕ → ℕ → Answer Written
@@ -44,7 +44,7 @@ pub record InOneBuffer (h : Header) (bs : List Encoded) (o : List ℕ) (w : Writ
   pub rest : drop (w .next) (w .buffer) ≡ drop (w .next) o
   -- which walks to done, with the records' payloads as its items
   pub walks : (tag : Stream) → Narrow h → AllWriting bs → w .next ≤ longest → h .«minimum_index» + length bs ≤ 4294967295
-      → (iterOf tag (take (w .next) (w .buffer)) ≡ answered (start tag h)) × Walks (take (w .next) (w .buffer)) (start tag h) (map payloadOf records)
+      → (iterOf tag (take (w .next) (w .buffer)) ≡ answered (start tag h)) × HasPayloads (take (w .next) (w .buffer)) (start tag h) (map behindLength records)
 
 unfoldable pub OneBuffer : Type 0
 OneBuffer = (h : Header) (bs : List Encoded) (o : List ℕ) (w : Written) → laidAll (headerBytes h ∷ bs) o 0 ≡ answered w → InOneBuffer h bs o w

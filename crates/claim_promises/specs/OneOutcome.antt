@@ -61,9 +61,6 @@ pub record OneOutcome : Type 1 where
   pub answer-refusal-details : (self : Refusal) → Once (contract.answer-refusal-details self)
   -- answer_name
   pub answer-name-name-of : (e : Refusal) → Once (contract.answer-name-name-of e)
-  -- declare_kind
-  pub declare-kind-kind : (k : PrimitiveKind) → Once (contract.declare-kind-kind k)
-  pub declare-kind-size : (k : PrimitiveKind) (by : Indirection) → Once (contract.declare-kind-size k by)
   -- declare_node
   pub declare-node-node-of : (s : List ℕ) (f : ItemFinder) (t : List ℕ) (i : TypeIndex) → Once (contract.declare-node-node-of s f t i)
   pub declare-node-list-of : (s : List ℕ) (f : ItemFinder) (t : List ℕ) (i : TypeIndex) → Once (contract.declare-node-list-of s f t i)
@@ -77,11 +74,13 @@ pub record OneOutcome : Type 1 where
   -- declare_type
   pub declare-type-declare : (s : List ℕ) (f : ItemFinder) (t : List ℕ) (i : TypeIndex) (out : List ℕ) → OnceLent (contract.declare-type-declare s f t i out)
   -- declare_walk
-  pub declare-walk-declarator : (s : List ℕ) (f : ItemFinder) (t : List ℕ) (i : TypeIndex) (d : ℕ) (a : Around) (room : ℕ) → Once (contract.declare-walk-declarator s f t i d a room)
+  pub declare-walk-measure-declarator : (s : List ℕ) (f : ItemFinder) (t : List ℕ) (i : TypeIndex) (d : ℕ) (a : Around) (room : ℕ) → Once (contract.declare-walk-measure-declarator s f t i d a room)
   -- declare_word
-  pub declare-word-by : (y : Indirection) → Once (contract.declare-word-by y)
+  pub declare-word-indirection : (y : Indirection) → Once (contract.declare-word-indirection y)
   pub declare-word-mode : (m : ℕ) → Once (contract.declare-word-mode m)
   pub declare-word-qualifiers : (q : Quals) → Once (contract.declare-word-qualifiers q)
+  pub declare-word-kind-spelled : (k : PrimitiveKind) → Once (contract.declare-word-kind-spelled k)
+  pub declare-word-kind-size : (k : PrimitiveKind) (by : Indirection) → Once (contract.declare-word-kind-size k by)
   -- field
   pub field-fixed-u8-at : (s : List ℕ) (p : ℕ) → Once (contract.field-fixed-u8-at s p)
   pub field-fixed-u16-at : (s : List ℕ) (p : ℕ) → Once (contract.field-fixed-u16-at s p)
@@ -214,7 +213,6 @@ pub record OneOutcome : Type 1 where
   pub record-reader-list-reader-new : (bytes : RefT (List ℕ)) (cursor : ListCursor) → Once (contract.record-reader-list-reader-new bytes cursor)
   pub record-reader-list-reader-element : (self : ListReader) (k : ℕ) → Once (contract.record-reader-list-reader-element self k)
   pub record-reader-list-reader-step : (self : ListReader) → OnceLent (contract.record-reader-list-reader-step self)
-  pub record-reader-step-of : (bytes : List ℕ) (cursor : ListCursor) → Once (contract.record-reader-step-of bytes cursor)
   pub record-reader-nth : (stream : Stream) (s : List ℕ) (k : ℕ) → Once (contract.record-reader-nth stream s k)
   -- record_reference
   pub record-reference-record-references : (d : TypeData) → Once (contract.record-reference-record-references d)
@@ -244,14 +242,13 @@ pub record OneOutcome : Type 1 where
   pub stream-finder-find-type : (s : List ℕ) (f : ItemFinder) (t : List ℕ) (i : TypeIndex) → Once (contract.stream-finder-find-type s f t i)
   pub stream-finder-find-id : (s : List ℕ) (f : ItemFinder) (t : List ℕ) (i : IdIndex) → Once (contract.stream-finder-find-id s f t i)
   pub stream-finder-lent-item-finder-update : (self : ItemFinder) (t : List ℕ) (c : ItemIter) → OnceLentTwo (contract.stream-finder-lent-item-finder-update self t c)
-  pub stream-finder-lent-update-local : (f : ItemFinder) (t : List ℕ) (c : ItemIter) → OnceLent (contract.stream-finder-lent-update-local f t c)
   -- stream_fit
   pub stream-fit-fit : (s : List ℕ) → Once (contract.stream-fit-fit s)
   -- stream_header
   pub stream-header-header-parse : (s : List ℕ) → Once (contract.stream-header-header-parse s)
   pub stream-header-header-count : (self : Header) → Once (contract.stream-header-header-count self)
   -- stream_index
-  pub stream-index-turn : (s : List ℕ) (f : ItemFinder) (t : List ℕ) (c : ItemIter) → OnceLent (contract.stream-index-turn s f t c)
+  pub stream-index-next-and-update : (s : List ℕ) (f : ItemFinder) (t : List ℕ) (c : ItemIter) → OnceLent (contract.stream-index-next-and-update s f t c)
   pub stream-index-index-on : (s : List ℕ) (f : ItemFinder) (t : List ℕ) (c : ItemIter) → OnceLent (contract.stream-index-index-on s f t c)
   pub stream-index-index-all : (stream : Stream) (s : List ℕ) (t : List ℕ) → OnceLent (contract.stream-index-index-all stream s t)
   pub stream-index-index-all-by : (stream : Stream) (s : List ℕ) (t : List ℕ) (shift : ℕ) → OnceLent (contract.stream-index-index-all-by stream s t shift)
@@ -275,9 +272,9 @@ pub record OneOutcome : Type 1 where
   pub stream-report-new : Once (contract.stream-report-new)
   pub stream-report-add : (totals : Totals) (table : List ℕ) (s : List ℕ) → OnceLent (contract.stream-report-add totals table s)
   -- stream_view
+  pub stream-view-view-answer : (tpi : List ℕ) (ipi : List ℕ) (entry : Entry) → Once (contract.stream-view-view-answer tpi ipi entry)
   pub stream-view-bytes-of : (tpi : List ℕ) (ipi : List ℕ) (entry : Entry) → Once (contract.stream-view-bytes-of tpi ipi entry)
   pub stream-view-view : (tpi : List ℕ) (ipi : List ℕ) (entry : Entry) (r q : EntryView) → contract.stream-view-view tpi ipi entry r → contract.stream-view-view tpi ipi entry q → (now (r .bytes) ≡ now (q .bytes)) × (r .answer ≡ q .answer)
-  pub stream-view-why : (tpi : List ℕ) (ipi : List ℕ) (entry : Entry) → Once (contract.stream-view-why tpi ipi entry)
   pub stream-view-raw-kind : (tpi : List ℕ) (ipi : List ℕ) (entry : Entry) → Once (contract.stream-view-raw-kind tpi ipi entry)
   -- word_attributes
   pub word-attributes-type-properties-packed : (self : TypeProperties) → Once (contract.word-attributes-type-properties-packed self)
@@ -323,28 +320,18 @@ pub record OneOutcome : Type 1 where
   -- write_cells
   pub write-cells-write-type : (text : List ℕ) (leaf : ℕ) (row : List ℕ) (out : List ℕ) (at : ℕ) → OnceLent (contract.write-cells-write-type text leaf row out at)
   pub write-cells-write-id : (text : List ℕ) (leaf : ℕ) (row : List ℕ) (out : List ℕ) (at : ℕ) → OnceLent (contract.write-cells-write-id text leaf row out at)
-  -- write_fit
-  pub write-fit-half : (x : ℕ) → Once (contract.write-fit-half x)
-  pub write-fit-word : (x : ℕ) → Once (contract.write-fit-word x)
-  pub write-fit-natural : (n : ℕ) → Once (contract.write-fit-natural n)
-  pub write-fit-text : (s : RawString) → Once (contract.write-fit-text s)
-  pub write-fit-gap : Once (contract.write-fit-gap)
-  pub write-fit-types : (place : ℕ) (n : ℕ) → Once (contract.write-fit-types place n)
   -- write_header
   pub write-header-write-header : (h : Header) (out : List ℕ) (at : ℕ) → OnceLent (contract.write-header-write-header h out at)
-  -- write_id
-  pub write-id-write-id : (text : List ℕ) (d : IdData) (out : List ℕ) (at : ℕ) → OnceLent (contract.write-id-write-id text d out at)
   -- write_list
   pub write-list-write-field-list : (text : List ℕ) (rows : List (List ℕ)) (out : List ℕ) (at : ℕ) → OnceLent (contract.write-list-write-field-list text rows out at)
   pub write-list-write-method-list : (text : List ℕ) (rows : List (List ℕ)) (out : List ℕ) (at : ℕ) → OnceLent (contract.write-list-write-method-list text rows out at)
+  pub write-list-rows-of-member : (m : Member) → Once (contract.write-list-rows-of-member m)
+  pub write-list-rows-of-method : (m : MethodListEntry) → Once (contract.write-list-rows-of-method m)
   -- write_pieces
-  pub write-pieces-held-sum : (n : ℕ) (k : ℕ) → Once (contract.write-pieces-held-sum n k)
+  pub write-pieces-capped-sum : (n : ℕ) (k : ℕ) → Once (contract.write-pieces-capped-sum n k)
   pub write-pieces-measured : (text : List ℕ) (xs : List Piece-of-write-pieces) → Once (contract.write-pieces-measured text xs)
   pub write-pieces-write-plain : (text : List ℕ) (xs : List Piece-of-write-pieces) (out : List ℕ) (at : ℕ) → OnceLent (contract.write-pieces-write-plain text xs out at)
   pub write-pieces-write-filled : (text : List ℕ) (xs : List Piece-of-write-pieces) (out : List ℕ) (at : ℕ) → OnceLent (contract.write-pieces-write-filled text xs out at)
-  pub write-pieces-write-record : (text : List ℕ) (xs : List Piece-of-write-pieces) (out : List ℕ) (at : ℕ) → OnceLent (contract.write-pieces-write-record text xs out at)
-  -- write_row
-  pub write-row-of-member : (m : Member) → Once (contract.write-row-of-member m)
-  pub write-row-of-method : (m : MethodListEntry) → Once (contract.write-row-of-method m)
-  -- write_type
-  pub write-type-write-type : (text : List ℕ) (d : TypeData) (out : List ℕ) (at : ℕ) → OnceLent (contract.write-type-write-type text d out at)
+  pub write-pieces-fields-two-bytes : (x : ℕ) → Once (contract.write-pieces-fields-two-bytes x)
+  pub write-pieces-fields-natural : (n : ℕ) → Once (contract.write-pieces-fields-natural n)
+  pub write-pieces-fields-unnamed : Once (contract.write-pieces-fields-unnamed)

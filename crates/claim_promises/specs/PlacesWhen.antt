@@ -7,14 +7,14 @@ use mathlib.Core.Path.{_≡_}
 use mathlib.Core.Logic.{_⊎_}
 use mathlib.Core.List.{List, [], _∷_}
 use lib.ListN.{length, getD}
-use Rattle.answer.specs.Answer.{answered, refused}
+use Rattle.answer.specs.Answer.{answered}
 use Rattle.field.specs.Fields.{littleAt}
 use Rattle.stream_header.specs.Header.{headerOf}
 use Rattle.stream_header.specs.declared.Header.{Header}
 use Rattle.stream_item.specs.Links.{chain, reached}
 use Rattle.field_put.specs.Bytes.{put}
 use Rattle.stream_finder.specs.Finder.{State, state, holding}
-use Rattle.stream_places.specs.File.{Form, trailerSize, wordsAt, trailerBy}
+use Rattle.stream_places.specs.File.{FileForm, trailerSize, wordsAt, trailerBy}
 use Rattle.stream_places.specs.Places.{fileOf, loadBy, saveBy}
 use Rattle.claim_promises.specs.ByTable.{Refuses}
 use Rattle.claim_promises.specs.Given.{Given, RefusedAs}
@@ -22,12 +22,12 @@ use Rattle.claim_promises.specs.Given.{Given, RefusedAs}
 -- ---- words of the conditions
 
 -- how many places the file says it has
-abbrev pub countIn : Form → List ℕ → ℕ
+abbrev pub countIn : FileForm → List ℕ → ℕ
 countIn form f = littleAt (form .width) f (length f - trailerSize form)
 
 -- a file that is right by itself: 28 or 30 bytes at least, the letters at its end, the zero byte, a shift of at most 6, twice its own length, and no
 -- fewer places than its form is for
-pub record Right (form : Form) (f : List ℕ) : Type 0 where
+pub record Right (form : FileForm) (f : List ℕ) : Type 0 where
   pub long : trailerSize form ≤ length f
   pub spelt : (i : ℕ) → i < length (form .letters) → getD f (length f - 4 + i) 0 ≡ getD (form .letters) i 0
   pub zero-byte : littleAt 1 f (length f - 25) ≡ 0
@@ -37,7 +37,7 @@ pub record Right (form : Form) (f : List ℕ) : Type 0 where
   pub many : form .least ≤ countIn form f
 
 -- and for a stream with the header h: it has a place if the stream counts a record
-pub record RightFor (form : Form) (f : List ℕ) (h : Header) : Type 0 where
+pub record RightFor (form : FileForm) (f : List ℕ) (h : Header) : Type 0 where
   pub right : Right form f
   pub some : h .«minimum_index» < h .«maximum_index» → 0 < countIn form f
 
@@ -49,7 +49,7 @@ pub record MadeFor (s f : List ℕ) (h : Header) : Type 0 where
   pub start : littleAt 4 f (length f - 12) ≡ h .«header_size»
 
 -- place 0 is header_size, and each later place is one block of links after its predecessor
-pub record Onward (form : Form) (s f : List ℕ) (h : Header) : Type 0 where
+pub record Onward (form : FileForm) (s f : List ℕ) (h : Header) : Type 0 where
   pub first : 0 < countIn form f → littleAt 4 f 0 ≡ h .«header_size»
   pub later : (k : ℕ) → suc k < countIn form f → chain s (littleAt 4 f (4 * k)) (2 ^ littleAt 1 f (length f - 26)) ≡ reached (littleAt 4 f (4 * suc k))
 
@@ -59,7 +59,7 @@ pub record Bounded (σ : State) (h : Header) : Type 0 where
   pub maximum : σ .finder .«maximum_index» ≡ h .«maximum_index»
 
 -- ---- when
-pub record PlacesWhen (form : Form) : Type 0 where
+pub record PlacesWhen (form : FileForm) : Type 0 where
   -- "the order is the stream's own, 20, 21, 13, 22": by the header's numbers both are refused exactly as the header is
   pub loads-own : (s f t : List ℕ) → RefusedAs (16 ∷ 1 ∷ 2 ∷ 3 ∷ 4 ∷ 5 ∷ []) (loadBy form s f t) (headerOf s)
   pub saves-own : (s : List ℕ) (σ : State) (room : ℕ) → RefusedAs (16 ∷ 1 ∷ 2 ∷ 3 ∷ 4 ∷ 5 ∷ []) (saveBy form s σ room) (headerOf s)

@@ -1,20 +1,19 @@
 -- "Given exactly when" of what reads a record: numbers, strings, fields of each kind, layouts, records by any table, lists and their elements.
 -- "Fields are read in order, the first refusal is given": a record is refused as that field of its layout is which is the first to be refused.
 -- `Given n d a P` (Given.antt): a is refused by n exactly when P, and then with the details d; where P is ⊥, it is never refused by n.
-use Prim.Native.Nat.{ℕ, suc, _+_, _*_, _≤_, _<_}
+use Prim.Native.Nat.{ℕ, _+_, _≤_, _<_}
 use mathlib.Core.Bool.{true, false}
 use mathlib.Core.Path.{_≡_}
 use mathlib.Core.Logic.{_⊎_}
 use mathlib.Core.List.{List, [], _∷_}
 use mathlib.Core.Option.{Option, none, some}
 use lib.ListN.{length}
-use Rattle.answer.specs.Answer.{Answer, answered, refused, pick, got}
-use Rattle.answer.specs.Tables.{find, among}
+use Rattle.answer.specs.Answer.{got}
+use Rattle.answer.specs.Tables.{find}
 use Rattle.field.specs.Fields.{littleAt}
-use Rattle.field_text.specs.Texts.{stringOf, paddingAfter}
+use Rattle.field_text.specs.Texts.{stringOf}
 use Rattle.field_number.specs.Numbers.{Wide, signed, unsigned, prefixes, numericAt}
 use Rattle.field_number.specs.Forms.{numeralAt, sizedAt}
-use Rattle.field.specs.declared.index.Stream.{Stream}
 use Rattle.field.specs.declared.index.Stream.the-variants as stream
 use Rattle.record_layout.specs.Fields.{Field, fixed, type, id, stringReference, optionalType, optionalId, word, gap, numeric, size, string, run, methods, members, when, runBytes, wordAfter, readField, readFields, Shown}
 use Rattle.record_layout.specs.Layouts.{Layout, Table, readRecord, recordOf}

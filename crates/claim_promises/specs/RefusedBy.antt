@@ -11,23 +11,19 @@ use Rattle.field.specs.declared.index.TypeIndex.{TypeIndex}
 use Rattle.field_number.specs.Forms.{saidSize as saidSize-of-field-number, saidVariant}
 use Rattle.field_text.specs.Texts.{saidString}
 use Rattle.record_data.specs.Said.{saidTypeData}
-use Rattle.record_data.specs.declared.TypeData.{TypeData}
 use Rattle.record_id.specs.Said.{saidIdData}
-use Rattle.record_id.specs.declared.IdData.{IdData}
 use Rattle.record_list.specs.Said.{saidElement, saidStart, saidStep}
 use Rattle.record_list.specs.declared.ElementAnswer.{ElementAnswer}
 use Rattle.record_list.specs.declared.ListCursor.{ListCursor}
 use Rattle.record_member.specs.Said.{saidEntry, saidMember}
 use Rattle.record_parse.specs.Record.{saidParse}
 use Rattle.record_reader.specs.declared.ListReader.{ListReader}
-use Rattle.record_reader.specs.declared.Stepped.{Stepped}
 use Rattle.stream_finder.specs.Finder.{saidFind, saidFinder}
 use Rattle.stream_finder.specs.Lent.{saidUpdate}
 use Rattle.stream_finder.specs.declared.FinderAnswer.{FinderAnswer}
 use Rattle.stream_finder.specs.declared.ItemFinder.{ItemFinder}
 use Rattle.stream_finder.specs.declared.Run.{Run}
 use Rattle.stream_finder.specs.declared.lent.UpdateAnswer.{UpdateAnswer}
-use Rattle.stream_finder.specs.declared.lent.UpdateStep.{UpdateStep}
 use Rattle.stream_header.specs.Header.{saidHeader}
 use Rattle.stream_header.specs.declared.Header.{Header}
 use Rattle.stream_index.specs.Walk.{saidTurn}
@@ -45,7 +41,7 @@ use Rattle.stream_report.specs.Report.{saidReport}
 use Rattle.stream_report.specs.declared.ReportAnswer.{ReportAnswer}
 use Rattle.stream_report.specs.declared.Totals.{Totals}
 use Rattle.stream_view.specs.Views.{saidRawKind, saidView}
-use Rattle.word_attributes.specs.Said.{saidFlag, saidKind, saidMode, saidSize as saidSize-of-word-attributes}
+use Rattle.word_attributes.specs.Said.{saidFlag, saidKind, saidMode, saidPointerSize as saidSize-of-word-attributes}
 use Rattle.word_attributes.specs.declared.PointerAttributes.{PointerAttributes}
 use Rattle.word_primitive.specs.Primitive.{saidPrimitive}
 use Rattle.write_pieces.specs.Pieces.{saidWrite}
@@ -103,7 +99,7 @@ pub record EachRefusedBy : Type 0 where
   pub stream-places-trailer-trailer-parse : (f : List ℕ) → RefusedBy (20 ∷ []) (contract.stream-places-trailer-trailer-parse f) saidTrailer
   pub stream-places-trailer-trailer-parse-wide : (f : List ℕ) → RefusedBy (20 ∷ []) (contract.stream-places-trailer-trailer-parse-wide f) saidTrailer
   pub stream-view-view : (tpi : List ℕ) (ipi : List ℕ) (entry : Entry) → RefusedBy (16 ∷ 1 ∷ 8 ∷ []) (contract.stream-view-view tpi ipi entry) (λ r. saidView (r .answer))
-  pub stream-view-why : (tpi : List ℕ) (ipi : List ℕ) (entry : Entry) → RefusedBy (16 ∷ 1 ∷ 8 ∷ []) (contract.stream-view-why tpi ipi entry) saidView
+  pub stream-view-view-answer : (tpi : List ℕ) (ipi : List ℕ) (entry : Entry) → RefusedBy (16 ∷ 1 ∷ 8 ∷ []) (contract.stream-view-view-answer tpi ipi entry) saidView
   pub stream-view-raw-kind : (tpi : List ℕ) (ipi : List ℕ) (entry : Entry) → RefusedBy (16 ∷ 1 ∷ []) (contract.stream-view-raw-kind tpi ipi entry) saidRawKind
   pub word-attributes-pointer-attributes-pointer-kind : (self : PointerAttributes) → RefusedBy (12 ∷ []) (contract.word-attributes-pointer-attributes-pointer-kind self) saidKind
   pub word-attributes-pointer-attributes-pointer-mode : (self : PointerAttributes) → RefusedBy (12 ∷ []) (contract.word-attributes-pointer-attributes-pointer-mode self) saidMode
@@ -120,8 +116,7 @@ pub record EachRefusedBy : Type 0 where
   pub stream-finder-begin : (t : List ℕ) (records : Run) (shift : ℕ) (r : FinderAnswer) (t′ : List ℕ) → contract.stream-finder-begin t records shift r t′ → Refuses (26 ∷ 13 ∷ []) (saidFinder r)
   pub stream-finder-update : (f : ItemFinder) (t : List ℕ) (c : ItemIter) (r : FinderAnswer) (t′ : List ℕ) → contract.stream-finder-update f t c r t′ → Refuses (16 ∷ 26 ∷ 13 ∷ 14 ∷ []) (saidFinder r)
   pub stream-finder-lent-item-finder-update : (self : ItemFinder) (t : List ℕ) (c : ItemIter) (r : UpdateAnswer) (self′ : ItemFinder) (t′ : List ℕ) → contract.stream-finder-lent-item-finder-update self t c r self′ t′ → Refuses (16 ∷ 26 ∷ 13 ∷ 14 ∷ []) (saidUpdate r)
-  pub stream-finder-lent-update-local : (f : ItemFinder) (t : List ℕ) (c : ItemIter) (u : UpdateStep) (t′ : List ℕ) → contract.stream-finder-lent-update-local f t c u t′ → Refuses (16 ∷ 26 ∷ 13 ∷ 14 ∷ []) (saidUpdate (u .answer))
-  pub stream-index-turn : (s : List ℕ) (f : ItemFinder) (t : List ℕ) (c : ItemIter) (r : TurnAnswer) (t′ : List ℕ) → contract.stream-index-turn s f t c r t′ → Refuses (16 ∷ 1 ∷ 6 ∷ 7 ∷ 26 ∷ 13 ∷ 14 ∷ []) (saidTurn r t′)
+  pub stream-index-next-and-update : (s : List ℕ) (f : ItemFinder) (t : List ℕ) (c : ItemIter) (r : TurnAnswer) (t′ : List ℕ) → contract.stream-index-next-and-update s f t c r t′ → Refuses (16 ∷ 1 ∷ 6 ∷ 7 ∷ 26 ∷ 13 ∷ 14 ∷ []) (saidTurn r t′)
   pub stream-places-load : (s : List ℕ) (f : List ℕ) (t : List ℕ) (r : FinderAnswer) (t′ : List ℕ) → contract.stream-places-load s f t r t′ → Refuses (16 ∷ 1 ∷ 2 ∷ 3 ∷ 4 ∷ 5 ∷ 20 ∷ 21 ∷ 13 ∷ 22 ∷ []) (saidFinder r)
   pub stream-places-load-wide : (s : List ℕ) (f : List ℕ) (t : List ℕ) (r : FinderAnswer) (t′ : List ℕ) → contract.stream-places-load-wide s f t r t′ → Refuses (16 ∷ 1 ∷ 2 ∷ 3 ∷ 4 ∷ 5 ∷ 20 ∷ 21 ∷ 13 ∷ 22 ∷ []) (saidFinder r)
   pub stream-places-save : (s : List ℕ) (f : ItemFinder) (t : List ℕ) (out : List ℕ) (r : SaveAnswer) (out′ : List ℕ) → contract.stream-places-save s f t out r out′ → Refuses (16 ∷ 1 ∷ 2 ∷ 3 ∷ 4 ∷ 5 ∷ 21 ∷ 26 ∷ 13 ∷ 19 ∷ []) (saidSave r)
@@ -129,15 +124,13 @@ pub record EachRefusedBy : Type 0 where
   pub stream-report-add : (totals : Totals) (table : List ℕ) (s : List ℕ) (r : ReportAnswer) (table′ : List ℕ) → contract.stream-report-add totals table s r table′ → Refuses (27 ∷ 28 ∷ []) (saidReport r)
   pub stream-drop-drop : (s : List ℕ) (roots : List ℕ) (table : List ℕ) (out : List ℕ) (r : DropAnswer) (table′ : List ℕ) (out′ : List ℕ) → contract.stream-drop-drop s roots table out r table′ out′ → Refuses (16 ∷ 1 ∷ 2 ∷ 3 ∷ 4 ∷ 5 ∷ 29 ∷ 8 ∷ 13 ∷ 30 ∷ 19 ∷ []) (saidDrop r)
   pub record-reader-list-reader-step : (self : ListReader) (r : ElementAnswer) (self′ : ListReader) → contract.record-reader-list-reader-step self r self′ → Refuses (15 ∷ 1 ∷ 10 ∷ 11 ∷ []) (saidElement r)
-  pub record-reader-step-of : (bytes : List ℕ) (cursor : ListCursor) (u : Stepped) → contract.record-reader-step-of bytes cursor u → Refuses (15 ∷ 1 ∷ 10 ∷ 11 ∷ []) (saidElement (u .answer))
   pub section-finder-create : (s : List ℕ) (t : List ℕ) (r : FinderAnswer) (t′ : List ℕ) → contract.section-finder-create s t r t′ → Refuses (16 ∷ 1 ∷ 25 ∷ 6 ∷ 7 ∷ 26 ∷ 13 ∷ []) (saidFinder r)
   pub section-finder-create-by : (s : List ℕ) (t : List ℕ) (shift : ℕ) (r : FinderAnswer) (t′ : List ℕ) → contract.section-finder-create-by s t shift r t′ → Refuses (16 ∷ 1 ∷ 25 ∷ 6 ∷ 7 ∷ 26 ∷ 13 ∷ []) (saidFinder r)
   pub section-stream-to-stream : (s : List ℕ) (out : List ℕ) (r : WriteAnswer) (out′ : List ℕ) → contract.section-stream-to-stream s out r out′ → Refuses (16 ∷ 1 ∷ 25 ∷ 6 ∷ 7 ∷ 19 ∷ []) (saidWrite r)
   pub write-header-write-header : (h : Header) (out : List ℕ) (at : ℕ) (r : WriteAnswer) (out′ : List ℕ) → contract.write-header-write-header h out at r out′ → Refuses (2 ∷ 3 ∷ 4 ∷ 5 ∷ 19 ∷ []) (saidWrite r)
-  pub write-type-write-type : (text : List ℕ) (d : TypeData) (out : List ℕ) (at : ℕ) (r : WriteAnswer) (out′ : List ℕ) → contract.write-type-write-type text d out at r out′ → Refuses (17 ∷ 18 ∷ 19 ∷ []) (saidWrite r)
-  pub write-id-write-id : (text : List ℕ) (d : IdData) (out : List ℕ) (at : ℕ) (r : WriteAnswer) (out′ : List ℕ) → contract.write-id-write-id text d out at r out′ → Refuses (17 ∷ 18 ∷ 19 ∷ []) (saidWrite r)
   pub write-list-write-field-list : (text : List ℕ) (rows : List (List ℕ)) (out : List ℕ) (at : ℕ) (r : WriteAnswer) (out′ : List ℕ) → contract.write-list-write-field-list text rows out at r out′ → Refuses (17 ∷ 18 ∷ 19 ∷ []) (saidWrite r)
   pub write-list-write-method-list : (text : List ℕ) (rows : List (List ℕ)) (out : List ℕ) (at : ℕ) (r : WriteAnswer) (out′ : List ℕ) → contract.write-list-write-method-list text rows out at r out′ → Refuses (17 ∷ 18 ∷ 19 ∷ []) (saidWrite r)
+  pub write-cells-write-type : (text : List ℕ) (leaf : ℕ) (row : List ℕ) (out : List ℕ) (at : ℕ) (r : WriteAnswer) (out′ : List ℕ) → contract.write-cells-write-type text leaf row out at r out′ → Refuses (17 ∷ 18 ∷ 19 ∷ []) (saidWrite r)
+  pub write-cells-write-id : (text : List ℕ) (leaf : ℕ) (row : List ℕ) (out : List ℕ) (at : ℕ) (r : WriteAnswer) (out′ : List ℕ) → contract.write-cells-write-id text leaf row out at r out′ → Refuses (17 ∷ 18 ∷ 19 ∷ []) (saidWrite r)
   pub write-pieces-write-plain : (text : List ℕ) (xs : List Piece-of-write-pieces) (out : List ℕ) (at : ℕ) (r : WriteAnswer) (out′ : List ℕ) → contract.write-pieces-write-plain text xs out at r out′ → Refuses (17 ∷ 18 ∷ 19 ∷ []) (saidWrite r)
   pub write-pieces-write-filled : (text : List ℕ) (xs : List Piece-of-write-pieces) (out : List ℕ) (at : ℕ) (r : WriteAnswer) (out′ : List ℕ) → contract.write-pieces-write-filled text xs out at r out′ → Refuses (17 ∷ 18 ∷ 19 ∷ []) (saidWrite r)
-  pub write-pieces-write-record : (text : List ℕ) (xs : List Piece-of-write-pieces) (out : List ℕ) (at : ℕ) (r : WriteAnswer) (out′ : List ℕ) → contract.write-pieces-write-record text xs out at r out′ → Refuses (17 ∷ 18 ∷ 19 ∷ []) (saidWrite r)

@@ -18,7 +18,7 @@ use Rattle.write_layout.specs.Records.{writeLeaf, filled, writeRecord}
 use Rattle.write_layout.specs.Lists.{membersBytes, fieldListBytes, methodsBytes, methodListBytes}
 use Rattle.write_layout.specs.Buffer.{lay}
 use Rattle.write_layout.specs.RoundTrip.{WouldRead, AllInBytes}
-use Rattle.write_row.specs.Rows.{memberRows, methodRows}
+use Rattle.write_list.specs.Rows.{memberRows, methodRows}
 use Rattle.write_list.specs.ListsBack.{HasElements, EachInBytes}
 use Rattle.write_header.specs.Headers.{headerBytes}
 use Rattle.claim_promises.specs.Given.{Given}

@@ -27,7 +27,7 @@ use Rattle.declare_node.specs.declared.Arguments.the-variants as argumen
 use Rattle.declare_node.specs.declared.Sized.{Sized}
 use Rattle.declare_node.specs.declared.Sized.the-variants as sized
 use Rattle.declare_node.specs.Looked.{Seen, numbered, held, nothing, declaredLeaves, listLeaves, typeSeen}
-use Rattle.declare_node.specs.Nodes.{leafIn, num, classes, sizedIn, sizedBy, through, sizeThrough, extentOf, nameIn, nodeIn, nodeBy, nodeOf, listIn, listBy, listOf}
+use Rattle.declare_node.specs.Nodes.{leafIn, num, classes, sizedIn, sizedFrom, through, sizeThrough, extentOf, nameIn, nodeIn, nodeBy, nodeOf, listIn, listBy, listOf}
 use Rattle.declare_node.specs.Inside.{ListInside}
 use Rattle.field.specs.declared.index.TypeIndex.{TypeIndex}
 
@@ -86,7 +86,7 @@ module _ (all one : ℕ) where
 
 -- ---- sizes
 
-module _ (s : List ℕ) (σ : State) (k i : ℕ) (z : Sized) (v : Seen) (y : z ≡ sizedBy v) (w : v ≡ typeSeen s σ i) where
+module _ (s : List ℕ) (σ : State) (k i : ℕ) (z : Sized) (v : Seen) (y : z ≡ sizedFrom v) (w : v ≡ typeSeen s σ i) where
   at-known : (k : ℕ) (n : ℕ) → z ≡ sized.Known n → n ≡ sizeThrough s σ k i
   unfolding sizeThrough
   at-known zero n e = rw (sym w, sym y ∙ e)
@@ -103,7 +103,7 @@ module _ (s : List ℕ) (σ : State) (k i : ℕ) (z : Sized) (v : Seen) (y : z �
   unfolding sizeThrough
   size-through j e h =
       let f : k ≡ suc (k - 1) = omega arith in
-      let g : through (λ b. sizeThrough s σ (k - 1) b) (sizedBy (typeSeen s σ i)) ≡ sizeThrough s σ (k - 1) (j .0) = rw (sym w, sym y ∙ e) in
+      let g : through (λ b. sizeThrough s σ (k - 1) b) (sizedFrom (typeSeen s σ i)) ≡ sizeThrough s σ (k - 1) (j .0) = rw (sym w, sym y ∙ e) in
       sym g ∙ ap (λ m. sizeThrough s σ m i) (sym f)
 
 -- ---- inside the stream

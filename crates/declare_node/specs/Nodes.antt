@@ -23,7 +23,7 @@ use Rattle.declare_node.specs.declared.Arguments.{Arguments}
 use Rattle.declare_node.specs.declared.Arguments.the-variants as arguments
 use Rattle.declare_node.specs.declared.Sized.{Sized}
 use Rattle.declare_node.specs.declared.Sized.the-variants as sized
-use Rattle.declare_kind.specs.Sizes.{primitiveSize}
+use Rattle.declare_word.specs.Sizes.{primitiveSize}
 use Rattle.declare_node.specs.Looked.{Seen, numbered, held, nothing, typeSeen, listSeen}
 
 abbrev pub typeIndex : ℕ → TypeIndex
@@ -58,16 +58,16 @@ classes = 0x1504 ∷ 0x1505 ∷ 0x1519 ∷ []
 
 -- ---- sizes, 0 where none is known
 
-abbrev pub orNone : Answer ℕ → ℕ
-orNone (answered n) = n
-orNone (refused k d) = 0
+abbrev pub answeredOr0 : Answer ℕ → ℕ
+answeredOr0 (answered n) = n
+answeredOr0 (refused k d) = 0
 
 -- a size, or the type whose size it is: that under a modifier or an enumeration
 unfoldable pub sizedIn : ℕ → List Shown → Sized
 sizedIn leaf vs =
     pick (eqb leaf 0x1001) (sized.Through (typeIn vs 1))
     (pick (eqb leaf 0x1507) (sized.Through (typeIn vs 3))
-    (pick (eqb leaf 0x1002) (sized.Known (orNone (sizeOf (num vs 2))))
+    (pick (eqb leaf 0x1002) (sized.Known (answeredOr0 (sizeOf (num vs 2))))
     (pick (eqb leaf 0x1503) (sized.Known (sizeIn vs 3))
     (pick (eqb leaf 0x1506) (sized.Known (sizeIn vs 4))
     (pick (eqb leaf 0x1609) (sized.Known (sizeIn vs 7))
@@ -75,10 +75,10 @@ sizedIn leaf vs =
     (sized.Known 0)))))))
 
 -- "a refused size lookup is no known size"
-abbrev pub sizedBy : Seen → Sized
-sizedBy (numbered p) = sized.Known (primitiveSize (p .kind) (p .indirection))
-sizedBy (held p n vs) = sizedIn (leafIn vs) vs
-sizedBy (nothing e) = sized.Known 0
+abbrev pub sizedFrom : Seen → Sized
+sizedFrom (numbered p) = sized.Known (primitiveSize (p .kind) (p .indirection))
+sizedFrom (held p n vs) = sizedIn (leafIn vs) vs
+sizedFrom (nothing e) = sized.Known 0
 
 abbrev pub through : (ℕ → ℕ) → Sized → ℕ
 through go (sized.Known n) = n
@@ -86,8 +86,8 @@ through go (sized.Through j) = go (j .0)
 
 -- the size of type i, through at most k modifiers and enumerations
 unfoldable pub sizeThrough : List ℕ → State → ℕ → ℕ → ℕ
-sizeThrough s σ zero i = through (λ j. 0) (sizedBy (typeSeen s σ i))
-sizeThrough s σ (suc k) i = through (λ j. sizeThrough s σ k j) (sizedBy (typeSeen s σ i))
+sizeThrough s σ zero i = through (λ j. 0) (sizedFrom (typeSeen s σ i))
+sizeThrough s σ (suc k) i = through (λ j. sizeThrough s σ k j) (sizedFrom (typeSeen s σ i))
 
 -- "the array length is its byte size divided by the element's, and an element without a known nonzero size that divides it prints as empty
 -- brackets"

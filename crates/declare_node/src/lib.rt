@@ -14,7 +14,7 @@ ghost use Rattle.record_layout.specs.Fields.{many, orAbsent};
 ghost use Rattle.record_layout.specs.Values.{numberIn};
 ghost use Rattle.record_data.specs.Said.{typeValues};
 ghost use Rattle.declare_node.specs.Looked.{declaredLeaves, listLeaves, asPrimitive, byLeaf, bytesSeen, held, saidLooked, recordSeen, typeSeen};
-ghost use Rattle.declare_node.specs.Nodes.{typeIndex, leafIn, sizedIn, sizedBy, sizeThrough, extentOf, nameIn, pointerQuals, modifierQuals, nodeIn, nodeOf, listBy, listOf, indexAt};
+ghost use Rattle.declare_node.specs.Nodes.{typeIndex, leafIn, sizedIn, sizedFrom, sizeThrough, extentOf, nameIn, pointerQuals, modifierQuals, nodeIn, nodeOf, listBy, listOf, indexAt};
 ghost use Rattle.declare_node.specs.Inside.{HeldAt, HeldInside, ListInside};
 use answer::Refusal;
 use declare_word::Extent;
@@ -269,13 +269,13 @@ fn sized_record(d: TypeData) -> Sized
 }
 
 fn size_in(l: Looked) -> Sized
-    ensures { λ r. ⌜ r ≡ sizedBy (saidLooked l) ⌝ }
+    ensures { λ r. ⌜ r ≡ sizedFrom (saidLooked l) ⌝ }
 {
     match l {
         Looked::Numbered(p) => {
             let k = p.kind;
             let by = p.indirection;
-            return Sized::Known(declare_kind::size(k, by));
+            return Sized::Known(declare_word::kind::size(k, by));
         }
         Looked::Held(_, _, d) => {
             return sized_record(d);

@@ -14,7 +14,7 @@ use Rattle.declare_word.specs.declared.Quals.{Quals}
 use Rattle.declare_piece.specs.declared.Piece.{Piece}
 use Rattle.declare_piece.specs.declared.Piece.the-variants as piece
 use Rattle.declare_word.specs.Spellings.{quoted, kindText, byText, modeText, qualsText}
-use Rattle.declare_piece.specs.Pieces.{spaced, behind, qualsIn, gap, decimal, extentText, closing, textOf}
+use Rattle.declare_piece.specs.Pieces.{spaced, spaceBefore, qualsIn, gap, decimal, extentText, closing, textOf}
 use Rattle.declare_piece.specs.Lengths.{spacedLength, qualsLength}
 
 pub length-spaced : (l : List ℕ) → length (spaced l) ≡ spacedLength (length l)
@@ -25,7 +25,7 @@ pub length-quals : (b : Bool) (l : List ℕ) → length (qualsIn b l) ≡ qualsL
 length-quals true l = refl
 length-quals false l = length-spaced l
 
-pub length-behind : (l : List ℕ) → length (behind l) ≡ spacedLength (length l)
+pub length-behind : (l : List ℕ) → length (spaceBefore l) ≡ spacedLength (length l)
 length-behind [] = refl
 length-behind (a ∷ l) = rw (ne-eqb (length (a ∷ l)) 0 (λ e. omega arith)) (omega arith)
 

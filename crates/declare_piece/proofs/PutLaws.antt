@@ -11,7 +11,7 @@ use borrow.Author.Tests.{eq-eqb, ne-eqb}
 use Rattle.field_put.specs.Bytes.{put, Room, Puts, Lays}
 use Rattle.field_put.proofs.PutLaws.{room-first, room-after, puts-both, laid, lays, lays-none}
 use Rattle.declare_word.specs.Spellings.{quoted}
-use Rattle.declare_piece.specs.Pieces.{qualsIn, behind}
+use Rattle.declare_piece.specs.Pieces.{qualsIn, spaceBefore}
 use Rattle.declare_word.specs.Words.{Spells}
 use Rattle.declare_word.proofs.WordLaws.{says, short}
 use Rattle.declare_piece.specs.Lengths.{ending}
@@ -72,11 +72,11 @@ pub ending-puts : (b : Bool) (text l m n : List ℕ) (at e x : ℕ) → Puts l a
 ending-puts b text l m n at e x p q = rw (ending-is b text at e (p .next)) (puts-two l m n at e x text (ending b (eqb e at)) p q)
 
 -- the qualifiers of a procedure
-pub behind-none : (l : List ℕ) → length l ≡ 0 → behind l ≡ []
+pub behind-none : (l : List ℕ) → length l ≡ 0 → spaceBefore l ≡ []
 behind-none [] e = refl
 behind-none (a ∷ l) e = let z : _≡_ {A = ℕ} 0 1 = omega arith in absurd (let y : 0 < 0 = omega arith in omega arith)
 
-pub behind-some : (l : List ℕ) → (length l ≡ 0 → ⊥) → behind l ≡ quoted " " ++ l
+pub behind-some : (l : List ℕ) → (length l ≡ 0 → ⊥) → spaceBefore l ≡ quoted " " ++ l
 behind-some [] f = absurd (f refl)
 behind-some (a ∷ l) f = refl
 

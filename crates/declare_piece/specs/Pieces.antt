@@ -17,9 +17,9 @@ spaced [] = []
 spaced (a ∷ l) = (a ∷ l) ++ quoted " "
 
 -- and with one before it
-abbrev pub behind : List ℕ → List ℕ
-behind [] = []
-behind (a ∷ l) = quoted " " ++ (a ∷ l)
+abbrev pub spaceBefore : List ℕ → List ℕ
+spaceBefore [] = []
+spaceBefore (a ∷ l) = quoted " " ++ (a ∷ l)
 
 -- a pointer's qualifiers: a space behind them unless they are the last on the left
 abbrev pub qualsIn : Bool → List ℕ → List ℕ
@@ -57,4 +57,4 @@ textOf s (piece.Length closes e) = closing closes ++ quoted "[" ++ extentText e 
 textOf s (piece.Begin closes) = closing closes ++ quoted "("
 textOf s piece.Comma = quoted ", "
 textOf s piece.Void = quoted "void"
-textOf s (piece.End q) = quoted ")" ++ behind (qualsText q)
+textOf s (piece.End q) = quoted ")" ++ spaceBefore (qualsText q)

@@ -14,14 +14,14 @@ use word_primitive::PrimitiveKind;
 fn kind_len(k: PrimitiveKind) -> usize
     ensures { λ r. ⌜ (r ≡ length (kindText k)) × (r ≤ 40) ⌝ }
 {
-    let w = declare_kind::kind(k);
+    let w = declare_word::kind::spelled(k);
     w.n
 }
 
 fn by_len(y: Indirection) -> usize
     ensures { λ r. ⌜ (r ≡ length (byText y)) × (r ≤ 40) ⌝ }
 {
-    let w = declare_word::by(y);
+    let w = declare_word::indirection(y);
     w.n
 }
 

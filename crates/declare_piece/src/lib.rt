@@ -55,5 +55,5 @@ pub fn put(s: &[u8], p: Piece, out: &mut [u8], at: usize) -> usize
     if out.len() - at < n {
         return at;
     }
-    write::one(s, p, out, at)
+    write::put_piece(s, p, out, at)
 }

@@ -6,7 +6,7 @@ ghost use lib.Dec.{eqb};
 ghost use lib.ListN.{length, take, drop};
 ghost use Rattle.field_put.specs.Bytes.{Room, Puts};
 ghost use Rattle.declare_word.specs.Spellings.{quoted, kindText, byText, modeText, qualsText};
-ghost use Rattle.declare_piece.specs.Pieces.{decimal, extentText, closing, spaced, behind, qualsIn, gap, textOf};
+ghost use Rattle.declare_piece.specs.Pieces.{decimal, extentText, closing, spaced, spaceBefore, qualsIn, gap, textOf};
 ghost use Rattle.declare_piece.specs.Lengths.{ending};
 use crate::Piece;
 use crate::count;
@@ -36,14 +36,14 @@ fn kind(out: &mut [u8], at: usize, k: PrimitiveKind) -> usize
     requires { ⌜ Room (now out) at (kindText k) ⌝ }
     ensures { λ r. ⌜ Puts (now (out .entry)) at (kindText k) r (now (out .exit)) ⌝ }
 {
-    word(out, at, declare_kind::kind(k))
+    word(out, at, declare_word::kind::spelled(k))
 }
 
 fn by(out: &mut [u8], at: usize, y: Indirection) -> usize
     requires { ⌜ Room (now out) at (byText y) ⌝ }
     ensures { λ r. ⌜ Puts (now (out .entry)) at (byText y) r (now (out .exit)) ⌝ }
 {
-    word(out, at, declare_word::by(y))
+    word(out, at, declare_word::indirection(y))
 }
 
 fn mode(out: &mut [u8], at: usize, m: u8) -> usize
@@ -103,8 +103,8 @@ fn gap(out: &mut [u8], at: usize, bare: bool) -> usize
 
 // The qualifiers behind the ) of arguments.
 fn behind(out: &mut [u8], at: usize, q: Quals) -> usize
-    requires { ⌜ Room (now out) at (behind (qualsText q)) ⌝ }
-    ensures { λ r. ⌜ Puts (now (out .entry)) at (behind (qualsText q)) r (now (out .exit)) ⌝ }
+    requires { ⌜ Room (now out) at (spaceBefore (qualsText q)) ⌝ }
+    ensures { λ r. ⌜ Puts (now (out .entry)) at (spaceBefore (qualsText q)) r (now (out .exit)) ⌝ }
 {
     let n = count::quals_len(q);
     if n == 0 {
@@ -231,15 +231,15 @@ fn begin(out: &mut [u8], at: usize, c: bool) -> usize
 }
 
 fn end(out: &mut [u8], at: usize, q: Quals) -> usize
-    requires { ⌜ Room (now out) at (quoted ")" ++ behind (qualsText q)) ⌝ }
-    ensures { λ r. ⌜ Puts (now (out .entry)) at (quoted ")" ++ behind (qualsText q)) r (now (out .exit)) ⌝ }
+    requires { ⌜ Room (now out) at (quoted ")" ++ spaceBefore (qualsText q)) ⌝ }
+    ensures { λ r. ⌜ Puts (now (out .entry)) at (quoted ")" ++ spaceBefore (qualsText q)) r (now (out .exit)) ⌝ }
 {
     let e = byte(out, at, b')');
     behind(out, e, q)
 }
 
 // A piece from a place on.
-pub fn one(s: &[u8], p: Piece, out: &mut [u8], at: usize) -> usize
+pub fn put_piece(s: &[u8], p: Piece, out: &mut [u8], at: usize) -> usize
     requires { ⌜ Room (now out) at (textOf (now s) p) ⌝ }
     ensures { λ r. ⌜ Puts (now (out .entry)) at (textOf (now (s .entry)) p) r (now (out .exit)) ⌝ }
 {

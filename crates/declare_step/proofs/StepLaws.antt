@@ -8,9 +8,9 @@ use Rattle.declare_node.specs.Nodes.{nodeOf}
 use Rattle.declare_node.specs.declared.Node.{Node}
 use Rattle.declare_step.specs.declared.Around.{Around}
 use Rattle.declare_step.specs.declared.Step.{Step}
-use Rattle.declare_step.specs.Steps.{stepBy, stepOf}
+use Rattle.declare_step.specs.Steps.{stepBy, inwardStep}
 
 -- r is what the lookup gave, and the arm that was taken says n
-pub step-is : (s : List ℕ) (t : State) (i : ℕ) (a : Around) (n r : Node) (o : Step) → r ≡ nodeOf s t i → r ≡ n → o ≡ stepBy n a → o ≡ stepOf s t i a
-unfolding stepOf
+pub step-is : (s : List ℕ) (t : State) (i : ℕ) (a : Around) (n r : Node) (o : Step) → r ≡ nodeOf s t i → r ≡ n → o ≡ stepBy n a → o ≡ inwardStep s t i a
+unfolding inwardStep
 step-is s t i a n r o e f h = rw (sym e ∙ f) h

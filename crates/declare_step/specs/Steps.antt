@@ -33,8 +33,8 @@ union a b = record {
 }
 
 -- around the first type, and around each argument, nothing stands
-abbrev pub startOf : Around
-startOf = record { quals = none; under = false; last = true; bare = true }
+abbrev pub aroundFirst : Around
+aroundFirst = record { quals = none; under = false; last = true; bare = true }
 
 -- an array or a procedure that stands directly under a pointer puts the pointer in parentheses
 abbrev pub opening : Bool → Piece
@@ -67,5 +67,5 @@ stepBy (node.Procedure i l) a =
     step.Call (opening (a .under)) (piece.Begin (a .under)) (piece.End (a .quals)) l i (record { quals = none; under = false; last = a .last; bare = false })
 stepBy (node.Refused e) a = step.Refused e
 
-unfoldable pub stepOf : List ℕ → State → ℕ → Around → Step
-stepOf s σ i a = stepBy (nodeOf s σ i) a
+unfoldable pub inwardStep : List ℕ → State → ℕ → Around → Step
+inwardStep s σ i a = stepBy (nodeOf s σ i) a

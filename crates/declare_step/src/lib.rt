@@ -2,7 +2,7 @@
 // each kind of type.
 ghost use mathlib.Core.Path.{_≡_};
 ghost use Rattle.stream_finder.specs.Finder.{state};
-ghost use Rattle.declare_step.specs.Steps.{or, none, union, startOf, opening, primitivePiece, stepOf};
+ghost use Rattle.declare_step.specs.Steps.{or, none, union, aroundFirst, opening, primitivePiece, inwardStep};
 use answer::Refusal;
 use declare_node::Node;
 use declare_piece::Piece;
@@ -52,7 +52,7 @@ fn no_quals() -> Quals
     }
 }
 
-fn with(a: Quals, b: Quals) -> Quals
+fn union_of(a: Quals, b: Quals) -> Quals
     ensures { λ r. ⌜ r ≡ union a b ⌝ }
 {
     Quals {
@@ -65,7 +65,7 @@ fn with(a: Quals, b: Quals) -> Quals
 
 // Around the first type, and around each argument: nothing.
 pub fn start() -> Around
-    ensures { λ r. ⌜ r ≡ startOf ⌝ }
+    ensures { λ r. ⌜ r ≡ aroundFirst ⌝ }
 {
     Around {
         quals: no_quals(),
@@ -120,7 +120,7 @@ fn primitive_piece(k: PrimitiveKind, y: Indirection, a: Around) -> Piece
 
 // What type i adds.
 pub fn step_of(s: &[u8], f: ItemFinder, t: &[u32], i: TypeIndex, a: Around) -> Step
-    ensures { λ r. ⌜ r ≡ stepOf (now (s .entry)) (state f (now (t .entry))) (i .0) a ⌝ }
+    ensures { λ r. ⌜ r ≡ inwardStep (now (s .entry)) (state f (now (t .entry))) (i .0) a ⌝ }
 {
     let quals = a.quals;
     let under = a.under;
@@ -135,7 +135,7 @@ pub fn step_of(s: &[u8], f: ItemFinder, t: &[u32], i: TypeIndex, a: Around) -> S
             return Step::Last(Piece::Tag(p, n, quals, bare));
         }
         Node::Pointer(j, m, own) => {
-            let all = with(quals, own);
+            let all = union_of(quals, own);
             let around = Around {
                 quals: no_quals(),
                 under: true,
@@ -145,7 +145,7 @@ pub fn step_of(s: &[u8], f: ItemFinder, t: &[u32], i: TypeIndex, a: Around) -> S
             return Step::Inward(Piece::Pointer(m, all, last), Piece::Nothing, j, around);
         }
         Node::Modifier(j, own) => {
-            let all = with(quals, own);
+            let all = union_of(quals, own);
             let around = Around {
                 quals: all,
                 under: under,

@@ -16,7 +16,7 @@ use Rattle.field_put.specs.Bytes.{put}
 use Rattle.field_put.proofs.PutLaws.{put-is}
 use Rattle.declare_walk.specs.declared.Measured.{Measured}
 use Rattle.declare_walk.specs.declared.Measured.the-variants as measured
-use Rattle.declare_walk.specs.Walk.{Walked, printed, stopped, capped, whole, declarationOf}
+use Rattle.declare_walk.specs.Walk.{Spelled, printed, stopped, capped, wholeText, declarationOf}
 use Rattle.declare_walk.proofs.RoomLaws.{fits-within}
 use Rattle.declare_type.specs.declared.DeclareAnswer.{DeclareAnswer}
 use Rattle.declare_type.specs.declared.DeclareAnswer.the-variants as declare
@@ -25,13 +25,13 @@ use Rattle.declare_type.specs.Declares.{textIn, declareOf, Declares}
 use Rattle.declare_type.proofs.PutLaws.{put-append}
 use Rattle.declare_type.proofs.WriteLaws.{sides}
 
-pub whole-room : (w : Walked) (l : List ℕ) (m n : ℕ) → measured.Fits m n ≡ capped (length l) w → SideRoom w m m l
+pub whole-room : (w : Spelled) (l : List ℕ) (m n : ℕ) → measured.Fits m n ≡ capped (length l) w → SideRoom w m m l
 whole-room w l m n e =
     let s = sides (length l) m n w e in
     record { prints = s .0; low = omega (arith, s .1); apart = omega arith; high = omega (arith, s .2, fits-within (length l) m n w e) }
 
 text-fits :
-    (w : Walked) (l l₁ : List ℕ) (m n r : ℕ) → measured.Fits m n ≡ capped (length l) w → Both w l m m r l₁ → Declares (textIn (length l) w) l (declare.Written (m + n)) l₁
+    (w : Spelled) (l l₁ : List ℕ) (m n r : ℕ) → measured.Fits m n ≡ capped (length l) w → Both w l m m r l₁ → Declares (textIn (length l) w) l (declare.Written (m + n)) l₁
 unfolding textIn
 text-fits (printed a b) l l₁ m n r e z =
     let s = sides (length l) m n (printed a b) e in
@@ -52,7 +52,7 @@ text-fits (printed a b) l l₁ m n r e z =
     }
 text-fits (stopped k q) l l₁ m n r e z = absurd (false≢true (sides (length l) m n (stopped k q) e .0))
 
-text-refused : (w : Walked) (l : List ℕ) (q : Refusal) → measured.Refused q ≡ capped (length l) w → Declares (textIn (length l) w) l (declare.Refused q) l
+text-refused : (w : Spelled) (l : List ℕ) (q : Refusal) → measured.Refused q ≡ capped (length l) w → Declares (textIn (length l) w) l (declare.Refused q) l
 unfolding textIn capped
 text-refused (printed a b) l q e = go (ltb (length l) (length a + length b)) refl e where
   go : (x : Bool) → ltb (length l) (length a + length b) ≡ x → measured.Refused q ≡ pick x (measured.Refused refusal.NoRoom) (measured.Fits (length a) (length b))

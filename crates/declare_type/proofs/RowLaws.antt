@@ -11,40 +11,40 @@ use Rattle.declare_node.specs.declared.Arguments.{Arguments}
 use Rattle.declare_node.specs.declared.Arguments.the-variants as arguments
 use Rattle.declare_piece.specs.declared.Piece.the-variants as piece
 use Rattle.declare_piece.specs.Pieces.{textOf}
-use Rattle.declare_walk.specs.Walk.{Walked, printed, stopped, onto, joined, restOf, argumentsOf, listed, whole}
+use Rattle.declare_walk.specs.Walk.{Spelled, printed, stopped, onto, fixedThen, restOf, argumentsOf, overArguments, wholeText}
 use Rattle.field_put.specs.Bytes.{put, Puts, Room}
 use Rattle.declare_type.specs.Sides.{isPrinted, leftOf, rightOf, SideRoom, Both, RowRoom, Rest}
 use Rattle.declare_type.proofs.PutLaws.{put-append, put-comm, length-put, puts-two}
 
 -- ---- a row has no left side
 
-flat-onto : (b : List ℕ) (w : Walked) → leftOf w ≡ [] → leftOf (onto [] b w) ≡ []
+flat-onto : (b : List ℕ) (w : Spelled) → leftOf w ≡ [] → leftOf (onto [] b w) ≡ []
 unfolding onto
 flat-onto b (printed l r) e = append-nil l ∙ e
 flat-onto b (stopped k q) e = refl
 
-flat-joined : (v w : Walked) → leftOf w ≡ [] → leftOf (joined v w) ≡ []
-unfolding joined
+flat-joined : (v w : Spelled) → leftOf w ≡ [] → leftOf (fixedThen v w) ≡ []
+unfolding fixedThen
 flat-joined (printed l r) w e = flat-onto (l ++ r) w e
 flat-joined (stopped k q) w e = refl
 
-pub flat-rest : (f : ℕ → Walked) (s : List ℕ) (p n : ℕ) → leftOf (restOf f s p n) ≡ []
+pub flat-rest : (f : ℕ → Spelled) (s : List ℕ) (p n : ℕ) → leftOf (restOf f s p n) ≡ []
 unfolding restOf
 flat-rest f s p zero = refl
-flat-rest f s p (suc n) = flat-onto (textOf s piece.Comma) (joined (f (indexAt s p .0)) (restOf f s (p + 4) n)) (flat-joined (f (indexAt s p .0)) (restOf f s (p + 4) n) (flat-rest f s (p + 4) n))
+flat-rest f s p (suc n) = flat-onto (textOf s piece.Comma) (fixedThen (f (indexAt s p .0)) (restOf f s (p + 4) n)) (flat-joined (f (indexAt s p .0)) (restOf f s (p + 4) n) (flat-rest f s (p + 4) n))
 
 -- ---- the first argument, and the rest
 
-first-room : (v w : Walked) (at : ℕ) (l : List ℕ) → leftOf w ≡ [] → RowRoom (joined v w) at l → RowRoom v at l
-unfolding joined onto
+first-room : (v w : Spelled) (at : ℕ) (l : List ℕ) → leftOf w ≡ [] → RowRoom (fixedThen v w) at l → RowRoom v at l
+unfolding fixedThen onto
 first-room (printed a b) (printed [] d) at l z h = record { prints = refl; high = omega (arith, h .high, length-append (a ++ b) d) }
 first-room (printed a b) (printed (x ∷ c) d) at l z h = absurd (let k : _≡_ {A = ℕ} 0 1 = cc in omega arith)
 first-room (printed a b) (stopped k e) at l z h = absurd (false≢true (h .prints))
 first-room (stopped k e) w at l z h = absurd (false≢true (h .prints))
 
 -- nothing of the rest is written yet
-first-rest : (v w : Walked) (at e : ℕ) (l₀ l₁ : List ℕ) → leftOf w ≡ [] → RowRoom (joined v w) at l₀ → Puts l₀ at (whole v) e l₁ → Rest w w l₁ e l₁ e
-unfolding joined onto
+first-rest : (v w : Spelled) (at e : ℕ) (l₀ l₁ : List ℕ) → leftOf w ≡ [] → RowRoom (fixedThen v w) at l₀ → Puts l₀ at (wholeText v) e l₁ → Rest w w l₁ e l₁ e
+unfolding fixedThen onto
 first-rest (printed a b) (printed [] d) at e l₀ l₁ z h p = record {
   prints = refl;
   flat = refl;
@@ -59,9 +59,9 @@ first-rest (stopped k q) w at e l₀ l₁ z h p = absurd (false≢true (h .print
 
 -- all of it is
 first-all :
-    (v w : Walked) (at e r : ℕ) (l₀ l₁ l₂ : List ℕ) → leftOf w ≡ [] → RowRoom (joined v w) at l₀ → Puts l₀ at (whole v) e l₁ → Puts l₁ e (whole w) r l₂
-    → Puts l₀ at (whole (joined v w)) r l₂
-unfolding joined onto
+    (v w : Spelled) (at e r : ℕ) (l₀ l₁ l₂ : List ℕ) → leftOf w ≡ [] → RowRoom (fixedThen v w) at l₀ → Puts l₀ at (wholeText v) e l₁ → Puts l₁ e (wholeText w) r l₂
+    → Puts l₀ at (wholeText (fixedThen v w)) r l₂
+unfolding fixedThen onto
 first-all (printed a b) (printed [] d) at e r l₀ l₁ l₂ z h p q = puts-two l₀ l₁ l₂ at e r (a ++ b) d p q
 first-all (printed a b) (printed (x ∷ c) d) at e r l₀ l₁ l₂ z h p q = absurd (let k : _≡_ {A = ℕ} 0 1 = cc in omega arith)
 first-all (printed a b) (stopped k j) at e r l₀ l₁ l₂ z h p q = absurd (false≢true (h .prints))
@@ -69,15 +69,15 @@ first-all (stopped k j) w at e r l₀ l₁ l₂ z h p q = absurd (false≢true (
 
 -- ---- one more argument, behind a comma c
 
-module _ (c : List ℕ) (all : Walked) (l l₀ : List ℕ) (e at : ℕ) where
-  comma-room : (v w : Walked) → leftOf w ≡ [] → Rest (onto [] c (joined v w)) all l e l₀ at → e + length c ≤ length l
-  unfolding joined onto
+module _ (c : List ℕ) (all : Spelled) (l l₀ : List ℕ) (e at : ℕ) where
+  comma-room : (v w : Spelled) → leftOf w ≡ [] → Rest (onto [] c (fixedThen v w)) all l e l₀ at → e + length c ≤ length l
+  unfolding fixedThen onto
   comma-room (printed a b) (printed x d) z h = omega (arith, h .high, length-append c ((a ++ b) ++ d))
   comma-room (printed a b) (stopped k q) z h = absurd (false≢true (h .prints))
   comma-room (stopped k q) w z h = absurd (false≢true (h .prints))
 
-  more-room : (v w : Walked) (x : ℕ) (l₁ : List ℕ) → leftOf w ≡ [] → Rest (onto [] c (joined v w)) all l e l₀ at → Puts l e c x l₁ → RowRoom v x l₁
-  unfolding joined onto
+  more-room : (v w : Spelled) (x : ℕ) (l₁ : List ℕ) → leftOf w ≡ [] → Rest (onto [] c (fixedThen v w)) all l e l₀ at → Puts l e c x l₁ → RowRoom v x l₁
+  unfolding fixedThen onto
   more-room (printed a b) (printed y d) x l₁ z h p = record {
     prints = refl;
     high = omega (arith, h .high, p .next, ap length (p .left) ∙ length-put c l e, length-append c ((a ++ b) ++ d), length-append (a ++ b) d);
@@ -86,9 +86,9 @@ module _ (c : List ℕ) (all : Walked) (l l₀ : List ℕ) (e at : ℕ) where
   more-room (stopped k q) w x l₁ z h p = absurd (false≢true (h .prints))
 
   more-rest :
-      (v w : Walked) (x y : ℕ) (l₁ l₂ : List ℕ) → leftOf w ≡ [] → Rest (onto [] c (joined v w)) all l e l₀ at
-      → Puts l e c x l₁ → Puts l₁ x (whole v) y l₂ → Rest w all l₂ y l₀ at
-  unfolding joined onto
+      (v w : Spelled) (x y : ℕ) (l₁ l₂ : List ℕ) → leftOf w ≡ [] → Rest (onto [] c (fixedThen v w)) all l e l₀ at
+      → Puts l e c x l₁ → Puts l₁ x (wholeText v) y l₂ → Rest w all l₂ y l₀ at
+  unfolding fixedThen onto
   more-rest (printed a b) (printed [] d) x y l₁ l₂ z h p q =
       let r : Puts l e (c ++ (a ++ b)) y l₂ = puts-two l l₁ l₂ e x y c (a ++ b) p q in
       let len : length (c ++ ((a ++ b) ++ d)) ≡ length (c ++ (a ++ b)) + length d = ap length (sym (append-assoc c (a ++ b) d)) ∙ length-append (c ++ (a ++ b)) d in
@@ -112,24 +112,24 @@ module _ (c : List ℕ) (all : Walked) (l l₀ : List ℕ) (e at : ℕ) where
 
 -- ---- as the code has it
 
-module _ (f : ℕ → Walked) (s : List ℕ) (t : State) (g at : ℕ) (l₀ : List ℕ) (o : Arguments) (e : o ≡ listOf s t g) (h : RowRoom (listed f s (listOf s t g)) at l₀) where
+module _ (f : ℕ → Spelled) (s : List ℕ) (t : State) (g at : ℕ) (l₀ : List ℕ) (o : Arguments) (e : o ≡ listOf s t g) (h : RowRoom (overArguments f s (listOf s t g)) at l₀) where
   pub never-refused : {A : Type 0} (q : _) → o ≡ arguments.Refused q → A
-  unfolding listed
+  unfolding overArguments
   never-refused q z = absurd (false≢true (rw (sym e ∙ z) at (h .prints)))
 
   module _ (p n : ℕ) (z : o ≡ arguments.At p n) where
-    none : n ≡ 0 → listed f s (listOf s t g) ≡ printed [] (textOf s piece.Void)
-    unfolding listed argumentsOf
+    none : n ≡ 0 → overArguments f s (listOf s t g) ≡ printed [] (textOf s piece.Void)
+    unfolding overArguments argumentsOf
     none k = rw (sym e ∙ z, k)
 
     pub void-room : n ≡ 0 → Room l₀ at (textOf s piece.Void)
     void-room k = record { room = rw (none k) at (h .high) }
 
-    pub void-puts : (r : ℕ) (l : List ℕ) → n ≡ 0 → Puts l₀ at (textOf s piece.Void) r l → Puts l₀ at (whole (listed f s (listOf s t g))) r l
+    pub void-puts : (r : ℕ) (l : List ℕ) → n ≡ 0 → Puts l₀ at (textOf s piece.Void) r l → Puts l₀ at (wholeText (overArguments f s (listOf s t g))) r l
     void-puts r l k c = rw (none k) c
 
-    some : 0 < n → listed f s (listOf s t g) ≡ joined (f (indexAt s p .0)) (restOf f s (p + 4) (n - 1))
-    unfolding listed argumentsOf
+    some : 0 < n → overArguments f s (listOf s t g) ≡ fixedThen (f (indexAt s p .0)) (restOf f s (p + 4) (n - 1))
+    unfolding overArguments argumentsOf
     some k =
         let m : n ≡ suc (n - 1) = omega arith in
         rw (sym e ∙ z) (ap (argumentsOf f s p) m)
@@ -137,22 +137,22 @@ module _ (f : ℕ → Walked) (s : List ℕ) (t : State) (g at : ℕ) (l₀ : Li
     pub argument-room : 0 < n → RowRoom (f (indexAt s p .0)) at l₀
     argument-room k = first-room (f (indexAt s p .0)) (restOf f s (p + 4) (n - 1)) at l₀ (flat-rest f s (p + 4) (n - 1)) (rw (some k) at h)
 
-    module _ (x : ℕ) (l : List ℕ) (k : 0 < n) (c : Puts l₀ at (whole (f (indexAt s p .0))) x l) where
+    module _ (x : ℕ) (l : List ℕ) (k : 0 < n) (c : Puts l₀ at (wholeText (f (indexAt s p .0))) x l) where
       pub argument-rest : Rest (restOf f s (p + 4) (n - 1)) (restOf f s (p + 4) (n - 1)) l x l x
       argument-rest = first-rest (f (indexAt s p .0)) (restOf f s (p + 4) (n - 1)) at x l₀ l (flat-rest f s (p + 4) (n - 1)) (rw (some k) at h) c
 
-      pub argument-all : (r : ℕ) (m : List ℕ) → Puts l x (whole (restOf f s (p + 4) (n - 1))) r m → Puts l₀ at (whole (listed f s (listOf s t g))) r m
+      pub argument-all : (r : ℕ) (m : List ℕ) → Puts l x (wholeText (restOf f s (p + 4) (n - 1))) r m → Puts l₀ at (wholeText (overArguments f s (listOf s t g))) r m
       argument-all r m d =
           rw (some k) (first-all (f (indexAt s p .0)) (restOf f s (p + 4) (n - 1)) at x r l₀ l m (flat-rest f s (p + 4) (n - 1)) (rw (some k) at h) c d)
 
-module _ (f : ℕ → Walked) (s : List ℕ) (q left : ℕ) (all : Walked) (l l₀ : List ℕ) (e at : ℕ) (h : Rest (restOf f s q left) all l e l₀ at) where
-  pub rest-all : left ≡ 0 → Puts l₀ at (whole all) e l
+module _ (f : ℕ → Spelled) (s : List ℕ) (q left : ℕ) (all : Spelled) (l l₀ : List ℕ) (e at : ℕ) (h : Rest (restOf f s q left) all l e l₀ at) where
+  pub rest-all : left ≡ 0 → Puts l₀ at (wholeText all) e l
   unfolding restOf put
   rest-all k =
       let r : Rest (printed [] []) all l e l₀ at = rw k at h in
       record { next = omega (arith, r .end); left = r .text }
 
-  again : 0 < left → Rest (onto [] (textOf s piece.Comma) (joined (f (indexAt s q .0)) (restOf f s (q + 4) (left - 1)))) all l e l₀ at
+  again : 0 < left → Rest (onto [] (textOf s piece.Comma) (fixedThen (f (indexAt s q .0)) (restOf f s (q + 4) (left - 1)))) all l e l₀ at
   unfolding restOf
   again k =
       let m : left ≡ suc (left - 1) = omega arith in
@@ -164,6 +164,6 @@ module _ (f : ℕ → Walked) (s : List ℕ) (q left : ℕ) (all : Walked) (l l�
   pub next-room : (x : ℕ) (l₁ : List ℕ) → 0 < left → Puts l e (textOf s piece.Comma) x l₁ → RowRoom (f (indexAt s q .0)) x l₁
   next-room x l₁ k p = more-room (textOf s piece.Comma) all l l₀ e at (f (indexAt s q .0)) (restOf f s (q + 4) (left - 1)) x l₁ (flat-rest f s (q + 4) (left - 1)) (again k) p
 
-  pub next-rest : (x y : ℕ) (l₁ l₂ : List ℕ) → 0 < left → Puts l e (textOf s piece.Comma) x l₁ → Puts l₁ x (whole (f (indexAt s q .0))) y l₂ → Rest (restOf f s (q + 4) (left - 1)) all l₂ y l₀ at
+  pub next-rest : (x y : ℕ) (l₁ l₂ : List ℕ) → 0 < left → Puts l e (textOf s piece.Comma) x l₁ → Puts l₁ x (wholeText (f (indexAt s q .0))) y l₂ → Rest (restOf f s (q + 4) (left - 1)) all l₂ y l₀ at
   next-rest x y l₁ l₂ k p c =
       more-rest (textOf s piece.Comma) all l l₀ e at (f (indexAt s q .0)) (restOf f s (q + 4) (left - 1)) x y l₁ l₂ (flat-rest f s (q + 4) (left - 1)) (again k) p c

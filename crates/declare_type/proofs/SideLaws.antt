@@ -5,7 +5,7 @@ use mathlib.Core.Path.{_≡_, refl, ap, sym, _∙_}
 use mathlib.Core.Bool.{Bool, true, false, false≢true}
 use mathlib.Core.List.{List, [], _∷_, _++_, append-nil, append-assoc}
 use lib.ListN.{length, length-append}
-use Rattle.declare_walk.specs.Walk.{Walked, printed, stopped, onto, joined, whole}
+use Rattle.declare_walk.specs.Walk.{Spelled, printed, stopped, onto, fixedThen, wholeText}
 use Rattle.field_put.specs.Bytes.{put, Puts, Room}
 use Rattle.declare_type.specs.Sides.{isPrinted, leftOf, rightOf, SideRoom, Both, RowRoom, Rest}
 use Rattle.declare_type.proofs.PutLaws.{put-append, put-comm, length-put}
@@ -13,17 +13,17 @@ use Rattle.declare_type.proofs.PutLaws.{put-append, put-comm, length-pu
 -- ---- a piece on each side
 
 module _ (a b : List ℕ) (left right : ℕ) (n : List ℕ) where
-  pub room-left : (w : Walked) → SideRoom (onto a b w) left right n → length a ≤ left
+  pub room-left : (w : Spelled) → SideRoom (onto a b w) left right n → length a ≤ left
   unfolding onto
   room-left (printed l r) h = omega (arith, h .low, length-append l a)
   room-left (stopped k e) h = absurd (false≢true (h .prints))
 
-  pub room-right : (w : Walked) → SideRoom (onto a b w) left right n → right + length b ≤ length n
+  pub room-right : (w : Spelled) → SideRoom (onto a b w) left right n → right + length b ≤ length n
   unfolding onto
   room-right (printed l r) h = omega (arith, h .high, length-append b r)
   room-right (stopped k e) h = absurd (false≢true (h .prints))
 
-  pub room-in : (w : Walked) (at e : ℕ) → at ≡ left - length a → e ≡ right + length b → SideRoom (onto a b w) left right n → SideRoom w at e n
+  pub room-in : (w : Spelled) (at e : ℕ) → at ≡ left - length a → e ≡ right + length b → SideRoom (onto a b w) left right n → SideRoom w at e n
   unfolding onto
   room-in (printed l r) at e f g h = record {
     prints = refl;
@@ -34,7 +34,7 @@ module _ (a b : List ℕ) (left right : ℕ) (n : List ℕ) where
   room-in (stopped k e₁) at e f g h = absurd (false≢true (h .prints))
 
   pub both-in :
-      (w : Walked) (l₀ l₁ l₂ l₃ : List ℕ) (at e x r : ℕ) → at ≡ left - length a → SideRoom (onto a b w) left right n
+      (w : Spelled) (l₀ l₁ l₂ l₃ : List ℕ) (at e x r : ℕ) → at ≡ left - length a → SideRoom (onto a b w) left right n
       → Puts l₀ at a x l₁ → Puts l₁ right b e l₂ → Both w l₂ at e r l₃ → Both (onto a b w) l₀ left right r l₃
   unfolding onto
   both-in (printed l m) l₀ l₁ l₂ l₃ at e x r f h p q z = record {
@@ -63,32 +63,32 @@ module _ (a b : List ℕ) (left right : ℕ) (n : List ℕ) where
 -- ---- a text on the right only
 
 module _ (b : List ℕ) (left right : ℕ) (n : List ℕ) where
-  pub text-right : (w : Walked) → SideRoom (onto [] b w) left right n → right + length b ≤ length n
+  pub text-right : (w : Spelled) → SideRoom (onto [] b w) left right n → right + length b ≤ length n
   text-right = room-right [] b left right n
 
-  pub text-in : (w : Walked) (e : ℕ) → e ≡ right + length b → SideRoom (onto [] b w) left right n → SideRoom w left e n
+  pub text-in : (w : Spelled) (e : ℕ) → e ≡ right + length b → SideRoom (onto [] b w) left right n → SideRoom w left e n
   text-in w e g h = room-in [] b left right n w left e (omega arith) g h
 
   pub text-both :
-      (w : Walked) (l₀ l₁ l₂ : List ℕ) (e r : ℕ) → SideRoom (onto [] b w) left right n → Puts l₀ right b e l₁ → Both w l₁ left e r l₂ → Both (onto [] b w) l₀ left right r l₂
+      (w : Spelled) (l₀ l₁ l₂ : List ℕ) (e r : ℕ) → SideRoom (onto [] b w) left right n → Puts l₀ right b e l₁ → Both w l₁ left e r l₂ → Both (onto [] b w) l₀ left right r l₂
   unfolding put
   text-both w l₀ l₁ l₂ e r h p z = both-in [] b left right n w l₀ l₀ l₁ l₂ left e left r (omega arith) h (record { next = omega arith; left = refl }) p z
 
 -- ---- a whole text on the right
 
 module _ (left right : ℕ) (n : List ℕ) where
-  pub row-room : (v w : Walked) → SideRoom (joined v w) left right n → RowRoom v right n
-  unfolding joined
+  pub row-room : (v w : Spelled) → SideRoom (fixedThen v w) left right n → RowRoom v right n
+  unfolding fixedThen
   row-room (printed a b) w h = record { prints = refl; high = text-right (a ++ b) left right n w h }
   row-room (stopped k e) w h = absurd (false≢true (h .prints))
 
-  pub row-in : (v w : Walked) (e : ℕ) → e ≡ right + length (whole v) → SideRoom (joined v w) left right n → SideRoom w left e n
-  unfolding joined
+  pub row-in : (v w : Spelled) (e : ℕ) → e ≡ right + length (wholeText v) → SideRoom (fixedThen v w) left right n → SideRoom w left e n
+  unfolding fixedThen
   row-in (printed a b) w e g h = text-in (a ++ b) left right n w e g h
   row-in (stopped k q) w e g h = absurd (false≢true (h .prints))
 
   pub row-both :
-      (v w : Walked) (l₀ l₁ l₂ : List ℕ) (e r : ℕ) → SideRoom (joined v w) left right n → Puts l₀ right (whole v) e l₁ → Both w l₁ left e r l₂ → Both (joined v w) l₀ left right r l₂
-  unfolding joined
+      (v w : Spelled) (l₀ l₁ l₂ : List ℕ) (e r : ℕ) → SideRoom (fixedThen v w) left right n → Puts l₀ right (wholeText v) e l₁ → Both w l₁ left e r l₂ → Both (fixedThen v w) l₀ left right r l₂
+  unfolding fixedThen
   row-both (printed a b) w l₀ l₁ l₂ e r h p z = text-both (a ++ b) left right n w l₀ l₁ l₂ e r h p z
   row-both (stopped k q) w l₀ l₁ l₂ e r h p z = absurd (false≢true (h .prints))

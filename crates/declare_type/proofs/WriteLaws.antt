@@ -21,21 +21,21 @@ use Rattle.declare_step.specs.declared.Step.the-variants as step
 use Rattle.declare_walk.specs.declared.Measured.{Measured}
 use Rattle.declare_walk.specs.declared.Measured.the-variants as measured
 use Rattle.declare_piece.specs.Pieces.{textOf}
-use Rattle.declare_step.specs.Steps.{startOf, stepOf}
-use Rattle.declare_walk.specs.Walk.{Walked, printed, stopped, onto, joined, listed, stepped, walk, capped, whole}
+use Rattle.declare_step.specs.Steps.{aroundFirst, inwardStep}
+use Rattle.declare_walk.specs.Walk.{Spelled, printed, stopped, onto, fixedThen, overArguments, stepped, walk, capped, wholeText}
 use Rattle.field_put.specs.Bytes.{put, Puts, Room}
 use Rattle.declare_type.specs.Sides.{isPrinted, leftOf, rightOf, SideRoom, Both, RowRoom}
 use Rattle.declare_walk.proofs.WalkLaws.{walk-is, argsIn}
 use Rattle.declare_type.proofs.PutLaws.{put-append, length-put}
 use Rattle.declare_type.proofs.SideLaws.{room-left, room-right, room-in, both-in, text-right, text-in, text-both, row-room, row-in, row-both}
 
-pub room-as : (v w : Walked) (left right : ℕ) (n : List ℕ) → v ≡ w → SideRoom v left right n → SideRoom w left right n
+pub room-as : (v w : Spelled) (left right : ℕ) (n : List ℕ) → v ≡ w → SideRoom v left right n → SideRoom w left right n
 room-as v w left right n e h = rw e at h
 
-pub both-as : (v w : Walked) (l m : List ℕ) (left right r : ℕ) → v ≡ w → Both w l left right r m → Both v l left right r m
+pub both-as : (v w : Spelled) (l m : List ℕ) (left right r : ℕ) → v ≡ w → Both w l left right r m → Both v l left right r m
 both-as v w l m left right r e h = rw e h
 
-room-len : (w : Walked) (left right : ℕ) (l m : List ℕ) → length m ≡ length l → SideRoom w left right l → SideRoom w left right m
+room-len : (w : Spelled) (left right : ℕ) (l m : List ℕ) → length m ≡ length l → SideRoom w left right l → SideRoom w left right m
 room-len w left right l m e h = record { prints = h .prints; low = h .low; apart = h .apart; high = omega (arith, h .high) }
 
 put-length : (l m text : List ℕ) (at x : ℕ) → Puts l at text x m → length m ≡ length l
@@ -47,7 +47,7 @@ pub deep-eq : (s : List ℕ) (t : State) (d i : ℕ) (a : Around) → d ≡ 0 �
 unfolding walk
 deep-eq s t d i a e = rw e
 
-module _ (s : List ℕ) (t : State) (d i : ℕ) (a : Around) (h : 0 < d) (o : Step) (e : o ≡ stepOf s t i a) where
+module _ (s : List ℕ) (t : State) (d i : ℕ) (a : Around) (h : 0 < d) (o : Step) (e : o ≡ inwardStep s t i a) where
   is : {n : Step} → o ≡ n → walk s t d i a ≡ stepped (λ j b. walk s t (d - 1) j b) s t n
   is f = walk-is s t d i a o h e ∙ ap (stepped (λ j b. walk s t (d - 1) j b) s t) f
 
@@ -64,18 +64,18 @@ module _ (s : List ℕ) (t : State) (d i : ℕ) (a : Around) (h : 0 < d) (o : St
   inward-eq l r j b f = is f
 
   pub call-eq : (l r z : Piece) (g j : TypeIndex) (b : Around) → o ≡ step.Call l r z g j b
-      → walk s t d i a ≡ onto (textOf s l) (textOf s r) (joined (argsIn s t (d - 1) (g .0)) (onto [] (textOf s z) (walk s t (d - 1) (j .0) b)))
+      → walk s t d i a ≡ onto (textOf s l) (textOf s r) (fixedThen (argsIn s t (d - 1) (g .0)) (onto [] (textOf s z) (walk s t (d - 1) (j .0) b)))
   unfolding stepped
   call-eq l r z g j b f = is f
 
 -- ---- no room is asked for what is not printed
 
-pub no-room : {A : Type 0} (w : Walked) (k : ℕ) (q : Refusal) (left right : ℕ) (n : List ℕ) → w ≡ stopped k q → SideRoom w left right n → A
+pub no-room : {A : Type 0} (w : Spelled) (k : ℕ) (q : Refusal) (left right : ℕ) (n : List ℕ) → w ≡ stopped k q → SideRoom w left right n → A
 no-room w k q left right n e h = absurd (false≢true (rw e at (h .prints)))
 
 -- ---- the last piece
 
-module _ (w : Walked) (text l : List ℕ) (left right : ℕ) (h : SideRoom w left right l) (e : w ≡ printed text []) where
+module _ (w : Spelled) (text l : List ℕ) (left right : ℕ) (h : SideRoom w left right l) (e : w ≡ printed text []) where
   pub last-small : length text ≤ left
   last-small = let g : SideRoom (printed text []) left right l = rw e at h in g .low
 
@@ -88,7 +88,7 @@ module _ (w : Walked) (text l : List ℕ) (left right : ℕ) (h : SideRoom w lef
 
 -- ---- a piece on each side
 
-module _ (a b : List ℕ) (w : Walked) (left right : ℕ) (l₀ : List ℕ) (h : SideRoom (onto a b w) left right l₀) where
+module _ (a b : List ℕ) (w : Spelled) (left right : ℕ) (l₀ : List ℕ) (h : SideRoom (onto a b w) left right l₀) where
   pub left-small : length a ≤ left
   left-small = room-left a b left right l₀ w h
 
@@ -110,29 +110,29 @@ module _ (a b : List ℕ) (w : Walked) (left right : ℕ) (l₀ : List ℕ) (h :
 
 -- ---- arguments, and what closes them
 
-module _ (v w : Walked) (c : List ℕ) (left right : ℕ) (l₀ : List ℕ) (h : SideRoom (joined v (onto [] c w)) left right l₀) where
+module _ (v w : Spelled) (c : List ℕ) (left right : ℕ) (l₀ : List ℕ) (h : SideRoom (fixedThen v (onto [] c w)) left right l₀) where
   pub args-room : RowRoom v right l₀
   args-room = row-room left right l₀ v (onto [] c w) h
 
-  module _ (f : ℕ) (l₁ : List ℕ) (p : Puts l₀ right (whole v) f l₁) where
+  module _ (f : ℕ) (l₁ : List ℕ) (p : Puts l₀ right (wholeText v) f l₁) where
     mid : SideRoom (onto [] c w) left f l₀
     mid = row-in left right l₀ v (onto [] c w) f (p .next) h
 
     pub close-fits : Room l₁ f c
-    close-fits = record { room = omega (arith, text-right c left f l₀ w mid, put-length l₀ l₁ (whole v) right f p) }
+    close-fits = record { room = omega (arith, text-right c left f l₀ w mid, put-length l₀ l₁ (wholeText v) right f p) }
 
     module _ (g : ℕ) (l₂ : List ℕ) (q : Puts l₁ f c g l₂) where
       pub after-room : SideRoom w left g l₂
       after-room =
-          let n : length l₂ ≡ length l₀ = put-length l₁ l₂ c f g q ∙ put-length l₀ l₁ (whole v) right f p in
+          let n : length l₂ ≡ length l₀ = put-length l₁ l₂ c f g q ∙ put-length l₀ l₁ (wholeText v) right f p in
           room-len w left g l₀ l₂ n (text-in c left f l₀ w g (q .next) mid)
 
-      pub after-both : (r : ℕ) (l₃ : List ℕ) → Both w l₂ left g r l₃ → Both (joined v (onto [] c w)) l₀ left right r l₃
+      pub after-both : (r : ℕ) (l₃ : List ℕ) → Both w l₂ left g r l₃ → Both (fixedThen v (onto [] c w)) l₀ left right r l₃
       after-both r l₃ z = row-both left right l₀ v (onto [] c w) l₀ l₁ l₃ f r h p (text-both c left f l₀ w l₁ l₂ l₃ g r mid q z)
 
 -- ---- an argument
 
-pub sides : (room m n : ℕ) (w : Walked) → measured.Fits m n ≡ capped room w → (isPrinted w ≡ true) × (m ≡ length (leftOf w)) × (n ≡ length (rightOf w))
+pub sides : (room m n : ℕ) (w : Spelled) → measured.Fits m n ≡ capped room w → (isPrinted w ≡ true) × (m ≡ length (leftOf w)) × (n ≡ length (rightOf w))
 unfolding capped
 sides room m n (printed l r) e = go (ltb room (length l + length r)) e where
   go : (b : Bool) → measured.Fits m n ≡ pick b (measured.Refused refusal.NoRoom) (measured.Fits (length l) (length r)) → (true ≡ true) × (m ≡ length l) × (n ≡ length r)
@@ -143,11 +143,11 @@ sides room m n (stopped k q) e = go (ltb room k) e where
   go true h = (cc, cc, cc)
   go false h = (cc, cc, cc)
 
-length-whole : (w : Walked) → length (whole w) ≡ length (leftOf w) + length (rightOf w)
+length-whole : (w : Spelled) → length (wholeText w) ≡ length (leftOf w) + length (rightOf w)
 length-whole (printed l r) = length-append l r
 length-whole (stopped k q) = refl
 
-module _ (w : Walked) (at : ℕ) (l : List ℕ) (h : RowRoom w at l) where
+module _ (w : Spelled) (at : ℕ) (l : List ℕ) (h : RowRoom w at l) where
   pub argument-fits : (m n : ℕ) → measured.Fits m n ≡ capped (length l - at) w → at + m ≤ length l
   argument-fits m n e = let s = sides (length l - at) m n w e in omega (arith, h .high, length-whole w, s .1)
 
@@ -161,9 +161,9 @@ module _ (w : Walked) (at : ℕ) (l : List ℕ) (h : RowRoom w at l) where
         high = omega (arith, h .high, length-whole w, s .1);
       }
 
-  pub argument-puts : (m n r : ℕ) (l₁ : List ℕ) → measured.Fits m n ≡ capped (length l - at) w → Both w l (at + m) (at + m) r l₁ → Puts l at (whole w) r l₁
+  pub argument-puts : (m n r : ℕ) (l₁ : List ℕ) → measured.Fits m n ≡ capped (length l - at) w → Both w l (at + m) (at + m) r l₁ → Puts l at (wholeText w) r l₁
   argument-puts m n r l₁ e z = go w h (sides (length l - at) m n w e) z where
-    go : (w : Walked) → RowRoom w at l → (isPrinted w ≡ true) × (m ≡ length (leftOf w)) × (n ≡ length (rightOf w)) → Both w l (at + m) (at + m) r l₁ → Puts l at (whole w) r l₁
+    go : (w : Spelled) → RowRoom w at l → (isPrinted w ≡ true) × (m ≡ length (leftOf w)) × (n ≡ length (rightOf w)) → Both w l (at + m) (at + m) r l₁ → Puts l at (wholeText w) r l₁
     go (printed a b) k s y =
         let i : at + m - length a ≡ at = omega (arith, s .1) in
         let j : at + m ≡ at + length a = omega (arith, s .1) in
@@ -176,7 +176,7 @@ module _ (w : Walked) (at : ℕ) (l : List ℕ) (h : RowRoom w at l) where
   pub argument-never : {A : Type 0} (q : Refusal) → measured.Refused q ≡ capped (length l - at) w → A
   unfolding capped
   argument-never q e = absurd (go w h e) where
-    go : (w : Walked) → RowRoom w at l → measured.Refused q ≡ capped (length l - at) w → ⊥
+    go : (w : Spelled) → RowRoom w at l → measured.Refused q ≡ capped (length l - at) w → ⊥
     go (printed a b) k e₁ =
         let f : ltb (length l - at) (length a + length b) ≡ false = le-ltb (length l - at) (length a + length b) (omega (arith, k .high, length-append a b)) in
         let g : measured.Refused q ≡ measured.Fits (length a) (length b) = e₁ ∙ rw f in

@@ -8,13 +8,13 @@ use Rattle.answer.specs.Answer.{Answer, answered, refused, stop}
 use Rattle.answer.specs.Refusals.{no}
 use Rattle.stream_header.specs.Header.{longest}
 use Rattle.stream_finder.specs.Finder.{State}
-use Rattle.declare_walk.specs.Walk.{Walked, printed, stopped, declarationOf}
+use Rattle.declare_walk.specs.Walk.{Spelled, printed, stopped, declarationOf}
 use Rattle.declare_type.specs.declared.DeclareAnswer.{DeclareAnswer}
 use Rattle.declare_type.specs.declared.DeclareAnswer.the-variants as declare
 
 -- In a room of bytes: the text of the definition with no limit on room, or its first refusal; "19 exactly if the bytes that the walk has fixed
 -- pass the room before another is met"
-unfoldable pub textIn : ℕ → Walked → Answer (List ℕ)
+unfoldable pub textIn : ℕ → Spelled → Answer (List ℕ)
 textIn room (printed l r) = stop (ltb room (length (l ++ r))) 19 (answered (l ++ r))
 textIn room (stopped fixed e) = stop (ltb room fixed) 19 (no e)
 
@@ -27,16 +27,16 @@ abbrev pub saidDeclare : DeclareAnswer → Answer ℕ
 saidDeclare (declare.Written n) = answered n
 saidDeclare (declare.Refused e) = no e
 
-abbrev pub lengthOf : Answer (List ℕ) → Answer ℕ
-lengthOf (answered text) = answered (length text)
-lengthOf (refused n d) = refused n d
+abbrev pub textLength : Answer (List ℕ) → Answer ℕ
+textLength (answered text) = answered (length text)
+textLength (refused n d) = refused n d
 
 -- the text over the first bytes of the buffer l; unchanged at a refusal
-abbrev pub bufferAfter : List ℕ → Answer (List ℕ) → List ℕ
-bufferAfter l (answered text) = text ++ drop (length text) l
-bufferAfter l (refused n d) = l
+abbrev pub textBufferAfter : List ℕ → Answer (List ℕ) → List ℕ
+textBufferAfter l (answered text) = text ++ drop (length text) l
+textBufferAfter l (refused n d) = l
 
 -- the contract: a is the definition's answer, l the buffer, r what the function answers, l′ the buffer after it
 pub record Declares (a : Answer (List ℕ)) (l : List ℕ) (r : DeclareAnswer) (l′ : List ℕ) : Type 0 where
-  pub answer : saidDeclare r ≡ lengthOf a
-  pub buffer : l′ ≡ bufferAfter l a
+  pub answer : saidDeclare r ≡ textLength a
+  pub buffer : l′ ≡ textBufferAfter l a

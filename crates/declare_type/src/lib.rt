@@ -1,12 +1,12 @@
 // A type as a C declaration (R-5 of document 02): the walk measures it in the room that the buffer has, and if nothing is refused it is written.
-// `declarator` and `arguments` call each other, the depth left of 32 falling; `argument` stands between them.
+// `write_declarator` and `write_arguments` call each other, the depth left of 32 falling; `write_argument` stands between them.
 ghost use Rattle.stream_finder.specs.Finder.{state};
 ghost use Rattle.field_put.specs.Bytes.{Room, Puts};
 ghost use lib.ListN.{length};
 ghost use Rattle.declare_node.specs.Nodes.{listOf};
 ghost use Rattle.declare_piece.specs.Pieces.{textOf};
-ghost use Rattle.declare_step.specs.Steps.{startOf};
-ghost use Rattle.declare_walk.specs.Walk.{walk, listed, whole};
+ghost use Rattle.declare_step.specs.Steps.{aroundFirst};
+ghost use Rattle.declare_walk.specs.Walk.{walk, overArguments, wholeText};
 ghost use Rattle.declare_type.specs.Sides.{SideRoom, Both, RowRoom};
 ghost use Rattle.declare_type.specs.Declares.{declareOf, Declares};
 use answer::Refusal;
@@ -36,10 +36,10 @@ pub fn declare(s: &[u8], f: ItemFinder, t: &[u32], i: TypeIndex, out: &mut [u8])
         return DeclareAnswer::Refused(Refusal::TooLong);
     }
     let around = declare_step::start();
-    match declare_walk::declarator(s, f, t, i, DEEPEST, around, out.len()) {
+    match declare_walk::measure_declarator(s, f, t, i, DEEPEST, around, out.len()) {
         Measured::Fits(l, r) => {
             let n = l + r;
-            declarator(s, f, t, i, DEEPEST, around, out, l, l);
+            write_declarator(s, f, t, i, DEEPEST, around, out, l, l);
             return DeclareAnswer::Written(n);
         }
         Measured::Refused(e) => {
@@ -58,7 +58,7 @@ fn piece(s: &[u8], p: Piece, out: &mut [u8], at: usize) -> usize
 
 // The declaration of type i, with d types left to nest, where it is known to have room: what goes left of what stands around it ends at one
 // place, what goes right of it starts at another. It gives the place behind the right side.
-fn declarator(
+fn write_declarator(
     s: &[u8],
     f: ItemFinder,
     t: &[u32],
@@ -87,16 +87,16 @@ fn declarator(
             let at = left - n;
             piece(s, l, out, at);
             let e = piece(s, r, out, right);
-            return declarator(s, f, t, j, d - 1, b, out, at, e);
+            return write_declarator(s, f, t, j, d - 1, b, out, at, e);
         }
         Step::Call(l, r, z, g, j, b) => {
             let n = declare_piece::len(s, l);
             let at = left - n;
             piece(s, l, out, at);
             let e = piece(s, r, out, right);
-            let k = arguments(s, f, t, g.0, d - 1, out, e);
+            let k = write_arguments(s, f, t, g.0, d - 1, out, e);
             let c = piece(s, z, out, k);
-            return declarator(s, f, t, j, d - 1, b, out, at, c);
+            return write_declarator(s, f, t, j, d - 1, b, out, at, c);
         }
         Step::Refused(_) => {
             return right;
@@ -105,9 +105,17 @@ fn declarator(
 }
 
 // The arguments of list g from a place on.
-fn arguments(s: &[u8], f: ItemFinder, t: &[u32], g: u32, d: u32, out: &mut [u8], at: usize) -> usize
-    requires { ⌜ RowRoom (listed (λ j. walk (now s) (state f (now t)) d j startOf) (now s) (listOf (now s) (state f (now t)) g)) at (now out) ⌝ }
-    ensures { λ r. ⌜ Puts (now (out .entry)) at (whole (listed (λ j. walk (now (s .entry)) (state f (now (t .entry))) d j startOf) (now (s .entry)) (listOf (now (s .entry)) (state f (now (t .entry))) g))) r (now (out .exit)) ⌝ }
+fn write_arguments(
+    s: &[u8],
+    f: ItemFinder,
+    t: &[u32],
+    g: u32,
+    d: u32,
+    out: &mut [u8],
+    at: usize,
+) -> usize
+    requires { ⌜ RowRoom (overArguments (λ j. walk (now s) (state f (now t)) d j aroundFirst) (now s) (listOf (now s) (state f (now t)) g)) at (now out) ⌝ }
+    ensures { λ r. ⌜ Puts (now (out .entry)) at (wholeText (overArguments (λ j. walk (now (s .entry)) (state f (now (t .entry))) d j aroundFirst) (now (s .entry)) (listOf (now (s .entry)) (state f (now (t .entry))) g))) r (now (out .exit)) ⌝ }
 {
     match declare_node::list_of(s, f, t, TypeIndex(g)) {
         Arguments::At(p, n) => {
@@ -115,13 +123,13 @@ fn arguments(s: &[u8], f: ItemFinder, t: &[u32], g: u32, d: u32, out: &mut [u8],
                 return piece(s, Piece::Void, out, at);
             }
             let first = declare_node::index_at(s, p);
-            let mut e = argument(s, f, t, first, d, out, at);
+            let mut e = write_argument(s, f, t, first, d, out, at);
             let mut q = p + 4;
             let mut left = n - 1;
             while left > 0 {
                 let k = piece(s, Piece::Comma, out, e);
                 let next = declare_node::index_at(s, q);
-                e = argument(s, f, t, next, d, out, k);
+                e = write_argument(s, f, t, next, d, out, k);
                 q = q + 4;
                 left = left - 1;
             }
@@ -134,7 +142,7 @@ fn arguments(s: &[u8], f: ItemFinder, t: &[u32], g: u32, d: u32, out: &mut [u8],
 }
 
 // An argument from a place on: it is measured again, to know where its two sides meet.
-fn argument(
+fn write_argument(
     s: &[u8],
     f: ItemFinder,
     t: &[u32],
@@ -143,15 +151,15 @@ fn argument(
     out: &mut [u8],
     at: usize,
 ) -> usize
-    requires { ⌜ RowRoom (walk (now s) (state f (now t)) d (i .0) startOf) at (now out) ⌝ }
-    ensures { λ r. ⌜ Puts (now (out .entry)) at (whole (walk (now (s .entry)) (state f (now (t .entry))) d (i .0) startOf)) r (now (out .exit)) ⌝ }
+    requires { ⌜ RowRoom (walk (now s) (state f (now t)) d (i .0) aroundFirst) at (now out) ⌝ }
+    ensures { λ r. ⌜ Puts (now (out .entry)) at (wholeText (walk (now (s .entry)) (state f (now (t .entry))) d (i .0) aroundFirst)) r (now (out .exit)) ⌝ }
 {
     let around = declare_step::start();
     let room = out.len() - at;
-    match declare_walk::declarator(s, f, t, i, d, around, room) {
+    match declare_walk::measure_declarator(s, f, t, i, d, around, room) {
         Measured::Fits(l, _) => {
             let m = at + l;
-            return declarator(s, f, t, i, d, around, out, m, m);
+            return write_declarator(s, f, t, i, d, around, out, m, m);
         }
         Measured::Refused(_) => {
             return at;

@@ -12,7 +12,7 @@ use Rattle.answer.specs.declared.Refusal.{Refusal}
 use Rattle.answer.specs.declared.Refusal.the-variants as refusal
 use Rattle.declare_walk.specs.declared.Measured.{Measured}
 use Rattle.declare_walk.specs.declared.Measured.the-variants as measured
-use Rattle.declare_walk.specs.Walk.{Walked, printed, stopped, onto, joined, capped}
+use Rattle.declare_walk.specs.Walk.{Spelled, printed, stopped, onto, fixedThen, capped}
 
 -- with x more bytes on the left and y more on the right
 abbrev pub grown : ℕ → ℕ → Measured → Measured
@@ -35,13 +35,13 @@ grown-refused x y true e f = refl
 grown-refused x y false e f = refl
 
 -- what is fixed passes the room
-pub over : (r : ℕ) (a b : List ℕ) (w : Walked) → r < length a + length b → capped r (onto a b w) ≡ measured.Refused refusal.NoRoom
+pub over : (r : ℕ) (a b : List ℕ) (w : Spelled) → r < length a + length b → capped r (onto a b w) ≡ measured.Refused refusal.NoRoom
 unfolding capped onto
 over r a b (printed l m) h = rw (length-append l a, length-append b m, lt-ltb r (length l + length a + (length b + length m)) (omega arith))
 over r a b (stopped k e) h = rw (lt-ltb r (length a + length b + k) (omega arith))
 
 -- or it does not, and the rest has that much less
-pub within : (r x y : ℕ) (a b : List ℕ) (w : Walked) → x ≡ length a → y ≡ length b → x + y ≤ r → capped r (onto a b w) ≡ grown x y (capped (r - x - y) w)
+pub within : (r x y : ℕ) (a b : List ℕ) (w : Spelled) → x ≡ length a → y ≡ length b → x + y ≤ r → capped r (onto a b w) ≡ grown x y (capped (r - x - y) w)
 unfolding capped onto
 within r x y a b (printed l m) ex ey h =
     let e : ltb r (length l + length a + (length b + length m)) ≡ ltb (r - x - y) (length l + length m) =
@@ -52,13 +52,13 @@ within r x y a b (stopped k e) ex ey h =
     rw (f, grown-refused)
 
 -- the same of a text on the right
-pub within-right : (r y : ℕ) (b : List ℕ) (w : Walked) → y ≡ length b → y ≤ r → capped r (onto [] b w) ≡ grown 0 y (capped (r - y) w)
+pub within-right : (r y : ℕ) (b : List ℕ) (w : Spelled) → y ≡ length b → y ≤ r → capped r (onto [] b w) ≡ grown 0 y (capped (r - y) w)
 within-right r y b w ey h =
     let z : r - y ≡ r - 0 - y = omega arith in
     rw z (within r 0 y [] b w refl ey (omega arith))
 
 -- what fits is within the room
-pub fits-within : (r m n : ℕ) (w : Walked) → measured.Fits m n ≡ capped r w → m + n ≤ r
+pub fits-within : (r m n : ℕ) (w : Spelled) → measured.Fits m n ≡ capped r w → m + n ≤ r
 unfolding capped
 fits-within r m n (printed l t) e = go (ltb r (length l + length t)) refl e where
   go : (b : Bool) → ltb r (length l + length t) ≡ b → measured.Fits m n ≡ pick b (measured.Refused refusal.NoRoom) (measured.Fits (length l) (length t)) → m + n ≤ r
@@ -73,8 +73,8 @@ fits-within r m n (stopped k q) e = go (ltb r k) e where
   go false h = let z : _≡_ {A = ℕ} 0 1 = cc in omega arith
 
 -- a whole text that fits, and what comes after it
-pub joined-fits : (r m n : ℕ) (v w : Walked) → measured.Fits m n ≡ capped r v → capped r (joined v w) ≡ grown 0 (m + n) (capped (r - (m + n)) w)
-unfolding capped joined
+pub joined-fits : (r m n : ℕ) (v w : Spelled) → measured.Fits m n ≡ capped r v → capped r (fixedThen v w) ≡ grown 0 (m + n) (capped (r - (m + n)) w)
+unfolding capped fixedThen
 joined-fits r m n (printed l t) w e = go (ltb r (length l + length t)) refl e where
   go : (b : Bool) → ltb r (length l + length t) ≡ b → measured.Fits m n ≡ pick b (measured.Refused refusal.NoRoom) (measured.Fits (length l) (length t))
       → capped r (onto [] (l ++ t) w) ≡ grown 0 (m + n) (capped (r - (m + n)) w)
@@ -91,8 +91,8 @@ joined-fits r m n (stopped k q) w e = go (ltb r k) e where
   go false h = cc
 
 -- a text that is refused
-pub joined-refused : (r : ℕ) (q : Refusal) (v w : Walked) → measured.Refused q ≡ capped r v → measured.Refused q ≡ capped r (joined v w)
-unfolding capped joined
+pub joined-refused : (r : ℕ) (q : Refusal) (v w : Spelled) → measured.Refused q ≡ capped r v → measured.Refused q ≡ capped r (fixedThen v w)
+unfolding capped fixedThen
 joined-refused r q (printed l t) w e = go (ltb r (length l + length t)) refl e where
   go : (b : Bool) → ltb r (length l + length t) ≡ b → measured.Refused q ≡ pick b (measured.Refused refusal.NoRoom) (measured.Fits (length l) (length t))
       → measured.Refused q ≡ capped r (onto [] (l ++ t) w)

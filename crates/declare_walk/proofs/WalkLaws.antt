@@ -23,12 +23,12 @@ use Rattle.declare_step.specs.declared.Step.the-variants as step
 use Rattle.declare_walk.specs.declared.Measured.{Measured}
 use Rattle.declare_walk.specs.declared.Measured.the-variants as measured
 use Rattle.declare_piece.specs.Pieces.{textOf}
-use Rattle.declare_step.specs.Steps.{startOf, stepOf}
-use Rattle.declare_walk.specs.Walk.{Walked, printed, stopped, onto, joined, restOf, argumentsOf, listed, stepped, walk, capped}
+use Rattle.declare_step.specs.Steps.{aroundFirst, inwardStep}
+use Rattle.declare_walk.specs.Walk.{Spelled, printed, stopped, onto, fixedThen, restOf, argumentsOf, overArguments, stepped, walk, capped}
 use Rattle.declare_walk.proofs.RoomLaws.{grown, over, within, within-right, joined-fits, joined-refused}
 
 -- a type that may be looked up
-pub walk-is : (s : List ℕ) (t : State) (d i : ℕ) (a : Around) (o : Step) → 0 < d → o ≡ stepOf s t i a → walk s t d i a ≡ stepped (λ j b. walk s t (d - 1) j b) s t o
+pub walk-is : (s : List ℕ) (t : State) (d i : ℕ) (a : Around) (o : Step) → 0 < d → o ≡ inwardStep s t i a → walk s t d i a ≡ stepped (λ j b. walk s t (d - 1) j b) s t o
 unfolding walk
 walk-is s t d i a o h e =
     let f : d ≡ suc (d - 1) = omega arith in
@@ -39,10 +39,10 @@ unfolding walk capped
 too-deep s t d i room a e = rw (e, le-ltb room 0 (omega arith))
 
 -- the arguments of list g
-abbrev pub argsIn : List ℕ → State → ℕ → ℕ → Walked
-argsIn s t d g = listed (λ j. walk s t d j startOf) s (listOf s t g)
+abbrev pub argsIn : List ℕ → State → ℕ → ℕ → Spelled
+argsIn s t d g = overArguments (λ j. walk s t d j aroundFirst) s (listOf s t g)
 
-module _ (s : List ℕ) (t : State) (d i room : ℕ) (a : Around) (h : 0 < d) (o : Step) (e : o ≡ stepOf s t i a) where
+module _ (s : List ℕ) (t : State) (d i room : ℕ) (a : Around) (h : 0 < d) (o : Step) (e : o ≡ inwardStep s t i a) where
   -- the step, in the room
   by : {n : Step} → o ≡ n → capped room (walk s t d i a) ≡ capped room (stepped (λ j b. walk s t (d - 1) j b) s t n)
   by f = ap (capped room) (walk-is s t d i a o h e ∙ ap (stepped (λ j b. walk s t (d - 1) j b) s t) f)
@@ -75,7 +75,7 @@ module _ (s : List ℕ) (t : State) (d i room : ℕ) (a : Around) (h : 0 < d) (o
     call-over k = sym (by f ∙ over room (textOf s l) (textOf s r) _ k)
 
     module _ (x y : ℕ) (ex : x ≡ length (textOf s l)) (ey : y ≡ length (textOf s r)) (k : x + y ≤ room) where
-      inside : capped room (walk s t d i a) ≡ grown x y (capped (room - x - y) (joined (argsIn s t (d - 1) (g .0)) (onto [] (textOf s z) (walk s t (d - 1) (j .0) b))))
+      inside : capped room (walk s t d i a) ≡ grown x y (capped (room - x - y) (fixedThen (argsIn s t (d - 1) (g .0)) (onto [] (textOf s z) (walk s t (d - 1) (j .0) b))))
       unfolding stepped
       inside = by f ∙ within room x y (textOf s l) (textOf s r) _ ex ey k
 
@@ -106,46 +106,46 @@ twice x y (measured.Fits m n) =
     rw (e, f)
 twice x y (measured.Refused e) = refl
 
-module _ (f : ℕ → Walked) (s : List ℕ) (t : State) (g room : ℕ) (o : Arguments) (e : o ≡ listOf s t g) where
-  pub list-refused : (q : Refusal) → o ≡ arguments.Refused q → measured.Refused q ≡ capped room (listed f s (listOf s t g))
-  unfolding listed capped
+module _ (f : ℕ → Spelled) (s : List ℕ) (t : State) (g room : ℕ) (o : Arguments) (e : o ≡ listOf s t g) where
+  pub list-refused : (q : Refusal) → o ≡ arguments.Refused q → measured.Refused q ≡ capped room (overArguments f s (listOf s t g))
+  unfolding overArguments capped
   list-refused q h = rw (sym e ∙ h, le-ltb room 0 (omega arith))
 
   module _ (p n : ℕ) (h : o ≡ arguments.At p n) where
-    at : capped room (listed f s (listOf s t g)) ≡ capped room (argumentsOf f s p n)
-    unfolding listed
+    at : capped room (overArguments f s (listOf s t g)) ≡ capped room (argumentsOf f s p n)
+    unfolding overArguments
     at = rw (sym e ∙ h)
 
-    pub void-over : n ≡ 0 → room < 4 → measured.Refused refusal.NoRoom ≡ capped room (listed f s (listOf s t g))
+    pub void-over : n ≡ 0 → room < 4 → measured.Refused refusal.NoRoom ≡ capped room (overArguments f s (listOf s t g))
     unfolding argumentsOf capped textOf
     void-over z k = rw (at, z, lt-ltb room 4 k)
 
-    pub void-fits : n ≡ 0 → 4 ≤ room → measured.Fits 0 4 ≡ capped room (listed f s (listOf s t g))
+    pub void-fits : n ≡ 0 → 4 ≤ room → measured.Fits 0 4 ≡ capped room (overArguments f s (listOf s t g))
     unfolding argumentsOf capped textOf
     void-fits z k = rw (at, z, le-ltb room 4 k)
 
-    some : 0 < n → capped room (listed f s (listOf s t g)) ≡ capped room (joined (f (indexAt s p .0)) (restOf f s (p + 4) (n - 1)))
+    some : 0 < n → capped room (overArguments f s (listOf s t g)) ≡ capped room (fixedThen (f (indexAt s p .0)) (restOf f s (p + 4) (n - 1)))
     unfolding argumentsOf
     some z =
         let m : n ≡ suc (n - 1) = omega arith in
         at ∙ ap (λ k. capped room (argumentsOf f s p k)) m
 
-    pub first-refused : (q : Refusal) → 0 < n → measured.Refused q ≡ capped room (f (indexAt s p .0)) → measured.Refused q ≡ capped room (listed f s (listOf s t g))
+    pub first-refused : (q : Refusal) → 0 < n → measured.Refused q ≡ capped room (f (indexAt s p .0)) → measured.Refused q ≡ capped room (overArguments f s (listOf s t g))
     first-refused q z k = joined-refused room q (f (indexAt s p .0)) _ k ∙ sym (some z)
 
     pub first-fits : (u v : ℕ) → 0 < n → measured.Fits u v ≡ capped room (f (indexAt s p .0))
-        → capped room (listed f s (listOf s t g)) ≡ grown 0 (u + v) (capped (room - (u + v)) (restOf f s (p + 4) (n - 1)))
+        → capped room (overArguments f s (listOf s t g)) ≡ grown 0 (u + v) (capped (room - (u + v)) (restOf f s (p + 4) (n - 1)))
     first-fits u v z k = some z ∙ joined-fits room u v (f (indexAt s p .0)) _ k
 
 -- the rest of a list, behind `fixed` bytes
-module _ (f : ℕ → Walked) (s : List ℕ) (room fixed at left : ℕ) (w : Measured) (i : w ≡ grown 0 fixed (capped (room - fixed) (restOf f s at left))) where
+module _ (f : ℕ → Spelled) (s : List ℕ) (room fixed at left : ℕ) (w : Measured) (i : w ≡ grown 0 fixed (capped (room - fixed) (restOf f s at left))) where
   pub rest-done : left ≡ 0 → measured.Fits 0 fixed ≡ w
   unfolding restOf capped
   rest-done z =
       let e : fixed + 0 ≡ fixed = omega arith in
       rw (i, z, le-ltb (room - fixed) 0 (omega arith), e)
 
-  next : 0 < left → w ≡ grown 0 fixed (capped (room - fixed) (onto [] (textOf s piece.Comma) (joined (f (indexAt s at .0)) (restOf f s (at + 4) (left - 1)))))
+  next : 0 < left → w ≡ grown 0 fixed (capped (room - fixed) (onto [] (textOf s piece.Comma) (fixedThen (f (indexAt s at .0)) (restOf f s (at + 4) (left - 1)))))
   unfolding restOf
   next z =
       let m : left ≡ suc (left - 1) = omega arith in
@@ -155,11 +155,11 @@ module _ (f : ℕ → Walked) (s : List ℕ) (room fixed at left : ℕ) (w : Mea
   unfolding textOf
   rest-over z k = sym (next z ∙ ap (grown 0 fixed) (over (room - fixed) [] (textOf s piece.Comma) _ k))
 
-  comma : 0 < left → 2 ≤ room - fixed → w ≡ grown 0 (fixed + 2) (capped (room - fixed - 2) (joined (f (indexAt s at .0)) (restOf f s (at + 4) (left - 1))))
+  comma : 0 < left → 2 ≤ room - fixed → w ≡ grown 0 (fixed + 2) (capped (room - fixed - 2) (fixedThen (f (indexAt s at .0)) (restOf f s (at + 4) (left - 1))))
   unfolding textOf
   comma z k =
-      next z ∙ ap (grown 0 fixed) (within-right (room - fixed) 2 (textOf s piece.Comma) (joined (f (indexAt s at .0)) (restOf f s (at + 4) (left - 1))) refl k)
-      ∙ twice fixed 2 (capped (room - fixed - 2) (joined (f (indexAt s at .0)) (restOf f s (at + 4) (left - 1))))
+      next z ∙ ap (grown 0 fixed) (within-right (room - fixed) 2 (textOf s piece.Comma) (fixedThen (f (indexAt s at .0)) (restOf f s (at + 4) (left - 1))) refl k)
+      ∙ twice fixed 2 (capped (room - fixed - 2) (fixedThen (f (indexAt s at .0)) (restOf f s (at + 4) (left - 1))))
 
   pub rest-refused : (q : Refusal) → 0 < left → 2 ≤ room - fixed → measured.Refused q ≡ capped (room - fixed - 2) (f (indexAt s at .0)) → measured.Refused q ≡ w
   rest-refused q z k h = ap (grown 0 (fixed + 2)) (joined-refused (room - fixed - 2) q (f (indexAt s at .0)) _ h) ∙ sym (comma z k)

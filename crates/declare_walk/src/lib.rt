@@ -3,8 +3,8 @@
 ghost use mathlib.Core.Path.{_≡_};
 ghost use Rattle.stream_finder.specs.Finder.{state};
 ghost use Rattle.declare_node.specs.Nodes.{listOf};
-ghost use Rattle.declare_step.specs.Steps.{startOf};
-ghost use Rattle.declare_walk.specs.Walk.{walk, listed, capped};
+ghost use Rattle.declare_step.specs.Steps.{aroundFirst};
+ghost use Rattle.declare_walk.specs.Walk.{walk, overArguments, capped};
 use answer::Refusal;
 use declare_node::Arguments;
 use declare_step::Around;
@@ -20,7 +20,7 @@ pub enum Measured {
 
 // How many bytes the declaration of type i has left and right of what stands around it, with d types left to nest, in a room of bytes; or why
 // it is refused, 19 as soon as the room is passed: a text that would be too long costs no more steps than the room and the depth allow.
-pub fn declarator(
+pub fn measure_declarator(
     s: &[u8],
     f: ItemFinder,
     t: &[u32],
@@ -51,7 +51,7 @@ pub fn declarator(
             if room - x < y {
                 return Measured::Refused(Refusal::NoRoom);
             }
-            match declarator(s, f, t, j, d - 1, b, room - x - y) {
+            match measure_declarator(s, f, t, j, d - 1, b, room - x - y) {
                 Measured::Fits(m, n) => {
                     let left = m + x;
                     let right = y + n;
@@ -71,7 +71,7 @@ pub fn declarator(
             if room - x < y {
                 return Measured::Refused(Refusal::NoRoom);
             }
-            match arguments(s, f, t, g.0, d - 1, room - x - y) {
+            match measure_arguments(s, f, t, g.0, d - 1, room - x - y) {
                 Measured::Fits(u, v) => {
                     let w = u + v;
                     let more = room - x - y - w;
@@ -79,7 +79,7 @@ pub fn declarator(
                     if more < z {
                         return Measured::Refused(Refusal::NoRoom);
                     }
-                    match declarator(s, f, t, j, d - 1, b, more - z) {
+                    match measure_declarator(s, f, t, j, d - 1, b, more - z) {
                         Measured::Fits(m, n) => {
                             let left = m + x;
                             let right = y + (w + (z + n));
@@ -102,8 +102,8 @@ pub fn declarator(
 }
 
 // The arguments of list g, from left to right.
-fn arguments(s: &[u8], f: ItemFinder, t: &[u32], g: u32, d: u32, room: usize) -> Measured
-    ensures { λ r. ⌜ r ≡ capped room (listed (λ j. walk (now (s .entry)) (state f (now (t .entry))) d j startOf) (now (s .entry)) (listOf (now (s .entry)) (state f (now (t .entry))) g)) ⌝ }
+fn measure_arguments(s: &[u8], f: ItemFinder, t: &[u32], g: u32, d: u32, room: usize) -> Measured
+    ensures { λ r. ⌜ r ≡ capped room (overArguments (λ j. walk (now (s .entry)) (state f (now (t .entry))) d j aroundFirst) (now (s .entry)) (listOf (now (s .entry)) (state f (now (t .entry))) g)) ⌝ }
 {
     match declare_node::list_of(s, f, t, TypeIndex(g)) {
         Arguments::At(p, n) => {
@@ -115,7 +115,7 @@ fn arguments(s: &[u8], f: ItemFinder, t: &[u32], g: u32, d: u32, room: usize) ->
             }
             let first = declare_node::index_at(s, p);
             let around = declare_step::start();
-            match declarator(s, f, t, first, d, around, room) {
+            match measure_declarator(s, f, t, first, d, around, room) {
                 Measured::Fits(u, v) => {
                     let mut fixed = u + v;
                     let mut at = p + 4;
@@ -127,7 +127,7 @@ fn arguments(s: &[u8], f: ItemFinder, t: &[u32], g: u32, d: u32, room: usize) ->
                         }
                         let next = declare_node::index_at(s, at);
                         let bare = declare_step::start();
-                        match declarator(s, f, t, next, d, bare, more - 2) {
+                        match measure_declarator(s, f, t, next, d, bare, more - 2) {
                             Measured::Fits(x, y) => {
                                 fixed = fixed + (2 + (x + y));
                                 at = at + 4;

@@ -1,6 +1,8 @@
-// The house spellings of R-5 of document 02, each a table: indirections, modes of pointers, qualifiers; those of the kinds are in declare_kind.
+// The house spellings of R-5 of document 02, each a table: indirections, modes of pointers, qualifiers; those of the kinds are in kind.rt.
 // Beside them what a declaration is spelled from and no lookup is needed for: qualifiers, and an array's extent.
 // specs/Spellings.antt has all of them as definitions, specs/Words.antt how a text stands in a word.
+pub mod kind;
+
 ghost use Rattle.declare_word.specs.Spellings.{byText, modeText, qualsText};
 ghost use Rattle.declare_word.specs.Words.{Spells};
 use word_primitive::Indirection;
@@ -26,7 +28,7 @@ pub struct Word {
 }
 
 // An indirection, as the piece that stands before what the primitive declares.
-pub fn by(y: Indirection) -> Word
+pub fn indirection(y: Indirection) -> Word
     ensures { λ r. ⌜ Spells r (byText y) ⌝ }
 {
     match y {

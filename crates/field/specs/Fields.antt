@@ -4,7 +4,7 @@ use mathlib.Core.List.{List}
 use lib.ListN.{length, getD}
 use lib.Dec.{leb, ltb}
 use lib.IntN.{ℤ, pos, negsuc}
-use Rattle.answer.specs.Answer.{Answer, Read, got, ended, pick, and-then}
+use Rattle.answer.specs.Answer.{Read, got, ended, pick, and-then}
 use Rattle.field.specs.declared.fixed.Read8.{Read8}
 use Rattle.field.specs.declared.fixed.Read8.the-variants as r8
 use Rattle.field.specs.declared.fixed.Read16.{Read16}

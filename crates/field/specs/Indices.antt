@@ -3,7 +3,7 @@
 use Prim.Native.Nat.{ℕ}
 use mathlib.Core.List.{List, [], _∷_}
 use mathlib.Core.Option.{Option, none, some}
-use Rattle.answer.specs.Answer.{Answer, Read, got, ended, pick, and-then}
+use Rattle.answer.specs.Answer.{Read, got, ended, pick, and-then}
 use Rattle.answer.specs.Tables.{among}
 use Rattle.field.specs.Fields.{fixedAt}
 use Rattle.field.specs.declared.index.Stream.{Stream}
@@ -34,9 +34,9 @@ abbrev pub streamIn : ItemIndex → Stream
 streamIn (index.Types i) = stream.Types
 streamIn (index.Ids i) = stream.Ids
 
-abbrev pub numberIn : ItemIndex → ℕ
-numberIn (index.Types i) = i .0
-numberIn (index.Ids i) = i .0
+abbrev pub indexNumber : ItemIndex → ℕ
+indexNumber (index.Types i) = i .0
+indexNumber (index.Ids i) = i .0
 
 -- where an optional type index is none, and where an optional id index is
 abbrev pub noType : List ℕ

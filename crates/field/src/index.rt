@@ -2,7 +2,7 @@
 // given for another; and the tag that says in which of the two streams an item counts. An optional index is none at the numbers that document 01 names.
 ghost use mathlib.Core.Path.{_≡_};
 ghost use lib.Dec.{leb};
-ghost use Rattle.field.specs.Indices.{saidType, saidId, saidStringRef, optionalOf, noType, noId, optionalAt, typeOption, idOption, saidOptType, saidOptId, indexIn, streamIn, numberIn};
+ghost use Rattle.field.specs.Indices.{saidType, saidId, saidStringRef, optionalOf, noType, noId, optionalAt, typeOption, idOption, saidOptType, saidOptId, indexIn, streamIn, indexNumber};
 ghost use Rattle.field.specs.Fields.{fixedAt};
 use crate::fixed;
 use crate::fixed::Read32;
@@ -89,7 +89,7 @@ impl ItemIndex {
 
     // The index as 01's table reports it.
     pub fn number(self) -> u32
-        ensures { λ r. ⌜ r ≡ numberIn self ⌝ }
+        ensures { λ r. ⌜ r ≡ indexNumber self ⌝ }
     {
         match self {
             ItemIndex::Types(i) => i.0,

@@ -16,11 +16,11 @@ use Rattle.field.specs.Bytes.{bytes}
 use Rattle.field.proofs.FieldLaws.{little-below, field-got}
 use Rattle.field.proofs.ByteLaws.{length-bytes, Stands, first, next, fixed-back}
 use Rattle.field_number.specs.Numbers.{Wide, signed, unsigned, prefixes, unsignedAt, wideAt, numericAt, natural, sizeAt}
-use Rattle.field_number.specs.Forms.{wide, shortest, carried, Form, formOf, Numeral, numeralBy, numeralAt, sizedBy, sizedAt, AllBytes}
+use Rattle.field_number.specs.Forms.{prefixed, shortest, carried, Form, formOf, Numeral, numeralBy, numeralAt, sizedBy, sizedAt, AllBytes}
 
 -- How long the shortest form is -------------------------------------------------------------------------------------------------
 
-wide-length : (prefix k n : ℕ) → length (wide prefix k n) ≡ 2 + k
+wide-length : (prefix k n : ℕ) → length (prefixed prefix k n) ≡ 2 + k
 wide-length prefix k n = length-append (bytes 2 prefix) (bytes k n) ∙ rw (length-bytes 2 prefix, length-bytes k n)
 
 module _ (n : ℕ) where
@@ -337,23 +337,23 @@ module _ (s : List ℕ) (p : ℕ) (ys : List ℕ) where
   wide-back : (prefix k x : ℕ) (z : ℤ) (how : Wide) → find prefix prefixes ≡ some how
       → ltb prefix 0x8000 ≡ false → prefix < 256 ^ 2 → x < 256 ^ k
       → ((q e : ℕ) → fixedAt k s q ≡ got x e → wideAt (some how) s q ≡ got z e)
-      → Stands s p (wide prefix k x) ys → numericAt s p ≡ got z (p + length (wide prefix k x))
+      → Stands s p (prefixed prefix k x) ys → numericAt s p ≡ got z (p + length (prefixed prefix k x))
   unfolding numericAt
   wide-back prefix k x z how t b h hx g st =
       let f = first s p (bytes 2 prefix) (bytes k x) ys st in
       let n = next s p (bytes 2 prefix) (bytes k x) ys st in
       let q = p + length (bytes 2 prefix) in
-      let l : q + length (bytes k x) ≡ p + length (wide prefix k x) = omega (arith, length-append (bytes 2 prefix) (bytes k x)) in
+      let l : q + length (bytes k x) ≡ p + length (prefixed prefix k x) = omega (arith, length-append (bytes 2 prefix) (bytes k x)) in
       rw (fixed-back 2 prefix s p (bytes k x ++ ys) h f, b, t, g q _ (fixed-back k x s q ys hx n), l)
 
   unsigned-back : (prefix k n : ℕ) → find prefix prefixes ≡ some (unsigned k) → ltb prefix 0x8000 ≡ false → prefix < 256 ^ 2 → n < 256 ^ k
-      → Stands s p (wide prefix k n) ys → numericAt s p ≡ got (pos n) (p + length (wide prefix k n))
+      → Stands s p (prefixed prefix k n) ys → numericAt s p ≡ got (pos n) (p + length (prefixed prefix k n))
   unfolding unsignedAt
   unsigned-back prefix k n t b h hn st = wide-back prefix k n (pos n) (unsigned k) t b h hn (λ q e f. rw f) st
 
   signed-back : (prefix k n half : ℕ) → find prefix prefixes ≡ some (signed k) → ltb prefix 0x8000 ≡ false → prefix < 256 ^ 2
       → 2 ^ (8 * k - 1) ≡ half → 2 ^ (8 * k) ≡ 2 * half → 256 ^ k ≡ 2 * half → n < half
-      → Stands s p (wide prefix k (2 * half - suc n)) ys → numericAt s p ≡ got (negsuc n) (p + length (wide prefix k (2 * half - suc n)))
+      → Stands s p (prefixed prefix k (2 * half - suc n)) ys → numericAt s p ≡ got (negsuc n) (p + length (prefixed prefix k (2 * half - suc n)))
   unfolding signedAt
   signed-back prefix k n half t b h e1 e2 e3 hn st =
       let x = 2 * half - suc n in
@@ -367,8 +367,8 @@ module _ (s : List ℕ) (p : ℕ) (ys : List ℕ) where
 
   -- a number, at each outcome of the three tests that choose its form
   natural-forms : (n : ℕ) → n < 2 ^ 64 → (a : Bool) → ltb n 0x8000 ≡ a → (b : Bool) → ltb n (2 ^ 16) ≡ b → (c : Bool) → ltb n (2 ^ 32) ≡ c
-      → Stands s p (pick a (bytes 2 n) (pick b (wide 0x8002 2 n) (pick c (wide 0x8004 4 n) (wide 0x800a 8 n)))) ys
-      → numericAt s p ≡ got (pos n) (p + length (pick a (bytes 2 n) (pick b (wide 0x8002 2 n) (pick c (wide 0x8004 4 n) (wide 0x800a 8 n)))))
+      → Stands s p (pick a (bytes 2 n) (pick b (prefixed 0x8002 2 n) (pick c (prefixed 0x8004 4 n) (prefixed 0x800a 8 n)))) ys
+      → numericAt s p ≡ got (pos n) (p + length (pick a (bytes 2 n) (pick b (prefixed 0x8002 2 n) (pick c (prefixed 0x8004 4 n) (prefixed 0x800a 8 n)))))
   unfolding find prefixes
   natural-forms n h true ea b eb c ec st = plain-back n ea st
   natural-forms n h false ea true eb c ec st = unsigned-back 0x8002 2 n refl refl (omega arith) (omega (arith, ltb-true n (2 ^ 16) eb)) st
@@ -376,8 +376,8 @@ module _ (s : List ℕ) (p : ℕ) (ys : List ℕ) where
   natural-forms n h false ea false eb false ec st = unsigned-back 0x800a 8 n refl refl (omega arith) (omega arith) st
 
   negative-forms : (n : ℕ) → n < 2 ^ 63 → (a : Bool) → ltb n (2 ^ 7) ≡ a → (b : Bool) → ltb n (2 ^ 15) ≡ b → (c : Bool) → ltb n (2 ^ 31) ≡ c
-      → Stands s p (pick a (wide 0x8000 1 (2 ^ 8 - suc n)) (pick b (wide 0x8001 2 (2 ^ 16 - suc n)) (pick c (wide 0x8003 4 (2 ^ 32 - suc n)) (wide 0x8009 8 (2 ^ 64 - suc n))))) ys
-      → numericAt s p ≡ got (negsuc n) (p + length (pick a (wide 0x8000 1 (2 ^ 8 - suc n)) (pick b (wide 0x8001 2 (2 ^ 16 - suc n)) (pick c (wide 0x8003 4 (2 ^ 32 - suc n)) (wide 0x8009 8 (2 ^ 64 - suc n))))))
+      → Stands s p (pick a (prefixed 0x8000 1 (2 ^ 8 - suc n)) (pick b (prefixed 0x8001 2 (2 ^ 16 - suc n)) (pick c (prefixed 0x8003 4 (2 ^ 32 - suc n)) (prefixed 0x8009 8 (2 ^ 64 - suc n))))) ys
+      → numericAt s p ≡ got (negsuc n) (p + length (pick a (prefixed 0x8000 1 (2 ^ 8 - suc n)) (pick b (prefixed 0x8001 2 (2 ^ 16 - suc n)) (pick c (prefixed 0x8003 4 (2 ^ 32 - suc n)) (prefixed 0x8009 8 (2 ^ 64 - suc n))))))
   unfolding find prefixes
   negative-forms n h true ea b eb c ec st = signed-back 0x8000 1 n (2 ^ 7) refl refl (omega arith) refl refl refl (ltb-true n (2 ^ 7) ea) st
   negative-forms n h false ea true eb c ec st = signed-back 0x8001 2 n (2 ^ 15) refl refl (omega arith) refl refl refl (ltb-true n (2 ^ 15) eb) st

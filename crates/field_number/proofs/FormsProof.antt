@@ -16,7 +16,7 @@ use Rattle.field.specs.Fields.{littleAt}
 use Rattle.field.specs.Bytes.{bytes}
 use Rattle.field.proofs.ByteLaws.{Stands, stands, bytes-small}
 use Rattle.field_number.specs.Numbers.{prefixes, numericAt}
-use Rattle.field_number.specs.Forms.{wide, shortest, carried, Form, formOf, Numeral, numeralBy, numeralAt, AllBytes, isSigned, Reads, ShortestForm, WidthSaid, AsBefore}
+use Rattle.field_number.specs.Forms.{prefixed, shortest, carried, Form, formOf, Numeral, numeralBy, numeralAt, AllBytes, isSigned, Reads, ShortestForm, WidthSaid, AsBefore}
 use Rattle.field_number.proofs.FormLaws.{refusal, fewest, read-carried, numeric-took, numeric-back, numerals-before, sizes-before}
 
 -- Unsigned first -----------------------------------------------------------------------------------------------------------------
@@ -43,7 +43,7 @@ unfolding shortest littleAt bytes find prefixes
 unsigned-first n = go (ltb n 0x8000) refl (ltb n (2 ^ 16)) (ltb n (2 ^ 32))
   where
     go : (a : Bool) → ltb n 0x8000 ≡ a → (b c : Bool)
-        → isSigned (find (littleAt 2 (pick a (bytes 2 n) (pick b (wide 0x8002 2 n) (pick c (wide 0x8004 4 n) (wide 0x800a 8 n)))) 0) prefixes) ≡ false
+        → isSigned (find (littleAt 2 (pick a (bytes 2 n) (pick b (prefixed 0x8002 2 n) (pick c (prefixed 0x8004 4 n) (prefixed 0x800a 8 n)))) 0) prefixes) ≡ false
     go true e b c = plain-first n (ltb-true n 0x8000 e)
     go false e true c = refl
     go false e false true = refl
@@ -56,7 +56,7 @@ both-small [] ys f g i = g i
 both-small (x ∷ xs) ys f g zero = f 0
 both-small (x ∷ xs) ys f g (suc i) = both-small xs ys (λ j. f (suc j)) g i
 
-wide-small : (prefix k n : ℕ) → AllBytes (wide prefix k n)
+wide-small : (prefix k n : ℕ) → AllBytes (prefixed prefix k n)
 wide-small prefix k n = both-small (bytes 2 prefix) (bytes k n) (bytes-small 2 prefix) (bytes-small k n)
 
 four : (a b c : Bool) (w x y z : List ℕ) → AllBytes w → AllBytes x → AllBytes y → AllBytes z → AllBytes (pick a w (pick b x (pick c y z)))

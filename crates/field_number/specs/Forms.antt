@@ -22,21 +22,21 @@ use Rattle.field_number.specs.declared.ReadSize.{ReadSize}
 use Rattle.field_number.specs.declared.ReadSize.the-variants as rsize
 
 -- a prefix, and the number in k bytes behind it
-abbrev pub wide : ℕ → ℕ → ℕ → List ℕ
-wide prefix k n = bytes 2 prefix ++ bytes k n
+abbrev pub prefixed : ℕ → ℕ → ℕ → List ℕ
+prefixed prefix k n = bytes 2 prefix ++ bytes k n
 
 -- n, and -1 - n, in as few bytes as carry it, unsigned first
 unfoldable pub shortest : ℤ → List ℕ
 shortest (pos n) =
     pick (ltb n 0x8000) (bytes 2 n)
-    (pick (ltb n (2 ^ 16)) (wide 0x8002 2 n)
-    (pick (ltb n (2 ^ 32)) (wide 0x8004 4 n)
-    (wide 0x800a 8 n)))
+    (pick (ltb n (2 ^ 16)) (prefixed 0x8002 2 n)
+    (pick (ltb n (2 ^ 32)) (prefixed 0x8004 4 n)
+    (prefixed 0x800a 8 n)))
 shortest (negsuc n) =
-    pick (ltb n (2 ^ 7)) (wide 0x8000 1 (2 ^ 8 - suc n))
-    (pick (ltb n (2 ^ 15)) (wide 0x8001 2 (2 ^ 16 - suc n))
-    (pick (ltb n (2 ^ 31)) (wide 0x8003 4 (2 ^ 32 - suc n))
-    (wide 0x8009 8 (2 ^ 64 - suc n))))
+    pick (ltb n (2 ^ 7)) (prefixed 0x8000 1 (2 ^ 8 - suc n))
+    (pick (ltb n (2 ^ 15)) (prefixed 0x8001 2 (2 ^ 16 - suc n))
+    (pick (ltb n (2 ^ 31)) (prefixed 0x8003 4 (2 ^ 32 - suc n))
+    (prefixed 0x8009 8 (2 ^ 64 - suc n))))
 
 -- some form carries it: from -2^63 to 2^64 - 1
 unfoldable pub carried : ℤ → Bool

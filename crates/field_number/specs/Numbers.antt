@@ -4,7 +4,7 @@ use mathlib.Core.List.{List, [], _∷_}
 use mathlib.Core.Option.{Option, none, some}
 use lib.Dec.{ltb}
 use lib.IntN.{ℤ, pos, negsuc}
-use Rattle.answer.specs.Answer.{Answer, refused, Read, got, pick, and-then}
+use Rattle.answer.specs.Answer.{refused, Read, got, pick, and-then}
 use Rattle.answer.specs.Tables.{Line, _is_, find}
 use Rattle.answer.specs.Refusals.{no}
 use Rattle.field.specs.Fields.{fixedAt, signedAt}

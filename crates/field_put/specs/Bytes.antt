@@ -1,6 +1,6 @@
 -- Bytes that are written: a list of them at a place of a buffer, and the contract of a function that writes. A number in k bytes is `bytes` of
 -- field/specs/Bytes.antt.
-use Prim.Native.Nat.{ℕ, zero, suc, _+_, _/_, _%_, _≤_, _<_}
+use Prim.Native.Nat.{ℕ, _+_, _≤_, _<_}
 use mathlib.Core.Path.{_≡_}
 use mathlib.Core.List.{List, [], _∷_}
 use lib.ListN.{length, getD, set}

@@ -13,7 +13,7 @@ use Rattle.field.proofs.FieldLaws.{little-below}
 use mathlib.Core.Option.{some}
 use Rattle.answer.specs.Answer.{got, ended}
 use Rattle.field_text.specs.Texts.{toZero, stringAt}
-use Rattle.field_text.specs.Zeros.{Passed, ZeroAt, marksOf}
+use Rattle.field_text.specs.Zeros.{Passed, ZeroAt, zeroMarks}
 use Rattle.field_text.proofs.TextLaws.{goes-on, finds, runs-out, found, lost}
 
 -- byte t is the first of the k bytes at p that is zero
@@ -187,12 +187,12 @@ marks-of (suc k) s p y bs r h e = go (getD s p 0) refl (λ x h' e'. marks-of k s
         more-marked s p k _ rest (split ∙ ap (λ (x : ℕ). rest * 256 + x) el ∙ add-zero (rest * 256)) (omega arith) (λ z. omega arith) (ih (y / 256) high em)
 
 -- the same of eight bytes, with the numbers written out
-pub word-marks : (s : List ℕ) (p x m : ℕ) → ((i : ℕ) → getD s i 0 < 256) → p + 8 ≤ length s → x ≡ littleAt 8 s p → m ≡ marksOf x → Marks s p 8 m
-unfolding ones marksOf
+pub word-marks : (s : List ℕ) (p x m : ℕ) → ((i : ℕ) → getD s i 0 < 256) → p + 8 ≤ length s → x ≡ littleAt 8 s p → m ≡ zeroMarks x → Marks s p 8 m
+unfolding ones zeroMarks
 word-marks s p x m bs r e h =
     let b : littleAt 8 s p < 2 ^ 64 = little-below 8 s p bs in
     let w : ((littleAt 8 s p + (2 ^ 64 - 0x0101010101010101)) % 2 ^ 64 + 0x0101010101010101) % 2 ^ 64 ≡ littleAt 8 s p = omega (arith, b) in
-    subst (Marks s p 8) (sym (h ∙ ap marksOf e)) (marks-of 8 s p _ bs r (mod-lt _ (zero-lt-suc _)) w)
+    subst (Marks s p 8) (sym (h ∙ ap zeroMarks e)) (marks-of 8 s p _ bs r (mod-lt _ (zero-lt-suc _)) w)
 
 -- ---- what the search came to is what the string says
 module _ (s : List ℕ) (p r : ℕ) (z : ZeroAt s p r) where

@@ -17,5 +17,5 @@ pub record ZeroAt (s : List ℕ) (p r : ℕ) : Type 0 where
   pub there : r < length s → getD s r 0 ≡ 0
 
 -- the marks of a word of eight bytes: the word less 1 in each byte, wrapped, and not the word, and the highest bit of each byte
-unfoldable pub marksOf : ℕ → ℕ
-marksOf x = bitAnd (bitAnd ((x + (2 ^ 64 - 0x0101010101010101)) % 2 ^ 64) (2 ^ 64 - 1 - x)) 0x8080808080808080
+unfoldable pub zeroMarks : ℕ → ℕ
+zeroMarks x = bitAnd (bitAnd ((x + (2 ^ 64 - 0x0101010101010101)) % 2 ^ 64) (2 ^ 64 - 1 - x)) 0x8080808080808080

@@ -4,7 +4,7 @@ ghost use Prim.Native.Nat.{_+_, _≤_};
 ghost use lib.ListN.{length};
 ghost use Rattle.field.specs.Runs.{bytesAt, saidAfter};
 ghost use Rattle.field_text.specs.Texts.{stringAt, countedStringAt, stringOf, saidString, more, paddingAfter};
-ghost use Rattle.field_text.specs.Zeros.{marksOf, ZeroAt};
+ghost use Rattle.field_text.specs.Zeros.{zeroMarks, ZeroAt};
 use field::fixed;
 use field::fixed::Read8;
 use field::fixed::Read64;
@@ -30,7 +30,7 @@ pub enum ReadString {
 
 // The marks of a word's eight bytes, the lowest first: the lowest set bit lies in the first byte that is zero; 0 where none is.
 fn marks(x: u64) -> u64
-    ensures { λ r. ⌜ r ≡ marksOf x ⌝ }
+    ensures { λ r. ⌜ r ≡ zeroMarks x ⌝ }
 {
     std::num::wrapping_sub_u64(x, 0x0101010101010101) & !x & 0x8080808080808080
 }

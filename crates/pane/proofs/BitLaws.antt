@@ -10,7 +10,7 @@ use mir.Syntax.{w32, w64}
 use mir.Val.{toZ, ofZ, SFits, Fits}
 use mir.Facts.{toZ-ofZ}
 use borrow.Author.Tests.{le-ltb, ltb-true, ltb-false}
-use Rattle.pane.specs.Out.{bitsOf}
+use Rattle.pane.specs.Out.{bits32}
 
 minus : (n : ℕ) → negsuc 0 -ℤ negsuc n ≡ pos n
 minus n = rw (le-ltb (suc n) 1 (omega arith)) (ap pos (omega arith))
@@ -28,7 +28,7 @@ low-small : (x : ℤ) → ltZ x (pos 0) ≡ true → mag x < 2 ^ 31 → natAbs (
 low-small (pos n) t g = absurd (omega (arith, ltb-true n 0 t))
 low-small (negsuc n) t g = subst (λ (z : ℤ). natAbs z ≤ 4294967295) (sym (minus n)) (omega arith)
 
-low-is : (x : ℤ) → ltZ x (pos 0) ≡ true → 4294967295 - natAbs (negsuc 0 -ℤ x) ≡ bitsOf x
+low-is : (x : ℤ) → ltZ x (pos 0) ≡ true → 4294967295 - natAbs (negsuc 0 -ℤ x) ≡ bits32 x
 low-is (pos n) t = absurd (omega (arith, ltb-true n 0 t))
 low-is (negsuc n) t = ap (λ (z : ℤ). 4294967295 - natAbs z) (minus n)
 
@@ -36,7 +36,7 @@ high-cast : (x : ℤ) → ltZ x (pos 0) ≡ false → mag x < 2 ^ 31 → T (nonN
 high-cast (pos n) t g = (tt, record { fits = omega arith })
 high-cast (negsuc n) t g = let z : _≡_ {A = ℕ} 0 1 = cc in absurd (omega arith)
 
-high-is : (x : ℤ) → ltZ x (pos 0) ≡ false → natAbs x ≡ bitsOf x
+high-is : (x : ℤ) → ltZ x (pos 0) ≡ false → natAbs x ≡ bits32 x
 high-is (pos n) t = refl
 high-is (negsuc n) t = let z : _≡_ {A = ℕ} 0 1 = cc in absurd (omega arith)
 
@@ -61,7 +61,7 @@ module _ (x : ℤ) (g : mag x < 2 ^ 31) where
     pub less-small : natAbs (toZ w32 (ofZ w32 (negsuc 0 -ℤ toZ w32 (ofZ w32 x)))) ≤ 4294967295
     less-small = subst (λ (z : ℤ). natAbs z ≤ 4294967295) (sym again) (low-small x low g)
 
-    pub less-is : 4294967295 - natAbs (toZ w32 (ofZ w32 (negsuc 0 -ℤ toZ w32 (ofZ w32 x)))) ≡ bitsOf x
+    pub less-is : 4294967295 - natAbs (toZ w32 (ofZ w32 (negsuc 0 -ℤ toZ w32 (ofZ w32 x)))) ≡ bits32 x
     less-is = ap (λ (z : ℤ). 4294967295 - natAbs z) again ∙ low-is x low
 
   module _ (t : ltZ (toZ w32 (ofZ w32 x)) (pos 0) ≡ false) where
@@ -71,5 +71,5 @@ module _ (x : ℤ) (g : mag x < 2 ^ 31) where
     pub same-cast : T (nonNeg (toZ w32 (ofZ w32 x))) × Fits w64 (natAbs (toZ w32 (ofZ w32 x)))
     same-cast = subst (λ (z : ℤ). T (nonNeg z) × Fits w64 (natAbs z)) (sym back) (high-cast x high g)
 
-    pub same-is : natAbs (toZ w32 (ofZ w32 x)) ≡ bitsOf x
+    pub same-is : natAbs (toZ w32 (ofZ w32 x)) ≡ bits32 x
     same-is = ap natAbs back ∙ high-is x high

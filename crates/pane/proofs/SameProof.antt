@@ -33,7 +33,7 @@ use Rattle.word_primitive.specs.declared.Indirection.{Indirection}
 use Rattle.word_primitive.specs.declared.PrimitiveType.{PrimitiveType}
 use Rattle.pane_state.specs.Given.{cursorAt, finderAt}
 use Rattle.pane.specs.Out.{outNext, outFind}
-use Rattle.pane.specs.Same.{Same}
+use Rattle.pane.specs.Same.{SameForC}
 
 -- ---- what C gets of two answers is the same after the same tests
 module _ {A : Type 0} (f : Answer A → ℕ × List ℕ) where
@@ -107,7 +107,7 @@ primitive-named : (i : ℕ) (p : PrimitiveType) → primitiveOf i ≡ answered p
 unfolding primitiveOf
 primitive-named i p e = named (leb 0x1000 i) i (find (i / 2 ^ 8 % 2 ^ 4) indirections) (find (i % 2 ^ 8) kinds) p e
 
-pub same : Same
+pub same : SameForC
 same = record {
   next-of-ids = next-ids;
   find-of-ids = λ s τ i. look-same s τ (indexIn Ids i) (indexIn Types i) i;

@@ -12,7 +12,7 @@ use borrow.Author.Tests.{le-ltb}
 use Rattle.answer.specs.Answer.{Answer, answered, refused, pick, stop, both, then}
 use Rattle.stream_header.specs.Header.{headerOf, longest}
 use Rattle.stream_header.specs.declared.Header.{Header}
-use Rattle.field.specs.Indices.{indexIn, numberIn}
+use Rattle.field.specs.Indices.{indexIn, indexNumber}
 use Rattle.stream_item.specs.Links.{linkOf}
 use Rattle.field.specs.declared.index.Stream.{Stream}
 use Rattle.field.specs.declared.index.Stream.the-variants as stream
@@ -26,7 +26,7 @@ use Rattle.stream_finder.specs.Shared.{Updated, untouched, by}
 use Rattle.stream_finder.specs.declared.Run.{Run}
 use Rattle.stream_finder.proofs.FinderLaws.{create-is}
 use Rattle.stream_finder.proofs.PlaceLaws.{update-ind}
-use Rattle.stream_places.specs.File.{Form, narrow, wordsAt, trailerBy, formOf}
+use Rattle.stream_places.specs.File.{FileForm, narrow, wordsAt, trailerBy, fileFormOf}
 use Rattle.stream_places.specs.Places.{onChain, loadFor, loadBy, loadOf, loadWideOf}
 use Rattle.stream_places.specs.declared.trailer.Trailer.{Trailer}
 use Rattle.stream_places.proofs.PlacesLaws.{load-header}
@@ -67,7 +67,7 @@ look-passes s τ i n l =
     (pick-passes _ (leb (τ .finder .held) (distance (τ .finder) n / blockOf (τ .finder))) 9 _ _
     (landed-passes _ i (linkOf s (getD (τ .table) (distance (τ .finder) n / blockOf (τ .finder)) 0) (distance (τ .finder) n % blockOf (τ .finder)))))))))
 
-number-of : (tag : Stream) (n : ℕ) → numberIn (indexIn tag n) ≡ n
+number-of : (tag : Stream) (n : ℕ) → indexNumber (indexIn tag n) ≡ n
 number-of stream.Types n = refl
 number-of stream.Ids n = refl
 
@@ -148,7 +148,7 @@ load-least s f t h k =
     (stop-least _ (ltb (length t) (k .count)) 13 _
     (stop-least _ (not (onChain s (2 ^ k .shift) (h .«header_size») (wordsAt (k .count) f 0))) 22 _ refl))))))
 
-loaded-least : (F : Form) (s f t : List ℕ) (h : Header) (τ : State) → headerOf s ≡ answered h → loadBy F s f t ≡ answered τ → τ .finder .«minimum_index» ≡ h .«minimum_index»
+loaded-least : (F : FileForm) (s f t : List ℕ) (h : Header) (τ : State) → headerOf s ≡ answered h → loadBy F s f t ≡ answered τ → τ .finder .«minimum_index» ≡ h .«minimum_index»
 loaded-least F s f t h τ e l = subst (Least (h .«minimum_index»)) (sym (load-header F s f t (answered h) e) ∙ l) (go (trailerBy F f))
   where
     go : (a : Answer Trailer) → Least (h .«minimum_index») (then a (loadFor s f t h))
@@ -159,7 +159,7 @@ loaded-least F s f t h τ e l = subst (Least (h .«minimum_index»)) (sym (load-
 any-tally : (tag : Stream) (s : List ℕ) (τ : State) (c : ℕ) → AllFound tag s τ (τ .finder .«minimum_index») c → passedUp tag s τ (τ .finder .«minimum_index») c ≡ tally (blockOf (τ .finder)) c
 any-tally tag s τ c f = tallied tag s τ (τ .finder .«minimum_index») (τ .finder .shift) c (record { minimum = refl; shift-is = refl }) f
 
-loaded-tally : (F : Form) (tag : Stream) (s f t : List ℕ) (h : Header) (τ : State) (c : ℕ) → headerOf s ≡ answered h → loadBy F s f t ≡ answered τ
+loaded-tally : (F : FileForm) (tag : Stream) (s f t : List ℕ) (h : Header) (τ : State) (c : ℕ) → headerOf s ≡ answered h → loadBy F s f t ≡ answered τ
     → AllFound tag s τ (h .«minimum_index») c → passedUp tag s τ (h .«minimum_index») c ≡ tally (blockOf (τ .finder)) c
 loaded-tally F tag s f t h τ c e l g =
     tallied tag s τ (h .«minimum_index») (τ .finder .shift) c (record { minimum = loaded-least F s f t h τ e l; shift-is = refl }) g
@@ -174,5 +174,5 @@ tally-holds = record {
   shared = λ shift tag s h t σ τ c e new u f.
       tallied tag s τ (h .«minimum_index») shift c (updated-kept (h .«minimum_index») shift s σ τ (created-kept shift s t h σ e new) u) f;
   loaded = loaded-tally narrow;
-  loaded-wide = λ tag s f. loaded-tally (formOf f) tag s f;
+  loaded-wide = λ tag s f. loaded-tally (fileFormOf f) tag s f;
 }

@@ -4,7 +4,7 @@ use mathlib.Core.List.{List, [], _∷_}
 use lib.IntN.{ℤ, pos, negsuc}
 use Rattle.answer.specs.Answer.{Answer}
 use Rattle.stream_header.specs.declared.Header.{Header}
-use Rattle.field.specs.Indices.{numberIn}
+use Rattle.field.specs.Indices.{indexNumber}
 use Rattle.stream_item.specs.Iterator.{Next, done, yielded}
 use Rattle.field.specs.declared.index.ItemIndex.{ItemIndex}
 use Rattle.field.specs.declared.index.ItemIndex.the-variants as index
@@ -23,26 +23,26 @@ typeAt i = index.Types (record { 0 = i })
 -- ---- what C gets
 
 -- the 32 bits of a signed number
-abbrev pub bitsOf : ℤ → ℕ
-bitsOf (pos n) = n
-bitsOf (negsuc n) = 4294967295 - n
+abbrev pub bits32 : ℤ → ℕ
+bits32 (pos n) = n
+bits32 (negsuc n) = 4294967295 - n
 
-abbrev pub headerFields : Header → List ℕ
-headerFields h =
+abbrev pub headerNumbers : Header → List ℕ
+headerNumbers h =
     h .version ∷ h .«header_size» ∷ h .«minimum_index» ∷ h .«maximum_index» ∷ h .«gprec_size»
     ∷ h .«tpi_hash_stream» ∷ h .«tpi_hash_pad_stream» ∷ h .«hash_key_size» ∷ h .«hash_bucket_size»
-    ∷ bitsOf (h .«hash_values» .offset) ∷ h .«hash_values» .size
-    ∷ bitsOf (h .«ti_off» .offset) ∷ h .«ti_off» .size
-    ∷ bitsOf (h .«hash_adj» .offset) ∷ h .«hash_adj» .size
+    ∷ bits32 (h .«hash_values» .offset) ∷ h .«hash_values» .size
+    ∷ bits32 (h .«ti_off» .offset) ∷ h .«ti_off» .size
+    ∷ bits32 (h .«hash_adj» .offset) ∷ h .«hash_adj» .size
     ∷ (h .«maximum_index» - h .«minimum_index») ∷ []
 
 abbrev pub outHeader : Answer Header → ℕ × List ℕ
-outHeader = handed 16 headerFields
+outHeader = handed 16 headerNumbers
 
 -- 1 and an item's index, place and length with the cursor behind it; or done
 abbrev pub nextFields : Next → List ℕ
 nextFields done = 0 ∷ 0 ∷ 0 ∷ 0 ∷ 0 ∷ 0 ∷ []
-nextFields (yielded i c) = 1 ∷ numberIn (i .index) ∷ i .place ∷ i .length ∷ c .at ∷ c .index ∷ []
+nextFields (yielded i c) = 1 ∷ indexNumber (i .index) ∷ i .place ∷ i .length ∷ c .at ∷ c .index ∷ []
 
 abbrev pub outNext : Answer Next → ℕ × List ℕ
 outNext = handed 6 nextFields

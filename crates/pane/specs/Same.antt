@@ -19,7 +19,7 @@ use Rattle.word_primitive.specs.declared.PrimitiveType.{PrimitiveType}
 use Rattle.pane_state.specs.Given.{cursorAt, finderAt}
 use Rattle.pane.specs.Out.{outNext, outFind}
 
-pub record Same : Type 0 where
+pub record SameForC : Type 0 where
   -- of an id stream, `next` and `find` give C the same numbers
   pub next-of-ids : (s : List ℕ) (at i : ℕ) → outNext (nextOf s (record { stream = Ids; at = at; index = i })) ≡ outNext (nextOf s (cursorAt at i))
   pub find-of-ids : (s : List ℕ) (τ : State) (i : ℕ) → outFind (findOf s τ (indexIn Ids i)) ≡ outFind (findOf s τ (indexIn Types i))

@@ -12,7 +12,7 @@ ghost use Rattle.stream_item.specs.Iterator.{nextOf};
 ghost use Rattle.stream_finder.specs.Finder.{updateOf, findOf};
 ghost use Rattle.word_primitive.specs.Primitive.{primitiveOf};
 ghost use Rattle.pane_state.specs.Given.{cursorAt, finderAt};
-ghost use Rattle.pane.specs.Out.{bitsOf, headerFields, typeAt, outHeader, outNext, outUpdate, outFind, outPrimitive};
+ghost use Rattle.pane.specs.Out.{bits32, headerNumbers, typeAt, outHeader, outNext, outUpdate, outFind, outPrimitive};
 use field::index::Stream;
 use field::index::TypeIndex;
 use stream_finder::FindAnswer;
@@ -27,7 +27,7 @@ use word_primitive::PrimitiveAnswer;
 
 // The 32 bits of a signed number. Compiles to nothing.
 fn bits(x: i32) -> u64
-    ensures { λ r. ⌜ r ≡ bitsOf x ⌝ }
+    ensures { λ r. ⌜ r ≡ bits32 x ⌝ }
 {
     if x < 0 {
         return 0xffff_ffff - ((-1 - x) as u64);
@@ -37,7 +37,7 @@ fn bits(x: i32) -> u64
 
 // What goes behind `out` for a header.
 fn header_out(h: Header) -> [u64; 18]
-    ensures { λ r. ⌜ r ≡ 0 ∷ 0 ∷ headerFields h ⌝ }
+    ensures { λ r. ⌜ r ≡ 0 ∷ 0 ∷ headerNumbers h ⌝ }
 {
     let values = h.hash_values;
     let offsets = h.ti_off;

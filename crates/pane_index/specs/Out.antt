@@ -3,7 +3,7 @@ use Prim.Native.Nat.{ℕ}
 use mathlib.Core.List.{List, [], _∷_}
 use Rattle.answer.specs.Answer.{Answer}
 use Rattle.field_text.specs.Texts.{Part}
-use Rattle.stream_places.specs.Places.{sizeIn, bufferAfter}
+use Rattle.stream_places.specs.Places.{fileSize, fileBufferAfter}
 use Rattle.pane_out.specs.Handed.{handed, sizeField}
 
 -- where an entry's bytes lie
@@ -14,12 +14,12 @@ abbrev pub outView : Answer Part → ℕ × List ℕ
 outView = handed 2 partFields
 
 -- the leaf that they start with
-abbrev pub kindField : ℕ → List ℕ
-kindField k = k ∷ []
+abbrev pub leafField : ℕ → List ℕ
+leafField k = k ∷ []
 
 abbrev pub outKind : Answer ℕ → ℕ × List ℕ
-outKind = handed 1 kindField
+outKind = handed 1 leafField
 
 -- how many bytes a file has; and the buffer after the call
 abbrev pub outSave : List ℕ → Answer (List ℕ) → ℕ × List ℕ × List ℕ
-outSave o a = (handed 1 sizeField (sizeIn a) .0, handed 1 sizeField (sizeIn a) .1, bufferAfter o a)
+outSave o a = (handed 1 sizeField (fileSize a) .0, handed 1 sizeField (fileSize a) .1, fileBufferAfter o a)

@@ -106,7 +106,7 @@ pub extern "C" fn pdb_view<'a>(
     ensures { λ r. ⌜ (r, now (out .exit)) ≡ outView (viewOf (now (tpi .entry)) (now (ipi .entry)) (entryAt ids item index place length)) ⌝ }
 {
     let entry = entry_of(ids, item, index, place, length);
-    match stream_view::why(tpi, ipi, entry) {
+    match stream_view::view_answer(tpi, ipi, entry) {
         ViewAnswer::Answered(p, n) => {
             *out = [0, 0, p as u64, n as u64];
             0

@@ -8,7 +8,7 @@ ghost use mathlib.Core.List.{_∷_, _++_};
 ghost use lib.ListN.{replicate};
 ghost use Rattle.record_data.specs.Said.{typeValues};
 ghost use Rattle.record_id.specs.Said.{idValues};
-ghost use Rattle.record_parse.specs.Record.{parseOf};
+ghost use Rattle.record_parse.specs.Record.{parseOf, saidParse};
 ghost use Rattle.section_read.specs.Readers.{readOf};
 ghost use Rattle.pane_state.specs.Entries.{entryAt};
 ghost use Rattle.pane_row.specs.TypePlaces.{typeRow};
@@ -76,23 +76,11 @@ fn id_out(d: IdData) -> [u64; 16]
     ]
 }
 
-// An entry of the two streams, by the reader of the one that its index names. Behind `out`: the details; 0 for a type, 1 for an id and 2 for a primitive, which
-// any type index below 0x1000 is; then what pdb_type, pdb_id or pdb_primitive has behind the details.
-#[no_mangle]
-pub extern "C" fn pdb_parse(
-    tpi: &[u8],
-    ipi: &[u8],
-    ids: u32,
-    item: u32,
-    index: u32,
-    place: usize,
-    length: usize,
-    out: &mut [u64; 16],
-) -> u32
-    ensures { λ r. ⌜ (r, now (out .exit)) ≡ outRead index (parseOf (now (tpi .entry)) (now (ipi .entry)) (entryAt ids item index place length)) ⌝ }
+// What C gets of an entry with this index: the result, and all of `out`.
+fn hand_over(index: u32, answer: ParseAnswer, out: &mut [u64; 16]) -> u32
+    ensures { λ r. ⌜ (r, now (out .exit)) ≡ outRead index (saidParse answer) ⌝ }
 {
-    let entry = pane_state::entry_of(ids, item, index, place, length);
-    match record_parse::parse(tpi, ipi, entry) {
+    match answer {
         ParseAnswer::Type(d) => {
             *out = type_out(d);
             0
@@ -146,6 +134,25 @@ pub extern "C" fn pdb_parse(
     }
 }
 
+// An entry of the two streams, by the reader of the one that its index names. Behind `out`: the details; 0 for a type, 1 for an id and 2 for a primitive, which
+// any type index below 0x1000 is; then what pdb_type, pdb_id or pdb_primitive has behind the details.
+#[no_mangle]
+pub extern "C" fn pdb_parse(
+    tpi: &[u8],
+    ipi: &[u8],
+    ids: u32,
+    item: u32,
+    index: u32,
+    place: usize,
+    length: usize,
+    out: &mut [u64; 16],
+) -> u32
+    ensures { λ r. ⌜ (r, now (out .exit)) ≡ outRead index (parseOf (now (tpi .entry)) (now (ipi .entry)) (entryAt ids item index place length)) ⌝ }
+{
+    let entry = pane_state::entry_of(ids, item, index, place, length);
+    hand_over(index, record_parse::parse(tpi, ipi, entry), out)
+}
+
 // A record of a section by its index, place and length, as pdb_next and pdb_find give them. Behind `out`: the details; 0 for a type, 1 for an id and 2 for a
 // primitive, which any index below 0x1000 is; then what pdb_type, pdb_id or pdb_primitive has behind the details.
 #[no_mangle]
@@ -163,56 +170,5 @@ pub extern "C" fn pdb_section_read(
         place: place,
         length: length,
     };
-    match section_read::parse(s, Entry::Record(item)) {
-        ParseAnswer::Type(d) => {
-            *out = type_out(d);
-            0
-        }
-        ParseAnswer::Id(d) => {
-            *out = id_out(d);
-            0
-        }
-        ParseAnswer::Primitive(_) => {
-            *out = [
-                0,
-                0,
-                2,
-                (index % 256) as u64,
-                (index / 256 % 16) as u64,
-                0,
-                0,
-                0,
-                0,
-                0,
-                0,
-                0,
-                0,
-                0,
-                0,
-                0,
-            ];
-            0
-        }
-        ParseAnswer::Refused(e) => {
-            *out = [
-                first(e),
-                second(e),
-                0,
-                0,
-                0,
-                0,
-                0,
-                0,
-                0,
-                0,
-                0,
-                0,
-                0,
-                0,
-                0,
-                0,
-            ];
-            e.number()
-        }
-    }
+    hand_over(index, section_read::parse(s, Entry::Record(item)), out)
 }

@@ -20,7 +20,7 @@ use Rattle.pane_row.specs.Slots.{puts, rowBy}
 use Rattle.pane_row.specs.TypePlaces.{typeSlots}
 use Rattle.pane_row.specs.IdPlaces.{idSlots}
 use Rattle.pane_row.specs.ElementPlaces.{memberSlots}
-use Rattle.pane_record.specs.Out.{streamAt, cursorAt, outType, outId, outList, outStep}
+use Rattle.pane_record.specs.Out.{streamAt, listCursorAt, outType, outId, outList, outStep}
 
 pub type-rows : map (λ (s : List ℕ). outType (recordOf typeLeaves s)) (kind-1609 ∷ take 28 kind-1609 ∷ (0x06 ∷ 0x16 ∷ []) ∷ [])
     ≡ (0, 0 ∷ 0 ∷ 0x1609 ∷ 2 ∷ 512 ∷ 0 ∷ 0x1016 ∷ 0 ∷ 0 ∷ 6 ∷ 2 ∷ 22 ∷ 6 ∷ 29 ∷ 12 ∷ [])
@@ -50,8 +50,8 @@ unfolding startOf startTypes startIds littleAt fixedAt
 starts = (refl, refl)
 
 pub steps :
-    (outStep (stepOf members (cursorAt 0x1203 2 1 0)) ≡ (0, 0 ∷ 0 ∷ 18 ∷ 1 ∷ 1 ∷ 0x1502 ∷ 3 ∷ 0 ∷ 0 ∷ 18446744073709551615 ∷ 1 ∷ 266 ∷ 0 ∷ 16 ∷ 1 ∷ []))
-    × (outStep (stepOf members (cursorAt 0x1203 18 1 1)) ≡ (0, 0 ∷ 0 ∷ 28 ∷ 1 ∷ 1 ∷ 0x1409 ∷ 0 ∷ 0x1009 ∷ 0 ∷ 0 ∷ 0 ∷ 0 ∷ 0 ∷ 0 ∷ 0 ∷ []))
-    × (outStep (stepOf members (cursorAt 0x1203 28 1 1)) ≡ (15, 0 ∷ 0 ∷ 0 ∷ 0 ∷ 0 ∷ 0 ∷ 0 ∷ 0 ∷ 0 ∷ 0 ∷ 0 ∷ 0 ∷ 0 ∷ 0 ∷ 0 ∷ []))
+    (outStep (stepOf members (listCursorAt 0x1203 2 1 0)) ≡ (0, 0 ∷ 0 ∷ 18 ∷ 1 ∷ 1 ∷ 0x1502 ∷ 3 ∷ 0 ∷ 0 ∷ 18446744073709551615 ∷ 1 ∷ 266 ∷ 0 ∷ 16 ∷ 1 ∷ []))
+    × (outStep (stepOf members (listCursorAt 0x1203 18 1 1)) ≡ (0, 0 ∷ 0 ∷ 28 ∷ 1 ∷ 1 ∷ 0x1409 ∷ 0 ∷ 0x1009 ∷ 0 ∷ 0 ∷ 0 ∷ 0 ∷ 0 ∷ 0 ∷ 0 ∷ []))
+    × (outStep (stepOf members (listCursorAt 0x1203 28 1 1)) ≡ (15, 0 ∷ 0 ∷ 0 ∷ 0 ∷ 0 ∷ 0 ∷ 0 ∷ 0 ∷ 0 ∷ 0 ∷ 0 ∷ 0 ∷ 0 ∷ 0 ∷ 0 ∷ []))
 unfolding stepOf nextMember memberStep readRecord readLeaf littleAt fixedAt signedAt toZero stringAt pad paddingAfter find prefixes numericAt sizeAt numeralBy sizedBy formOf shortest bytes readFieldBy readFieldsBy memberLeaves memberSlots rowBy puts
 steps = (refl, refl, refl)

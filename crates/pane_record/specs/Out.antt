@@ -19,8 +19,8 @@ use Rattle.pane_row.specs.ElementPlaces.{elementRow}
 abbrev pub streamAt : ℕ → Stream
 streamAt ids = pick (isSet ids) stream.Ids stream.Types
 
-abbrev pub cursorAt : ℕ → ℕ → ℕ → ℕ → ListCursor
-cursorAt leaf at left padded = record { leaf = leaf; at = at; left = left; padded = isSet padded }
+abbrev pub listCursorAt : ℕ → ℕ → ℕ → ℕ → ListCursor
+listCursorAt leaf at left padded = record { leaf = leaf; at = at; left = left; padded = isSet padded }
 
 -- ---- what C gets
 

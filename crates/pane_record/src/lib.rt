@@ -6,7 +6,7 @@
 ghost use mathlib.Core.Path.{_≡_};
 ghost use Rattle.record_layout.specs.Layouts.{recordOf, typeLeaves, idLeaves};
 ghost use Rattle.record_list.specs.Lists.{startOf, stepOf};
-ghost use Rattle.pane_record.specs.Out.{streamAt, cursorAt, outType, outId, outList, outStep};
+ghost use Rattle.pane_record.specs.Out.{streamAt, listCursorAt, outType, outId, outList, outStep};
 use field::index::Stream;
 use pane_out::first;
 use pane_out::flag;
@@ -98,7 +98,7 @@ pub extern "C" fn pdb_step(
     padded: u32,
     out: &mut [u64; 15],
 ) -> u32
-    ensures { λ r. ⌜ (r, now (out .exit)) ≡ outStep (stepOf (now (s .entry)) (cursorAt leaf at left padded)) ⌝ }
+    ensures { λ r. ⌜ (r, now (out .exit)) ≡ outStep (stepOf (now (s .entry)) (listCursorAt leaf at left padded)) ⌝ }
 {
     let c = ListCursor {
         leaf: leaf,

@@ -2,7 +2,7 @@
 use Prim.Native.Nat.{ℕ}
 use mathlib.Core.List.{List, [], _∷_}
 use Rattle.answer.specs.Answer.{Answer}
-use Rattle.stream_report.specs.Report.{Report, totalsIn, tableAfter}
+use Rattle.stream_report.specs.Report.{Report, totalsIn, reportTableAfter}
 use Rattle.stream_report.specs.declared.Totals.{Totals}
 use Rattle.pane_out.specs.Handed.{handed}
 
@@ -23,4 +23,4 @@ totalsFields τ =
     τ .taken ∷ τ .refused ∷ τ .headers ∷ τ .records ∷ τ .bytes ∷ τ .largest .length ∷ τ .largest .stream ∷ τ .largest .index ∷ τ .rows ∷ []
 
 abbrev pub outReport : List ℕ → Answer Report → ℕ × List ℕ × List ℕ
-outReport t a = (handed 9 totalsFields (totalsIn a) .0, handed 9 totalsFields (totalsIn a) .1, tableAfter t a)
+outReport t a = (handed 9 totalsFields (totalsIn a) .0, handed 9 totalsFields (totalsIn a) .1, reportTableAfter t a)

@@ -20,9 +20,10 @@ use Rattle.field_number.specs.Forms.{Form, formOf, numeralBy, sizedBy}
 use Rattle.field_number.proofs.FormLaws.{Each, Took, of-numeric}
 use Rattle.record_layout.specs.Fields.{Shown, number, numeral, absent, many, Field, fixed, type, id, stringReference, optionalType, optionalId, word, gap, numeric, size, string, run, methods, members, when, runBytes, orAbsent, wordAfter, readField, readFieldBy, readFields, readFieldsBy}
 use Rattle.record_layout.specs.Layouts.{T, Layout, method}
-use Rattle.pane_row.specs.Slots.{bitsOf, negative, formIn, firstOf, secondOf, thirdOf}
+use Rattle.pane_out.specs.Handed.{bits64, negative}
+use Rattle.pane_row.specs.Slots.{formIn, firstOf, secondOf, thirdOf}
 use Rattle.pane_row.specs.Kinds as kind
-use Rattle.pane_row.specs.Kinds.{Kind, maybe, kindOf}
+use Rattle.pane_row.specs.Kinds.{Kind, maybe, slotKind}
 use Rattle.pane_row.specs.Back.{integerBack, formBack, told}
 
 -- Numeric leaves ---------------------------------------------------------------------------------------------------------------------
@@ -33,12 +34,12 @@ form-back width false h = rw (lt-ltb width 256 h)
 
 -- a number comes back, and its width is below 256: so it is with each of the eight forms
 abbrev Back : ℤ → ℕ → Type 0
-Back z width = (integerBack (bitsOf z) (negative z) ≡ z) × (width < 256)
+Back z width = (integerBack (bits64 z) (negative z) ≡ z) × (width < 256)
 
-twos-back : (k x : ℕ) → 2 ^ (8 * k) ≤ 2 ^ 64 → integerBack (bitsOf (twos k x)) (negative (twos k x)) ≡ twos k x
+twos-back : (k x : ℕ) → 2 ^ (8 * k) ≤ 2 ^ 64 → integerBack (bits64 (twos k x)) (negative (twos k x)) ≡ twos k x
 twos-back k x h = go (ltb x (2 ^ (8 * k - 1)))
   where
-    go : (t : Bool) → integerBack (bitsOf (pick t (pos x) (negsuc (2 ^ (8 * k) - suc x)))) (negative (pick t (pos x) (negsuc (2 ^ (8 * k) - suc x)))) ≡ pick t (pos x) (negsuc (2 ^ (8 * k) - suc x))
+    go : (t : Bool) → integerBack (bits64 (pick t (pos x) (negsuc (2 ^ (8 * k) - suc x)))) (negative (pick t (pos x) (negsuc (2 ^ (8 * k) - suc x)))) ≡ pick t (pos x) (negsuc (2 ^ (8 * k) - suc x))
     go true = refl
     go false = ap negsuc (omega arith)
 
@@ -142,7 +143,7 @@ unfoldable pub AllShow : Layout → List Shown → Type 0
 AllShow [] [] = Unit
 AllShow [] (v ∷ vs) = ⊥
 AllShow (f ∷ fs) [] = ⊥
-AllShow (f ∷ fs) (v ∷ vs) = Shows (kindOf f) v × AllShow fs vs
+AllShow (f ∷ fs) (v ∷ vs) = Shows (slotKind f) v × AllShow fs vs
 
 module _ (s : List ℕ) where
   pub fixed-on : (k p : ℕ) → Holds (λ (n : ℕ) (q : ℕ). p + k ≤ q) (fixedAt k s p)
@@ -192,8 +193,8 @@ module _ (s : List ℕ) where
   unfolding formOf
   natural-shows n width h = λ k. rw (form-back width _ h)
 
-  pub field-tells : (f : Field) (w p : ℕ) → 0 < p → Holds (Tells (kindOf f) p) (readField f w s p)
-  unfolding kindOf readFieldBy numeralBy sizedBy bytesAfter optionalAt
+  pub field-tells : (f : Field) (w p : ℕ) → 0 < p → Holds (Tells (slotKind f) p) (readField f w s p)
+  unfolding slotKind readFieldBy numeralBy sizedBy bytesAfter optionalAt
   field-tells (fixed k) w p l = number-tells kind.plain k p _ (λ n q i. (λ h. refl, tt, i))
   field-tells type w p l = number-tells kind.plain 4 p _ (λ n q i. (λ h. refl, tt, i))
   field-tells id w p l = number-tells kind.plain 4 p _ (λ n q i. (λ h. refl, tt, i))
@@ -230,10 +231,10 @@ module _ (s : List ℕ) where
   field-tells members w p l = (λ k. refl, tt, omega arith)
   field-tells (when there f) w p l = go (there w) (readFieldBy formOf f w s p) (field-tells f w p l)
     where
-      go : (b : Bool) (a : Read Shown) → Holds (Tells (kindOf f) p) a → Holds (Tells (maybe (kindOf f)) p) (pick b a (got {A = Shown} absent p))
-      go true (answered g) h = (maybe-shows (kindOf f) p (g .value) l (h .0) (h .1), h .1, h .2)
+      go : (b : Bool) (a : Read Shown) → Holds (Tells (slotKind f) p) a → Holds (Tells (maybe (slotKind f)) p) (pick b a (got {A = Shown} absent p))
+      go true (answered g) h = (maybe-shows (slotKind f) p (g .value) l (h .0) (h .1), h .1, h .2)
       go true (refused n d) h = tt
-      go false a h = (left-out (kindOf f), tt, omega arith)
+      go false a h = (left-out (slotKind f), tt, omega arith)
 
   -- Each field of a layout in turn ---------------------------------------------------------------------------------------------------
 
@@ -241,27 +242,27 @@ module _ (s : List ℕ) where
   unfolding readFieldsBy AllShow
   fields-tell [] w p l = tt
   fields-tell (f ∷ fs) w p l =
-      after (Tells (kindOf f) p) _ (readField f w s p) _ (field-tells f w p l) (λ v q h.
+      after (Tells (slotKind f) p) _ (readField f w s p) _ (field-tells f w p l) (λ v q h.
       after (λ (vs : List Shown) (e : ℕ). AllShow fs vs) _ (readFields fs (wordAfter f v w) s q) _ (fields-tell fs (wordAfter f v w) q (omega (arith, h .2))) (λ vs e i. (h .0, i)))
 
   -- the same from place 0 on, where the first field is a number
-  pub number-first : (f : Field) (fs : Layout) (w p k : ℕ) → 0 < k → Holds (λ (v : Shown) (q : ℕ). Shows (kindOf f) v × (p + k ≤ q)) (readField f w s p)
+  pub number-first : (f : Field) (fs : Layout) (w p k : ℕ) → 0 < k → Holds (λ (v : Shown) (q : ℕ). Shows (slotKind f) v × (p + k ≤ q)) (readField f w s p)
       → Holds (λ (vs : List Shown) (q : ℕ). AllShow (f ∷ fs) vs) (readFields (f ∷ fs) w s p)
   unfolding readFieldsBy AllShow
   number-first f fs w p k l o =
-      after (λ (v : Shown) (q : ℕ). Shows (kindOf f) v × (p + k ≤ q)) _ (readField f w s p) _ o (λ v q h.
+      after (λ (v : Shown) (q : ℕ). Shows (slotKind f) v × (p + k ≤ q)) _ (readField f w s p) _ o (λ v q h.
       after (λ (vs : List Shown) (e : ℕ). AllShow fs vs) _ (readFields fs (wordAfter f v w) s q) _ (fields-tell fs (wordAfter f v w) q (omega (arith, h .1))) (λ vs e i. (h .0, i)))
 
   pub method-tells : (p : ℕ) → Holds (λ (vs : List Shown) (q : ℕ). AllShow method vs) (readFields method 0 s p)
-  unfolding kindOf readFieldBy
+  unfolding slotKind readFieldBy
   method-tells p = number-first _ _ 0 p 2 (omega arith) (after (λ (n : ℕ) (q : ℕ). p + 2 ≤ q) _ (fixedAt 2 s p) _ (fixed-on 2 p) (λ n q i. (λ h. refl, i)))
 
   pub type-tells : (p : ℕ) → Holds (λ (vs : List Shown) (q : ℕ). AllShow (T ∷ []) vs) (readFields (T ∷ []) 0 s p)
-  unfolding kindOf readFieldBy
+  unfolding slotKind readFieldBy
   type-tells p = number-first T [] 0 p 4 (omega arith) (after (λ (n : ℕ) (q : ℕ). p + 4 ≤ q) _ (fixedAt 4 s p) _ (fixed-on 4 p) (λ n q i. (λ h. refl, i)))
 
   pub id-tells : (p : ℕ) → Holds (λ (vs : List Shown) (q : ℕ). AllShow (id ∷ []) vs) (readFields (id ∷ []) 0 s p)
-  unfolding kindOf readFieldBy
+  unfolding slotKind readFieldBy
   id-tells p = number-first id [] 0 p 4 (omega arith) (after (λ (n : ℕ) (q : ℕ). p + 4 ≤ q) _ (fixedAt 4 s p) _ (fixed-on 4 p) (λ n q i. (λ h. refl, i)))
 
   -- the leaf of a record stands before its fields

@@ -8,9 +8,9 @@ use lib.ListN.{length, getD, set, replicate, length-set, length-replicate}
 use Rattle.answer.specs.Tables.{Line, find}
 use Rattle.record_layout.specs.Fields.{Shown}
 use Rattle.record_layout.specs.Values.{numberIn}
-use Rattle.pane_row.specs.Slots.{Slot, off, one, two, sized, three, Slots, firstOf, secondOf, put, puts, putsBy, rowBy}
+use Rattle.pane_row.specs.Slots.{Slot, off, one, two, sized, three, Slots, firstOf, secondOf, putSlot, puts, putsBy, rowBy}
 
-pub put-length : (row : List ℕ) (k : Slot) (v : Shown) → length (put row k v) ≡ length row
+pub put-length : (row : List ℕ) (k : Slot) (v : Shown) → length (putSlot row k v) ≡ length row
 put-length row off v = refl
 put-length row (one k) v = length-set row k _
 put-length row (two k) v = length-set (set row k (firstOf v)) (suc k) _ ∙ length-set row k _
@@ -24,7 +24,7 @@ pub puts-length : (row : List ℕ) (ks : Slots) (vs : List Shown) → length (pu
 unfolding puts
 puts-length row [] vs = refl
 puts-length row (k ∷ ks) [] = refl
-puts-length row (k ∷ ks) (v ∷ vs) = puts-length (put row k v) ks vs ∙ put-length row k v
+puts-length row (k ∷ ks) (v ∷ vs) = puts-length (putSlot row k v) ks vs ∙ put-length row k v
 
 pub row-length : (table : List (Line Slots)) (n : ℕ) (vs : List Shown) → length (rowBy table n vs) ≡ n
 unfolding rowBy

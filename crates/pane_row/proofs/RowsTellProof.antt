@@ -17,9 +17,9 @@ use Rattle.record_layout.specs.Fields.{Shown, number, Field, id, readFields}
 use Rattle.record_layout.specs.Layouts.{T, Layout, Table, typeLeaves, idLeaves, memberLeaves, method, byLayout, readLeaf, leafOf, readRecord, recordOf}
 use Rattle.record_list.specs.declared.ListCursor.{ListCursor}
 use Rattle.record_list.specs.Lists.{ElementValues, typeElement, idElement, methodElement, memberElement, Step, countedStep, methodStep, memberStep, nextMember, stepOf}
-use Rattle.pane_row.specs.Slots.{Slot, off, one, two, sized, three, Slots, firstOf, secondOf, thirdOf, put, puts, rowBy}
+use Rattle.pane_row.specs.Slots.{Slot, off, one, two, sized, three, Slots, firstOf, secondOf, thirdOf, putSlot, puts, rowBy}
 use Rattle.pane_row.specs.Kinds as kind
-use Rattle.pane_row.specs.Kinds.{Kind, kindOf, keepsFirst, keepsSecond, keepsThird, enough, fitting}
+use Rattle.pane_row.specs.Kinds.{Kind, slotKind, keepsFirst, keepsSecond, keepsThird, enough, fitting}
 use Rattle.pane_row.specs.Stand.{placesIn, placesOf, apart, stands, lined}
 use Rattle.pane_row.specs.TypePlaces.{typeSlots}
 use Rattle.pane_row.specs.IdPlaces.{idSlots}
@@ -74,7 +74,7 @@ apart-first n k ks h = go (among k ks) refl (both-true (ltb k n) _ h)
     go false e i = record { inside = ltb-true k n (i .0); alone = e; rest = i .1 }
 
 -- a place that no slot has stays as it was
-put-keeps : (row : List ℕ) (k : Slot) (v : Shown) (j : ℕ) → among j (placesIn k) ≡ false → getD (put row k v) j 0 ≡ getD row j 0
+put-keeps : (row : List ℕ) (k : Slot) (v : Shown) (j : ℕ) → among j (placesIn k) ≡ false → getD (putSlot row k v) j 0 ≡ getD row j 0
 put-keeps row off v j h = refl
 put-keeps row (one k) v j h = getD-set-other row k j _ 0 (among-not j k [] h .0)
 put-keeps row (two k) v j h =
@@ -96,7 +96,7 @@ puts-keep row [] vs j h = refl
 puts-keep row (k ∷ ks) [] j h = refl
 puts-keep row (k ∷ ks) (v ∷ vs) j h =
     let a = among-split j (placesIn k) (placesOf ks) h in
-    puts-keep (put row k v) ks vs j (a .1) ∙ put-keeps row k v j (a .0)
+    puts-keep (putSlot row k v) ks vs j (a .1) ∙ put-keeps row k v j (a .0)
 
 -- A slot -------------------------------------------------------------------------------------------------------------------------------
 
@@ -114,7 +114,7 @@ record Kept (n : ℕ) (k : Slot) (ks : Slots) (row : List ℕ) (v : Shown) : Typ
 suc-not : (k : ℕ) → k ≡ suc k → ⊥
 suc-not k e = absurd (omega arith)
 
-kept : (n : ℕ) (k : Slot) (ks : Slots) (row : List ℕ) (v : Shown) (vs : List Shown) → length row ≡ n → apart n (placesIn k ++ placesOf ks) ≡ true → Kept n k ks (puts (put row k v) ks vs) v
+kept : (n : ℕ) (k : Slot) (ks : Slots) (row : List ℕ) (v : Shown) (vs : List Shown) → length row ≡ n → apart n (placesIn k ++ placesOf ks) ≡ true → Kept n k ks (puts (putSlot row k v) ks vs) v
 kept n off ks row v vs l h = record { first = refl; second = refl; third = refl; others = h }
 kept n (one k) ks row v vs l h =
     let a = apart-first n k (placesOf ks) h in
@@ -208,12 +208,12 @@ enough-known kind.other a b c h = false-true h
 
 -- A line -------------------------------------------------------------------------------------------------------------------------------
 
-value-back : (n : ℕ) (k : Slot) (ks : Slots) (f : Field) (row : List ℕ) (v : Shown) → enough (kindOf f) (keepsFirst k) (keepsSecond k) (keepsThird k) ≡ true → Shows (kindOf f) v → Kept n k ks row v
-    → told (kindOf f) (firstAt k row) (secondAt k row) (thirdAt k row) ≡ v
+value-back : (n : ℕ) (k : Slot) (ks : Slots) (f : Field) (row : List ℕ) (v : Shown) → enough (slotKind f) (keepsFirst k) (keepsSecond k) (keepsThird k) ≡ true → Shows (slotKind f) v → Kept n k ks row v
+    → told (slotKind f) (firstAt k row) (secondAt k row) (thirdAt k row) ≡ v
 value-back n k ks f row v e h t =
     rw (t .first, t .second, t .third)
-    (told-keeps (kindOf f) (keepsFirst k) (keepsSecond k) (keepsThird k) (firstOf v) (secondOf v) (thirdOf v) e
-    ∙ h (enough-known (kindOf f) (keepsFirst k) (keepsSecond k) (keepsThird k) e))
+    (told-keeps (slotKind f) (keepsFirst k) (keepsSecond k) (keepsThird k) (firstOf v) (secondOf v) (thirdOf v) e
+    ∙ h (enough-known (slotKind f) (keepsFirst k) (keepsSecond k) (keepsThird k) e))
 
 fields-back : (n : ℕ) (ks : Slots) (fs : Layout) (row : List ℕ) (vs : List Shown) → length row ≡ n → apart n (placesOf ks) ≡ true → fitting ks fs ≡ true → AllShow fs vs → fieldsBack ks fs (puts row ks vs) ≡ vs
 unfolding placesOf fitting AllShow fieldsBack puts
@@ -224,9 +224,9 @@ fields-back n (k ∷ ks) [] row vs l a e h = false-true e
 fields-back n (k ∷ ks) (f ∷ fs) row [] l a e h = absurd h
 fields-back n (k ∷ ks) (f ∷ fs) row (v ∷ vs) l a e h =
     let t = kept n k ks row v vs l a in
-    let g = both-true (enough (kindOf f) (keepsFirst k) (keepsSecond k) (keepsThird k)) (fitting ks fs) e in
-    rw (value-back n k ks f (puts (put row k v) ks vs) v (g .0) (h .0) t)
-    (ap (λ (us : List Shown). v ∷ us) (fields-back n ks fs (put row k v) vs (put-length row k v ∙ l) (t .others) (g .1) (h .1)))
+    let g = both-true (enough (slotKind f) (keepsFirst k) (keepsSecond k) (keepsThird k)) (fitting ks fs) e in
+    rw (value-back n k ks f (puts (putSlot row k v) ks vs) v (g .0) (h .0) t)
+    (ap (λ (us : List Shown). v ∷ us) (fields-back n ks fs (putSlot row k v) vs (put-length row k v ∙ l) (t .others) (g .1) (h .1)))
 
 -- of a row of zeros
 zeros-back : (n : ℕ) (ks : Slots) (fs : Layout) (vs : List Shown) → apart n (0 ∷ placesOf ks) ≡ true → fitting ks fs ≡ true → AllShow fs vs → fieldsBack ks fs (puts (replicate n 0) ks vs) ≡ vs
@@ -324,11 +324,11 @@ module _ (n : ℕ) (table : Table) (slots : List (Line Slots)) (beside : lined t
 -- Elements -----------------------------------------------------------------------------------------------------------------------------
 
 type-back : (vs : List Shown) → AllShow (T ∷ []) vs → fieldsBack indexSlots (T ∷ []) (indexRow vs) ≡ vs
-unfolding indexRow apart among placesOf kindOf fitting
+unfolding indexRow apart among placesOf slotKind fitting
 type-back vs h = zeros-back 10 indexSlots (T ∷ []) vs refl refl h
 
 id-back : (vs : List Shown) → AllShow (id ∷ []) vs → fieldsBack indexSlots (id ∷ []) (indexRow vs) ≡ vs
-unfolding indexRow apart among placesOf kindOf fitting
+unfolding indexRow apart among placesOf slotKind fitting
 id-back vs h = zeros-back 10 indexSlots (id ∷ []) vs refl refl h
 
 method-back : (vs : List Shown) → AllShow method vs → fieldsBack methodSlots method (methodRow vs) ≡ vs

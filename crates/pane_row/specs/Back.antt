@@ -15,7 +15,7 @@ use Rattle.record_layout.specs.Layouts.{T, Layout, Table, typeLeaves, idLeaves,
 use Rattle.record_list.specs.Lists.{ElementValues, typeElement, idElement, methodElement, memberElement, Step, stepOf}
 use Rattle.record_list.specs.declared.ListCursor.{ListCursor}
 use Rattle.pane_row.specs.Slots.{Slot, off, one, two, sized, three, Slots}
-use Rattle.pane_row.specs.Kinds.{Kind, nothing, plain, optional, text, optionalText, present, natural, integer, other, kindOf}
+use Rattle.pane_row.specs.Kinds.{Kind, nothing, plain, optional, text, optionalText, present, natural, integer, other, slotKind}
 use Rattle.pane_row.specs.TypePlaces.{typeSlots, typeRow}
 use Rattle.pane_row.specs.IdPlaces.{idSlots, idRow}
 use Rattle.pane_row.specs.ElementPlaces.{memberSlots, methodSlots, indexSlots, elementRow}
@@ -64,7 +64,7 @@ thirdAt (three k) row = getD row (suc (suc k)) 0
 unfoldable pub fieldsBack : Slots → Layout → List ℕ → List Shown
 fieldsBack [] fs row = []
 fieldsBack (k ∷ ks) [] row = []
-fieldsBack (k ∷ ks) (f ∷ fs) row = told (kindOf f) (firstAt k row) (secondAt k row) (thirdAt k row) ∷ fieldsBack ks fs row
+fieldsBack (k ∷ ks) (f ∷ fs) row = told (slotKind f) (firstAt k row) (secondAt k row) (thirdAt k row) ∷ fieldsBack ks fs row
 
 -- by the leaf's line of both tables
 abbrev pub lineBack : Option Slots → Option Layout → List ℕ → List Shown

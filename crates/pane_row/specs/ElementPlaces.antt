@@ -9,55 +9,55 @@ use Rattle.record_list.specs.Lists.{ElementValues, typeElement, idElement, meth
 use Rattle.pane_row.specs.Slots.{Slot, off, one, two, sized, three, Slots, puts, rowBy}
 
 -- field attributes; of 0x150f the count
-abbrev pub WORD : Slot
-WORD = one 1
+abbrev pub STEP-WORD : Slot
+STEP-WORD = one 1
 
-abbrev pub TYPE : Slot
-TYPE = one 2
+abbrev pub STEP-TYPE : Slot
+STEP-TYPE = one 2
 
-abbrev pub OTHER : Slot
-OTHER = one 3
+abbrev pub STEP-OTHER : Slot
+STEP-OTHER = one 3
 
 -- an offset and its form; the second one of a virtual base class
-abbrev pub VALUE : Slot
-VALUE = sized 4 6
+abbrev pub STEP-VALUE : Slot
+STEP-VALUE = sized 4 6
 
-abbrev pub MORE : Slot
-MORE = sized 5 7
+abbrev pub STEP-MORE : Slot
+STEP-MORE = sized 5 7
 
 -- a number that may be negative: `more` says whether it is
-abbrev pub SIGNED : Slot
-SIGNED = three 4
+abbrev pub STEP-SIGNED : Slot
+STEP-SIGNED = three 4
 
 -- an offset that may be absent: `more` says whether it is there
-abbrev pub PRESENT : Slot
-PRESENT = two 4
+abbrev pub STEP-PRESENT : Slot
+STEP-PRESENT = two 4
 
-abbrev pub NAME : Slot
-NAME = two 8
+abbrev pub STEP-NAME : Slot
+STEP-NAME = two 8
 
 abbrev pub virtualSlots : Slots
-virtualSlots = WORD ∷ TYPE ∷ OTHER ∷ VALUE ∷ MORE ∷ []
+virtualSlots = STEP-WORD ∷ STEP-TYPE ∷ STEP-OTHER ∷ STEP-VALUE ∷ STEP-MORE ∷ []
 
 abbrev pub aloneSlots : Slots
-aloneSlots = off ∷ TYPE ∷ []
+aloneSlots = off ∷ STEP-TYPE ∷ []
 
 abbrev pub namedSlots : Slots
-namedSlots = WORD ∷ TYPE ∷ NAME ∷ []
+namedSlots = STEP-WORD ∷ STEP-TYPE ∷ STEP-NAME ∷ []
 
 unfoldable pub memberSlots : List (Line Slots)
 memberSlots =
-    (0x1400 is (WORD ∷ TYPE ∷ VALUE ∷ []))
+    (0x1400 is (STEP-WORD ∷ STEP-TYPE ∷ STEP-VALUE ∷ []))
     ∷ (0x1401 is virtualSlots)
     ∷ (0x1402 is virtualSlots)
     ∷ (0x1404 is aloneSlots)
     ∷ (0x1409 is aloneSlots)
-    ∷ (0x1502 is (WORD ∷ SIGNED ∷ NAME ∷ []))
-    ∷ (0x150d is (WORD ∷ TYPE ∷ VALUE ∷ NAME ∷ []))
+    ∷ (0x1502 is (STEP-WORD ∷ STEP-SIGNED ∷ STEP-NAME ∷ []))
+    ∷ (0x150d is (STEP-WORD ∷ STEP-TYPE ∷ STEP-VALUE ∷ STEP-NAME ∷ []))
     ∷ (0x150e is namedSlots)
     ∷ (0x150f is namedSlots)
     ∷ (0x1510 is namedSlots)
-    ∷ (0x1511 is (WORD ∷ TYPE ∷ PRESENT ∷ NAME ∷ []))
+    ∷ (0x1511 is (STEP-WORD ∷ STEP-TYPE ∷ STEP-PRESENT ∷ STEP-NAME ∷ []))
     ∷ []
 
 abbrev pub memberRow : List Shown → List ℕ
@@ -65,10 +65,10 @@ memberRow = rowBy memberSlots 10
 
 -- a method of 0x1206, and an index of a counted list: no leaf
 abbrev pub methodSlots : Slots
-methodSlots = WORD ∷ off ∷ TYPE ∷ PRESENT ∷ []
+methodSlots = STEP-WORD ∷ off ∷ STEP-TYPE ∷ STEP-PRESENT ∷ []
 
 abbrev pub indexSlots : Slots
-indexSlots = TYPE ∷ []
+indexSlots = STEP-TYPE ∷ []
 
 unfoldable pub methodRow : List Shown → List ℕ
 methodRow vs = puts (replicate 10 0) methodSlots vs

@@ -23,22 +23,22 @@ maybe natural = other
 maybe integer = other
 maybe other = other
 
-unfoldable pub kindOf : Field → Kind
-kindOf (fixed k) = plain
-kindOf type = plain
-kindOf id = plain
-kindOf stringReference = plain
-kindOf optionalType = optional
-kindOf optionalId = optional
-kindOf (word k good) = plain
-kindOf (gap k) = nothing
-kindOf numeric = integer
-kindOf size = natural
-kindOf string = text
-kindOf (run e) = text
-kindOf methods = nothing
-kindOf members = nothing
-kindOf (when there f) = maybe (kindOf f)
+unfoldable pub slotKind : Field → Kind
+slotKind (fixed k) = plain
+slotKind type = plain
+slotKind id = plain
+slotKind stringReference = plain
+slotKind optionalType = optional
+slotKind optionalId = optional
+slotKind (word k good) = plain
+slotKind (gap k) = nothing
+slotKind numeric = integer
+slotKind size = natural
+slotKind string = text
+slotKind (run e) = text
+slotKind methods = nothing
+slotKind members = nothing
+slotKind (when there f) = maybe (slotKind f)
 
 -- which of the three numbers a slot keeps
 abbrev pub keepsFirst : Slot → Bool
@@ -79,4 +79,4 @@ unfoldable pub fitting : Slots → Layout → Bool
 fitting [] [] = true
 fitting [] (f ∷ fs) = false
 fitting (k ∷ ks) [] = false
-fitting (k ∷ ks) (f ∷ fs) = both (enough (kindOf f) (keepsFirst k) (keepsSecond k) (keepsThird k)) (fitting ks fs)
+fitting (k ∷ ks) (f ∷ fs) = both (enough (slotKind f) (keepsFirst k) (keepsSecond k) (keepsThird k)) (fitting ks fs)

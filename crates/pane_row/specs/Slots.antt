@@ -1,24 +1,15 @@
 -- A record's values as a row of numbers in which each role has one place, whatever the leaf. A table of places is 01's table of layouts once more, with the
 -- places of each field in the row.
-use Prim.Native.Nat.{ℕ, suc, _+_, _-_}
+use Prim.Native.Nat.{ℕ, suc, _+_}
 use mathlib.Core.List.{List, [], _∷_}
 use mathlib.Core.Option.{Option, none, some}
-use lib.IntN.{ℤ, pos, negsuc}
 use lib.ListN.{set, replicate}
 use Rattle.answer.specs.Answer.{pick}
 use Rattle.answer.specs.Tables.{Line, _is_, find}
 use Rattle.field_number.specs.Forms.{Form}
+use Rattle.pane_out.specs.Handed.{bits64, negative}
 use Rattle.record_layout.specs.Fields.{Shown, number, numeral, absent, many}
 use Rattle.record_layout.specs.Values.{numberIn}
-
--- the 64 bits of a numeric leaf, and whether it is negative
-abbrev pub bitsOf : ℤ → ℕ
-bitsOf (pos n) = n
-bitsOf (negsuc n) = 18446744073709551615 - n
-
-abbrev pub negative : ℤ → ℕ
-negative (pos n) = 0
-negative (negsuc n) = 1
 
 -- R-4's form in one number: the bytes of the numeric leaf, and 256 more where a shorter form carries the number
 abbrev pub formIn : Form → ℕ
@@ -27,7 +18,7 @@ formIn f = pick (f .shorter) (256 + f .width) (f .width)
 -- A value is three numbers: a number and 1; the bits of a numeric leaf, 1 if it is negative, and its form; place and length; absent is 0, 0 and 0
 abbrev pub firstOf : Shown → ℕ
 firstOf (number n) = n
-firstOf (numeral z f) = bitsOf z
+firstOf (numeral z f) = bits64 z
 firstOf absent = 0
 firstOf (many x) = x .place
 
@@ -54,17 +45,17 @@ pub data Slot : Type 0 where
 abbrev pub Slots : Type 0
 Slots = List Slot
 
-abbrev pub put : List ℕ → Slot → Shown → List ℕ
-put row off v = row
-put row (one k) v = set row k (firstOf v)
-put row (two k) v = set (set row k (firstOf v)) (suc k) (secondOf v)
-put row (sized k j) v = set (set row k (firstOf v)) j (thirdOf v)
-put row (three k) v = set (set (set row k (firstOf v)) (suc k) (secondOf v)) (suc (suc k)) (thirdOf v)
+abbrev pub putSlot : List ℕ → Slot → Shown → List ℕ
+putSlot row off v = row
+putSlot row (one k) v = set row k (firstOf v)
+putSlot row (two k) v = set (set row k (firstOf v)) (suc k) (secondOf v)
+putSlot row (sized k j) v = set (set row k (firstOf v)) j (thirdOf v)
+putSlot row (three k) v = set (set (set row k (firstOf v)) (suc k) (secondOf v)) (suc (suc k)) (thirdOf v)
 
 unfoldable pub puts : List ℕ → Slots → List Shown → List ℕ
 puts row [] vs = row
 puts row (k ∷ ks) [] = row
-puts row (k ∷ ks) (v ∷ vs) = puts (put row k v) ks vs
+puts row (k ∷ ks) (v ∷ vs) = puts (putSlot row k v) ks vs
 
 -- by a table, the leaf in front: the row has zeros where nothing is put
 abbrev pub putsBy : Option Slots → List ℕ → List Shown → List ℕ

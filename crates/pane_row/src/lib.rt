@@ -10,7 +10,8 @@ ghost use Rattle.record_layout.specs.Fields.{number, orAbsent};
 ghost use Rattle.record_data.specs.Said.{stringValue, kindLeaf, typeValues};
 ghost use Rattle.record_id.specs.Said.{idValues};
 ghost use Rattle.record_member.specs.Said.{offsetOption, virtualLeaf, memberValues, entryValues};
-ghost use Rattle.pane_row.specs.Slots.{bitsOf, negative, formIn, firstOf, secondOf};
+ghost use Rattle.pane_out.specs.Handed.{bits64, negative};
+ghost use Rattle.pane_row.specs.Slots.{formIn, firstOf, secondOf};
 ghost use Rattle.pane_row.specs.TypePlaces.{typeRow};
 ghost use Rattle.pane_row.specs.IdPlaces.{idRow};
 ghost use Rattle.pane_row.specs.ListPlaces.{cursorRow};
@@ -117,7 +118,7 @@ fn is_there(o: OptOffset) -> u64
 // The 64 bits of a number, and 1 if it is negative.
 
 fn bits(n: Number) -> u64
-    ensures { λ r. ⌜ r ≡ bitsOf (numberValue n) ⌝ }
+    ensures { λ r. ⌜ r ≡ bits64 (numberValue n) ⌝ }
 {
     match n {
         Number::Natural(x) => x,

@@ -28,5 +28,5 @@ sectionIndexBy shift s t = then (sectionCreateBy shift s t) (λ σ. answered (wa
 abbrev pub outStream : List ℕ → Answer Written → ℕ × List ℕ × List ℕ
 outStream b a = (handed 1 sizeField (placeAfter a) .0, handed 1 sizeField (placeAfter a) .1, bufferAfter b a)
 
-abbrev pub outList : Answer ListCursor → ℕ × List ℕ
-outList = handed 4 cursorRow
+abbrev pub outSectionList : Answer ListCursor → ℕ × List ℕ
+outSectionList = handed 4 cursorRow

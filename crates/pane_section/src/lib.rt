@@ -13,7 +13,7 @@ ghost use Rattle.section_read.specs.Readers.{readerAt};
 ghost use Rattle.write_layout.specs.Buffer.{lay};
 ghost use Rattle.pane_state.specs.Finders.{outFinder};
 ghost use Rattle.pane_state.specs.Walk.{outWalk};
-ghost use Rattle.pane_section.specs.Out.{outStart, outCount, sectionIndexBy, outStream, outList};
+ghost use Rattle.pane_section.specs.Out.{outStart, outCount, sectionIndexBy, outStream, outSectionList};
 use pane_out::first;
 use pane_out::second;
 use pane_row::cursor_row;
@@ -134,7 +134,7 @@ pub extern "C" fn pdb_section_stream(s: &[u8], buffer: &mut [u8], out: &mut [u64
 // left, padded.
 #[no_mangle]
 pub extern "C" fn pdb_section_list(s: &[u8], out: &mut [u64; 6]) -> u32
-    ensures { λ r. ⌜ (r, now (out .exit)) ≡ outList (startOf (readerAt (now (s .entry)) 0) (now (s .entry))) ⌝ }
+    ensures { λ r. ⌜ (r, now (out .exit)) ≡ outSectionList (startOf (readerAt (now (s .entry)) 0) (now (s .entry))) ⌝ }
 {
     match section_read::start(s) {
         StartAnswer::Answered(c) => {

@@ -16,7 +16,7 @@ use Rattle.stream_item.specs.declared.iter.ItemIter.{ItemIter}
 use Rattle.stream_finder.specs.Finder.{State, createBy, updateOf}
 use Rattle.stream_index.specs.Walk.{Turn, over, moved, updating, turnOf}
 use Rattle.pane_state.specs.Given.{cursorAt}
-use Rattle.pane_state.specs.Walk.{Arrived, arrived, onward, walkUpTo, walkOf, indexAllBy, outWalk, SameWalk}
+use Rattle.pane_state.specs.Walk.{Arrived, arrived, afterTurn, walkUpTo, walkOf, indexAllBy, outWalk, SameWalk}
 use Rattle.pane_state.proofs.WalkLaws.{walk-is, walk-back, walk-enough}
 
 abbrev tagged : Stream → ItemIter → ItemIter
@@ -78,10 +78,10 @@ module _ (t s : List ℕ) (tag : Stream) where
   walk-as : (n : ℕ) (c : ItemIter) (σ : State) → got t (walkUpTo n s (tagged tag c) σ) ≡ got t (walkUpTo n s c σ)
   unfolding walkUpTo
   walk-as zero c σ = ap (λ (e : Answer Turn). got t (arrived (tagged tag c) σ e)) (turn-as s σ tag c) ∙ ends-as c σ (turnOf s σ c)
-  walk-as (suc n) c σ = ap (λ (e : Answer Turn). got t (onward (walkUpTo n s) (tagged tag c) σ e)) (turn-as s σ tag c) ∙ step (λ d τ. walk-as n d τ) (turnOf s σ c)
+  walk-as (suc n) c σ = ap (λ (e : Answer Turn). got t (afterTurn (walkUpTo n s) (tagged tag c) σ e)) (turn-as s σ tag c) ∙ step (λ d τ. walk-as n d τ) (turnOf s σ c)
     where
       step : ((d : ItemIter) (τ : State) → got t (walkUpTo n s (tagged tag d) τ) ≡ got t (walkUpTo n s d τ))
-          → (e : Answer Turn) → got t (onward (walkUpTo n s) (tagged tag c) σ (asTurn tag e)) ≡ got t (onward (walkUpTo n s) c σ e)
+          → (e : Answer Turn) → got t (afterTurn (walkUpTo n s) (tagged tag c) σ (asTurn tag e)) ≡ got t (afterTurn (walkUpTo n s) c σ e)
       step h (answered over) = refl
       step h (answered (moved τ d)) = h d τ
       step h (refused m x) = refl

@@ -18,7 +18,7 @@ use Rattle.stream_index.specs.declared.Tour.{Tour}
 use Rattle.stream_index.specs.declared.IndexAnswer.{IndexAnswer}
 use Rattle.stream_index.specs.declared.IndexAnswer.the-variants as walk
 use Rattle.stream_index.proofs.WalkLaws.{Further, turn-further}
-use Rattle.pane_state.specs.Walk.{Arrived, arrived, onward, walkUpTo, walkOf, indexAllBy, saidIndex, moves, Led}
+use Rattle.pane_state.specs.Walk.{Arrived, arrived, afterTurn, walkUpTo, walkOf, indexAllBy, saidIndex, moves, LedTo}
 
 -- ---- there are no more turns than bytes
 turns-on : (s : List ℕ) (c : ItemIter) (σ : State) (n : ℕ) (d : ItemIter) (τ : State) → Turns s c σ n d τ → c .at + n ≤ d .at
@@ -38,7 +38,7 @@ turns-inside s c σ (suc n) d τ (more {d = d₀} {τ = τ₀} w e) =
 -- ---- a walk goes through its turns, and ends where there is none
 walk-turn : (m : ℕ) (s : List ℕ) (c : ItemIter) (σ : State) (τ : State) (d : ItemIter) → turnOf s σ c ≡ answered (moved τ d) → walkUpTo (suc m) s c σ ≡ walkUpTo m s d τ
 unfolding walkUpTo
-walk-turn m s c σ τ d e = ap (onward (walkUpTo m s) c σ) e
+walk-turn m s c σ τ d e = ap (afterTurn (walkUpTo m s) c σ) e
 
 walk-turns : (m : ℕ) (s : List ℕ) (c : ItemIter) (σ : State) (n : ℕ) (d : ItemIter) (τ : State) → Turns s c σ n d τ → walkUpTo (n + m) s c σ ≡ walkUpTo m s d τ
 walk-turns m s c σ zero d τ none = ap (λ (k : ℕ). walkUpTo k s d τ) (omega arith)
@@ -48,8 +48,8 @@ walk-turns m s c σ (suc n) d τ (more {d = d₀} {τ = τ₀} w e) =
 walk-ends : (m : ℕ) (s : List ℕ) (c : ItemIter) (σ : State) (x : End) → turnOf s σ c ≡ saidEnd x → walkUpTo m s c σ ≡ arrived c σ (saidEnd x)
 unfolding walkUpTo
 walk-ends zero s c σ x e = ap (arrived c σ) e
-walk-ends (suc m) s c σ end.Done e = ap (onward (walkUpTo m s) c σ) e
-walk-ends (suc m) s c σ (end.Refused r) e = ap (onward (walkUpTo m s) c σ) e
+walk-ends (suc m) s c σ end.Done e = ap (afterTurn (walkUpTo m s) c σ) e
+walk-ends (suc m) s c σ (end.Refused r) e = ap (afterTurn (walkUpTo m s) c σ) e
 
 pub walk-is : (s : List ℕ) (c : ItemIter) (σ : State) (r : Tour) (t′ : List ℕ) → Walks s c σ r t′ → walkOf s c σ ≡ arrived (r .cursor) (state (r .finder) t′) (saidEnd (r .end))
 walk-is s c σ r t′ w =
@@ -71,7 +71,7 @@ module _ (s : List ℕ) where
   at-end zero c σ l = refl
   at-end (suc k) c σ l = go (turnOf s σ c) refl
     where
-      go : (a : Answer Turn) → turnOf s σ c ≡ a → onward (walkUpTo k s) c σ a ≡ arrived c σ a
+      go : (a : Answer Turn) → turnOf s σ c ≡ a → afterTurn (walkUpTo k s) c σ a ≡ arrived c σ a
       go (answered over) e = refl
       go (answered (moved τ d)) e = absurd (no-turn c σ τ d l e)
       go (refused n x) e = refl
@@ -86,7 +86,7 @@ module _ (s : List ℕ) where
       ap (λ (n : ℕ). walkUpTo n s c σ) e ∙ go (λ d τ h. with-more m k d τ h) (turnOf s σ c) refl
     where
       go : ((d : ItemIter) (τ : State) → length s ≤ d .at + m → walkUpTo (m + k) s d τ ≡ walkUpTo m s d τ)
-          → (a : Answer Turn) → turnOf s σ c ≡ a → onward (walkUpTo (m + k) s) c σ a ≡ onward (walkUpTo m s) c σ a
+          → (a : Answer Turn) → turnOf s σ c ≡ a → afterTurn (walkUpTo (m + k) s) c σ a ≡ afterTurn (walkUpTo m s) c σ a
       go h (answered over) e = refl
       go h (answered (moved τ d)) e =
           let f : Further s c d = turn-further s σ c τ d e in
@@ -100,7 +100,7 @@ module _ (s : List ℕ) where
 
 -- ---- and back: where it ends so many turns have led
 module _ (s : List ℕ) (c : ItemIter) (σ : State) where
-  walk-led : (m n : ℕ) (d : ItemIter) (τ : State) → Turns s c σ n d τ → length s ≤ d .at + m → Led s c σ (walkUpTo m s d τ)
+  walk-led : (m n : ℕ) (d : ItemIter) (τ : State) → Turns s c σ n d τ → length s ≤ d .at + m → LedTo s c σ (walkUpTo m s d τ)
   unfolding walkUpTo
   walk-led zero n d τ w l = record { turns = n; led = w; ended = refl; still = go (turnOf s τ d) refl }
     where
@@ -110,15 +110,15 @@ module _ (s : List ℕ) (c : ItemIter) (σ : State) where
       go (refused k x) e = refl
   walk-led (suc m) n d τ w l = go (λ k x ρ v h. walk-led m k x ρ v h) (turnOf s τ d) refl
     where
-      go : ((k : ℕ) (x : ItemIter) (ρ : State) → Turns s c σ k x ρ → length s ≤ x .at + m → Led s c σ (walkUpTo m s x ρ))
-          → (a : Answer Turn) → turnOf s τ d ≡ a → Led s c σ (onward (walkUpTo m s) d τ a)
+      go : ((k : ℕ) (x : ItemIter) (ρ : State) → Turns s c σ k x ρ → length s ≤ x .at + m → LedTo s c σ (walkUpTo m s x ρ))
+          → (a : Answer Turn) → turnOf s τ d ≡ a → LedTo s c σ (afterTurn (walkUpTo m s) d τ a)
       go h (answered over) e = record { turns = n; led = w; ended = e; still = refl }
       go h (answered (moved ρ x)) e =
           let f : Further s d x = turn-further s τ d ρ x e in
           h (suc n) x ρ (more w e) (omega (arith, f .on))
       go h (refused k x) e = record { turns = n; led = w; ended = e; still = refl }
 
-  pub walk-back : Led s c σ (walkOf s c σ)
+  pub walk-back : LedTo s c σ (walkOf s c σ)
   walk-back = walk-led (length s) 0 c σ none (omega arith)
 
 -- ---- a whole stream's

@@ -9,9 +9,9 @@ use Rattle.stream_item.specs.declared.Entry.the-variants as entry
 use Rattle.pane_out.specs.Handed.{isSet}
 
 -- index i of the id stream where `ids` is set, else of the type stream
-abbrev pub indexAt : ℕ → ℕ → ItemIndex
-indexAt ids i = indexIn (pick (isSet ids) Ids Types) i
+abbrev pub indexOfStream : ℕ → ℕ → ItemIndex
+indexOfStream ids i = indexIn (pick (isSet ids) Ids Types) i
 
 -- a record's entry, with its place and length, where `item` is set, else the marker, which has neither
 abbrev pub entryAt : ℕ → ℕ → ℕ → ℕ → ℕ → Entry
-entryAt ids item i p n = pick (isSet item) (entry.Record (record { index = indexAt ids i; place = p; length = n })) (entry.Marker (indexAt ids i))
+entryAt ids item i p n = pick (isSet item) (entry.Record (record { index = indexOfStream ids i; place = p; length = n })) (entry.Marker (indexOfStream ids i))

@@ -31,15 +31,15 @@ abbrev pub arrived : ItemIter → State → Answer Turn → Arrived
 arrived c σ e = record { finder = σ .finder; table = σ .table; cursor = c; end = e }
 
 -- on from where a turn moved to; else the walk ended here
-abbrev pub onward : (ItemIter → State → Arrived) → ItemIter → State → Answer Turn → Arrived
-onward go c σ (answered over) = arrived c σ (answered over)
-onward go c σ (answered (moved τ d)) = go d τ
-onward go c σ (refused n x) = arrived c σ (refused n x)
+abbrev pub afterTurn : (ItemIter → State → Arrived) → ItemIter → State → Answer Turn → Arrived
+afterTurn go c σ (answered over) = arrived c σ (answered over)
+afterTurn go c σ (answered (moved τ d)) = go d τ
+afterTurn go c σ (refused n x) = arrived c σ (refused n x)
 
 -- turns as long as they move, at most n of them
 unfoldable pub walkUpTo : ℕ → List ℕ → ItemIter → State → Arrived
 walkUpTo zero s c σ = arrived c σ (turnOf s σ c)
-walkUpTo (suc n) s c σ = onward (walkUpTo n s) c σ (turnOf s σ c)
+walkUpTo (suc n) s c σ = afterTurn (walkUpTo n s) c σ (turnOf s σ c)
 
 -- all of them: a turn moves by two bytes or more and stays inside, so that there are never more turns than bytes
 abbrev pub walkOf : List ℕ → ItemIter → State → Arrived
@@ -89,7 +89,7 @@ moves (answered (moved τ d)) = true
 moves (refused n x) = false
 
 -- so many turns lead there, and from there the next turn is the answer that ended the walk, which is none that moves
-pub record Led (s : List ℕ) (c : ItemIter) (σ : State) (a : Arrived) : Type 0 where
+pub record LedTo (s : List ℕ) (c : ItemIter) (σ : State) (a : Arrived) : Type 0 where
   pub turns : ℕ
   pub led : Turns s c σ turns (a .cursor) (state (a .finder) (a .table))
   pub ended : turnOf s (state (a .finder) (a .table)) (a .cursor) ≡ a .end
@@ -98,7 +98,7 @@ pub record Led (s : List ℕ) (c : ItemIter) (σ : State) (a : Arrived) : Type 0
 pub record SameWalk : Type 0 where
   -- what the contract of a walk says is where `walkOf` ends, and where `walkOf` ends is what it says
   pub contract : (s : List ℕ) (c : ItemIter) (σ : State) (r : Tour) (t′ : List ℕ) → Walks s c σ r t′ → walkOf s c σ ≡ arrived (r .cursor) (state (r .finder) t′) (saidEnd (r .end))
-  pub back : (s : List ℕ) (c : ItemIter) (σ : State) → Led s c σ (walkOf s c σ)
+  pub back : (s : List ℕ) (c : ItemIter) (σ : State) → LedTo s c σ (walkOf s c σ)
   -- the bound on turns is none: with more of them a walk ends at the same place
   pub enough : (s : List ℕ) (c : ItemIter) (σ : State) (n : ℕ) → length s ≤ n → walkUpTo n s c σ ≡ walkOf s c σ
   -- of an id stream C gets the same numbers and the same table

@@ -1,7 +1,7 @@
 // A finder, a cursor, an entry and a walk, as C gives and gets them: definitions in specs/, laws in proofs/. Streams and sections are walked alike, so what
 // goes behind `out` for a walk stands here, once for both.
 ghost use mathlib.Core.Path.{_≡_};
-ghost use Rattle.pane_state.specs.Entries.{indexAt, entryAt};
+ghost use Rattle.pane_state.specs.Entries.{indexOfStream, entryAt};
 ghost use Rattle.pane_state.specs.Walk.{tourOut};
 use field::index::IdIndex;
 use field::index::ItemIndex;
@@ -51,7 +51,7 @@ pub fn walk_out(t: Tour) -> [u64; 11]
 
 // The index that C names: of the id stream where `ids` is set, else of the type stream.
 fn index_of(ids: u32, index: u32) -> ItemIndex
-    ensures { λ r. ⌜ r ≡ indexAt ids index ⌝ }
+    ensures { λ r. ⌜ r ≡ indexOfStream ids index ⌝ }
 {
     if pane_out::is_set(ids) {
         return ItemIndex::Ids(IdIndex(index));

@@ -8,11 +8,11 @@ use native.Mathlib.Omega.{arith}
 use Rattle.answer.specs.Answer.{Answer, answered}
 use Rattle.answer.specs.Tables.{find}
 use Rattle.word_attributes.specs.Bits.{bit, bits}
-use Rattle.word_attributes.specs.Pointers.{pointerKinds, pointerModes, good, kindOf, modeOf}
+use Rattle.word_attributes.specs.Pointers.{pointerKinds, pointerModes, goodOr12, kindOf, modeOf}
 use Rattle.word_attributes.specs.declared.PointerKind.{PointerKind}
 use Rattle.word_attributes.specs.declared.PointerMode.{PointerMode}
 use Rattle.pane_out.specs.Handed.{mark}
-use Rattle.pane_word.specs.Words.{outProperties, orZero, kindField, modeField, Named}
+use Rattle.pane_word.specs.Words.{outProperties, orZero, kindField, modeField, KindsNamed}
 
 -- a flag that C gets, of what its method said
 pub marked : (r : ℕ) (b x : Bool) → r ≡ mark b → b ≡ x → r ≡ mark x
@@ -26,7 +26,7 @@ pub properties-are : (w x0 x1 x2 x3 x4 x5 x6 x7 x8 x9 x10 x11 x12 x13 : ℕ)
 properties-are w x0 x1 x2 x3 x4 x5 x6 x7 x8 x9 x10 x11 x12 x13 e0 e1 e2 e3 e4 e5 e6 e7 e8 e9 e10 e11 e12 e13 = rw (e0, e1, e2, e3, e4, e5, e6, e7, e8, e9, e10, e11, e12, e13)
 
 -- ---- a good kind or mode stands in its list
-listed : {A : Type 0} (o : Option A) (a : A) → good o ≡ answered a → o ≡ some a
+listed : {A : Type 0} (o : Option A) (a : A) → goodOr12 o ≡ answered a → o ≡ some a
 listed (some b) a e = cc
 listed none a e = let z : _≡_ {A = ℕ} 0 1 = cc in absurd (omega arith)
 
@@ -38,5 +38,5 @@ mode-named : (w : ℕ) (m : PointerMode) → modeOf w ≡ answered m → find (m
 unfolding modeOf
 mode-named w m e = ap (λ (a : Answer PointerMode). find (orZero (λ m. bits 5 7 w) a) pointerModes) e ∙ listed (find (bits 5 7 w) pointerModes) m e
 
-pub named : Named
+pub named : KindsNamed
 named = record { kind = kind-named; mode = mode-named }

@@ -1,12 +1,12 @@
 -- What C gets of a string, padding, a numeric leaf and an optional index, at a place of some bytes.
-use Prim.Native.Nat.{ℕ, _-_}
+use Prim.Native.Nat.{ℕ}
 use mathlib.Core.List.{List, [], _∷_}
 use mathlib.Core.Option.{Option, none, some}
-use lib.IntN.{ℤ, pos, negsuc}
+use lib.IntN.{ℤ}
 use Rattle.answer.specs.Answer.{Answer, Got, Read}
 use Rattle.field_text.specs.Texts.{Part}
 use Rattle.field_number.specs.Forms.{Form, Numeral}
-use Rattle.pane_out.specs.Handed.{handed, mark}
+use Rattle.pane_out.specs.Handed.{handed, mark, bits64, negative}
 
 -- a string's place and length, and the place behind it
 abbrev pub stringFields : Got Part → List ℕ
@@ -32,17 +32,8 @@ sizeFields g = g .value .value ∷ formFields (g .value .form) (g .next)
 abbrev pub outSize : Read (Numeral ℕ Form) → ℕ × List ℕ
 outSize = handed 4 sizeFields
 
--- the 64 bits of a number that may be negative, and 1 where it is
-abbrev pub bitsOf : ℤ → ℕ
-bitsOf (pos n) = n
-bitsOf (negsuc n) = 18446744073709551615 - n
-
-abbrev pub signOf : ℤ → ℕ
-signOf (pos n) = 0
-signOf (negsuc n) = 1
-
 abbrev pub numberFields : Got (Numeral ℤ Form) → List ℕ
-numberFields g = bitsOf (g .value .value) ∷ signOf (g .value .value) ∷ formFields (g .value .form) (g .next)
+numberFields g = bits64 (g .value .value) ∷ negative (g .value .value) ∷ formFields (g .value .form) (g .next)
 
 abbrev pub outNumber : Read (Numeral ℤ Form) → ℕ × List ℕ
 outNumber = handed 5 numberFields

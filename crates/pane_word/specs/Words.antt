@@ -65,7 +65,7 @@ pointerFields w =
 abbrev pub outPointer : ℕ → ℕ × List ℕ
 outPointer w = handed 14 pointerFields (answered w)
 
-pub record Named : Type 0 where
+pub record KindsNamed : Type 0 where
   -- the number of a kind or a mode names it in 01's list
   pub kind : (w : ℕ) (k : PointerKind) → kindOf w ≡ answered k → find (kindField w) pointerKinds ≡ some k
   pub mode : (w : ℕ) (m : PointerMode) → modeOf w ≡ answered m → find (modeField w) pointerModes ≡ some m

@@ -11,18 +11,18 @@ use Rattle.stream_header.specs.declared.Slice.{Slice}
 use Rattle.write_layout.specs.Buffer.{Written, placeAfter, bufferAfter}
 use Rattle.pane_out.specs.Handed.{handed}
 
-abbrev pub placeField : ℕ → List ℕ
-placeField p = p ∷ []
+abbrev pub endField : ℕ → List ℕ
+endField p = p ∷ []
 
 abbrev pub outWrite : List ℕ → Answer Written → ℕ × List ℕ × List ℕ
-outWrite s a = (handed 1 placeField (placeAfter a) .0, handed 1 placeField (placeAfter a) .1, bufferAfter s a)
+outWrite s a = (handed 1 endField (placeAfter a) .0, handed 1 endField (placeAfter a) .1, bufferAfter s a)
 
 -- the number whose two's complement these 32 bits are
-abbrev pub signedOf : ℕ → ℤ
-signedOf n = toZ w32 n
+abbrev pub signed32 : ℕ → ℤ
+signed32 n = toZ w32 n
 
 abbrev pub sliceIn : ℕ → ℕ → Slice
-sliceIn offset size = record { offset = signedOf offset; size = size }
+sliceIn offset size = record { offset = signed32 offset; size = size }
 
 -- a header from the numbers that C gives: the thirteen of 32 bits in the order of its bytes, offsets as their bits, and the two stream numbers
 abbrev pub headerIn : List ℕ → ℕ → ℕ → Header

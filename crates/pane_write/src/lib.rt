@@ -18,8 +18,8 @@ ghost use Rattle.write_layout.specs.Lists.{fieldListBytes, methodListBytes};
 ghost use Rattle.write_layout.specs.Buffer.{lay};
 ghost use Rattle.write_cells.specs.Cells.{cellValues};
 ghost use Rattle.write_header.specs.Headers.{headerBytes};
-ghost use Rattle.write_row.specs.Rows.{memberRows, methodRows};
-ghost use Rattle.pane_write.specs.Written.{signedOf, sliceIn, headerIn, outWrite};
+ghost use Rattle.write_list.specs.Rows.{memberRows, methodRows};
+ghost use Rattle.pane_write.specs.Written.{signed32, sliceIn, headerIn, outWrite};
 ghost use Rattle.pane_write.specs.Read.{tableOf, leavesOf, codesOf, outCells};
 use answer::Refusal;
 use field::fixed;
@@ -126,7 +126,7 @@ pub extern "C" fn pdb_write_methods(
 
 // A signed number from its 32 bits.
 fn signed(n: u32) -> i32
-    ensures { λ r. ⌜ r ≡ signedOf n ⌝ }
+    ensures { λ r. ⌜ r ≡ signed32 n ⌝ }
 {
     if n < 0x8000_0000 {
         return n as i32;

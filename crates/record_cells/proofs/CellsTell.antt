@@ -12,7 +12,7 @@ use Rattle.answer.specs.Answer.{answered, refused, Read, got, pick, and-then}
 use Rattle.answer.specs.Tables.{find}
 use Rattle.record_layout.specs.Fields.{Shown, number, numeral, absent, many, Field, readField, readFields, readFieldsBy, wordAfter}
 use Rattle.record_layout.specs.Layouts.{Layout, Table, byLayout, readLeaf}
-use Rattle.record_cells.specs.Codes.{fieldOf, decode, fieldsOf}
+use Rattle.record_cells.specs.Codes.{fieldOf, decode, layoutOf}
 use Rattle.record_cells.specs.Cells.{flag, cellOf, cellsOf, valueIn, valuesIn}
 use Rattle.record_cells.specs.Filled.{fieldsBy, CellsTell}
 
@@ -86,8 +86,8 @@ each (f ∷ fs) w s p = go (λ v q. each fs (wordAfter f v w) s q) (readField f 
     go ih (answered g) = more (g .value) (readFields fs (wordAfter f (g .value) w) s (g .next)) (ih (g .value) (g .next))
     go ih (refused m d) = tt
 
-row-told : (n : ℕ) (s : List ℕ) (p : ℕ) (vs : List Shown) (q : ℕ) → readFields (fieldsOf n) 0 s p ≡ got vs q → valuesIn 9 (cellsOf 9 vs) ≡ vs
-unfolding fieldsOf
+row-told : (n : ℕ) (s : List ℕ) (p : ℕ) (vs : List Shown) (q : ℕ) → readFields (layoutOf n) 0 s p ≡ got vs q → valuesIn 9 (cellsOf 9 vs) ≡ vs
+unfolding layoutOf
 row-told n s p vs q e =
     let h : length vs ≡ length (decode 9 n) = rw e at (each (decode 9 n) 0 s p) in
     row-back 9 vs (omega (arith, decoded 9 n))

@@ -10,9 +10,9 @@ use Rattle.answer.specs.Answer.{Answer, answered, refused, Read, got, and-then}
 use Rattle.answer.specs.Refusals.{no}
 use Rattle.answer.specs.declared.Refusal.{Refusal}
 use Rattle.record_layout.specs.Fields.{Shown, Field, readField, readFields, readFieldsBy, wordAfter}
-use Rattle.record_cells.specs.Codes.{fieldOf, decode, fieldsOf}
+use Rattle.record_cells.specs.Codes.{fieldOf, decode, layoutOf}
 use Rattle.record_cells.specs.Cells.{cellOf, cellsOf, putCell, fill}
-use Rattle.record_cells.specs.Filled.{Step, step, stepBy, cellsFrom, FillsCells}
+use Rattle.record_cells.specs.Filled.{CellStep, step, cellStepBy, cellsFrom, FillsCells}
 use Rattle.record_cells.specs.declared.Cell.{Cell}
 use Rattle.record_cells.specs.declared.CellsAnswer.the-variants as row
 
@@ -34,15 +34,15 @@ turn-of (refused n d) f fs k w s cells = refl
 module _ (k n w : ℕ) (s : List ℕ) (p : ℕ) (cells : List ℕ) where
   -- a row is the first field's cell and the row of the rest
   turn : 0 < n → cellsFrom (k + 1) n w s p cells
-      ≡ and-then (stepBy (fieldOf (n % 32)) w s p) (λ x q. cellsFrom k (n / 32) (x .word) s q (putCell cells (27 - 3 * (k + 1)) (x .cell)))
-  unfolding cellsFrom decode readFieldsBy stepBy
+      ≡ and-then (cellStepBy (fieldOf (n % 32)) w s p) (λ x q. cellsFrom k (n / 32) (x .word) s q (putCell cells (27 - 3 * (k + 1)) (x .cell)))
+  unfolding cellsFrom decode readFieldsBy cellStepBy
   turn h = rw (add-one k, ne-eqb n 0 (omega arith)) (turn-of (readField (fieldOf (n % 32)) w s p) (fieldOf (n % 32)) (decode k (n / 32)) k w s cells)
 
-  pub goes : (x : Step) (q : ℕ) → 0 < n → stepBy (fieldOf (n % 32)) w s p ≡ got x q
+  pub goes : (x : CellStep) (q : ℕ) → 0 < n → cellStepBy (fieldOf (n % 32)) w s p ≡ got x q
       → cellsFrom (k + 1) n w s p cells ≡ cellsFrom k (n / 32) (x .word) s q (putCell cells (27 - 3 * (k + 1)) (x .cell))
   goes x q h e = turn h ∙ rw e
 
-  pub stops : (m : ℕ) (d : List ℕ) → 0 < n → stepBy (fieldOf (n % 32)) w s p ≡ refused m d → cellsFrom (k + 1) n w s p cells ≡ refused m d
+  pub stops : (m : ℕ) (d : List ℕ) → 0 < n → cellStepBy (fieldOf (n % 32)) w s p ≡ refused m d → cellsFrom (k + 1) n w s p cells ≡ refused m d
   stops m d h e = turn h ∙ rw e
 
 module _ (w : ℕ) (s : List ℕ) (p : ℕ) (cells : List ℕ) where
@@ -107,10 +107,10 @@ module _ {A : Type 0} (cells : A → List ℕ) where
   refusal-fills (refused n d) before x e = record { said = sym (ap nextIn e); filled = refl }
 
 module _ (n : ℕ) (s : List ℕ) (p : ℕ) (before : List ℕ) where
-  pub fills : (cells : List ℕ) (q : ℕ) → cellsFrom 9 n 0 s p (cellsOf 9 []) ≡ got cells q → FillsCells (cellsOf 9) (readFields (fieldsOf n) 0 s p) (row.Filled q) before cells
-  unfolding cellsFrom fieldsOf
-  fills cells q e = got-fills (cellsOf 9) (readFields (fieldsOf n) 0 s p) before cells q (sym (whole (readFields (fieldsOf n) 0 s p)) ∙ e)
+  pub fills : (cells : List ℕ) (q : ℕ) → cellsFrom 9 n 0 s p (cellsOf 9 []) ≡ got cells q → FillsCells (cellsOf 9) (readFields (layoutOf n) 0 s p) (row.Filled q) before cells
+  unfolding cellsFrom layoutOf
+  fills cells q e = got-fills (cellsOf 9) (readFields (layoutOf n) 0 s p) before cells q (sym (whole (readFields (layoutOf n) 0 s p)) ∙ e)
 
-  pub refuses : (x : Refusal) → cellsFrom 9 n 0 s p (cellsOf 9 []) ≡ no x → FillsCells (cellsOf 9) (readFields (fieldsOf n) 0 s p) (row.Refused x) before before
-  unfolding cellsFrom fieldsOf
-  refuses x e = refusal-fills (cellsOf 9) (readFields (fieldsOf n) 0 s p) before x (sym (whole (readFields (fieldsOf n) 0 s p)) ∙ e)
+  pub refuses : (x : Refusal) → cellsFrom 9 n 0 s p (cellsOf 9 []) ≡ no x → FillsCells (cellsOf 9) (readFields (layoutOf n) 0 s p) (row.Refused x) before before
+  unfolding cellsFrom layoutOf
+  refuses x e = refusal-fills (cellsOf 9) (readFields (layoutOf n) 0 s p) before x (sym (whole (readFields (layoutOf n) 0 s p)) ∙ e)

@@ -9,7 +9,7 @@ use Rattle.answer.specs.Refusals.{no}
 use Rattle.answer.specs.Tables.{find}
 use Rattle.record_layout.specs.Fields.{Shown, number, Field, readField, readFields, wordAfter}
 use Rattle.record_layout.specs.Layouts.{Layout, Table, readLeaf}
-use Rattle.record_cells.specs.Codes.{decode, fieldsOf}
+use Rattle.record_cells.specs.Codes.{decode, layoutOf}
 use Rattle.record_cells.specs.Cells.{cellOf, cellsOf, valuesIn, fill}
 use Rattle.record_cells.specs.declared.Cell.{Cell}
 use Rattle.record_cells.specs.declared.FieldAnswer.{FieldAnswer}
@@ -18,23 +18,23 @@ use Rattle.record_cells.specs.declared.CellsAnswer.{CellsAnswer}
 use Rattle.record_cells.specs.declared.CellsAnswer.the-variants as answer
 
 -- a field that was read: its cell, and the word after it
-pub record Step : Type 0 where
+pub record CellStep : Type 0 where
   pub cell : Cell
   pub word : ℕ
 
-abbrev pub step : Shown → ℕ → Step
+abbrev pub step : Shown → ℕ → CellStep
 step v w = record { cell = cellOf v; word = w }
 
-unfoldable pub stepBy : Field → ℕ → List ℕ → ℕ → Read Step
-stepBy f w s p = and-then (readField f w s p) (λ v q. got (step v (wordAfter f v w)) q)
+unfoldable pub cellStepBy : Field → ℕ → List ℕ → ℕ → Read CellStep
+cellStepBy f w s p = and-then (readField f w s p) (λ v q. got (step v (wordAfter f v w)) q)
 
-abbrev pub saidField : FieldAnswer → Read Step
+abbrev pub saidField : FieldAnswer → Read CellStep
 saidField (field.Got c w q) = got (record { cell = c; word = w }) q
 saidField (field.Refused e) = no e
 
 -- the same for a field that becomes the word, whatever the word was
 abbrev pub AnyWord : FieldAnswer → Field → List ℕ → ℕ → Type 0
-AnyWord r f s p = (w : ℕ) → saidField r ≡ stepBy f w s p
+AnyWord r f s p = (w : ℕ) → saidField r ≡ cellStepBy f w s p
 
 -- what is left to do, where at most k fields are left and n is what is left of the layout
 unfoldable pub cellsFrom : ℕ → ℕ → ℕ → List ℕ → ℕ → List ℕ → Read (List ℕ)
@@ -65,7 +65,7 @@ pub record CellsTell : Type 0 where
   pub back : (n : ℕ) (vs : List Shown) → length vs ≤ n → valuesIn n (cellsOf n vs) ≡ vs
   pub one-row : (n : ℕ) (vs us : List Shown) → length vs ≤ n → length us ≤ n → cellsOf n vs ≡ cellsOf n us → vs ≡ us
   -- and nine cells hold what any layout number reads
-  pub told : (n : ℕ) (s : List ℕ) (p : ℕ) (vs : List Shown) (q : ℕ) → readFields (fieldsOf n) 0 s p ≡ got vs q → valuesIn 9 (cellsOf 9 vs) ≡ vs
+  pub told : (n : ℕ) (s : List ℕ) (p : ℕ) (vs : List Shown) (q : ℕ) → readFields (layoutOf n) 0 s p ≡ got vs q → valuesIn 9 (cellsOf 9 vs) ≡ vs
   -- with the leaf in front it is what 01's readers answer
   pub as-read : (table : Table) (leaf : ℕ) (s : List ℕ) (p : ℕ)
       → and-then (fieldsBy (find leaf table) leaf s p) (λ vs e. got (number leaf ∷ vs) e) ≡ readLeaf table leaf s p

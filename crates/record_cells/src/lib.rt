@@ -8,9 +8,9 @@ ghost use Rattle.answer.specs.Tables.{find};
 ghost use Rattle.record_layout.specs.Fields.{absent, fixed, optionalType, optionalId, gap, numeric, size, string, run, types, slots, readFields};
 ghost use Rattle.record_layout.specs.Layouts.{count16, count32, pointer, S2, memberO, offset, typeLeaves, idLeaves};
 ghost use Rattle.word_attributes.specs.Words.{introducing};
-ghost use Rattle.record_cells.specs.Codes.{fieldOf, fieldsOf, layoutIn};
+ghost use Rattle.record_cells.specs.Codes.{fieldOf, layoutOf, layoutIn};
 ghost use Rattle.record_cells.specs.Cells.{numeralCell, cellsOf};
-ghost use Rattle.record_cells.specs.Filled.{step, stepBy, saidField, AnyWord, FillsCells, fieldsBy};
+ghost use Rattle.record_cells.specs.Filled.{step, cellStepBy, saidField, AnyWord, FillsCells, fieldsBy};
 use answer::Refusal;
 use field::fixed;
 use field::fixed::Read8;
@@ -56,7 +56,7 @@ pub enum CellsAnswer {
 // A field of each kind, at place p, where w is the word.
 
 fn byte_field(s: &[u8], p: usize, w: u32) -> FieldAnswer
-    ensures { λ r. ⌜ saidField r ≡ stepBy (fixed 1) w (now (s .entry)) p ⌝ }
+    ensures { λ r. ⌜ saidField r ≡ cellStepBy (fixed 1) w (now (s .entry)) p ⌝ }
 {
     let Read8::Got(n, q) = fixed::u8_at(s, p) else {
         return FieldAnswer::Refused(Refusal::Ended);
@@ -73,7 +73,7 @@ fn byte_field(s: &[u8], p: usize, w: u32) -> FieldAnswer
 }
 
 fn half_field(s: &[u8], p: usize, w: u32) -> FieldAnswer
-    ensures { λ r. ⌜ saidField r ≡ stepBy (fixed 2) w (now (s .entry)) p ⌝ }
+    ensures { λ r. ⌜ saidField r ≡ cellStepBy (fixed 2) w (now (s .entry)) p ⌝ }
 {
     let Read16::Got(n, q) = fixed::u16_at(s, p) else {
         return FieldAnswer::Refused(Refusal::Ended);
@@ -90,7 +90,7 @@ fn half_field(s: &[u8], p: usize, w: u32) -> FieldAnswer
 }
 
 fn whole_field(s: &[u8], p: usize, w: u32) -> FieldAnswer
-    ensures { λ r. ⌜ saidField r ≡ stepBy (fixed 4) w (now (s .entry)) p ⌝ }
+    ensures { λ r. ⌜ saidField r ≡ cellStepBy (fixed 4) w (now (s .entry)) p ⌝ }
 {
     let Read32::Got(n, q) = fixed::u32_at(s, p) else {
         return FieldAnswer::Refused(Refusal::Ended);
@@ -107,7 +107,7 @@ fn whole_field(s: &[u8], p: usize, w: u32) -> FieldAnswer
 }
 
 fn optional_type_field(s: &[u8], p: usize, w: u32) -> FieldAnswer
-    ensures { λ r. ⌜ saidField r ≡ stepBy optionalType w (now (s .entry)) p ⌝ }
+    ensures { λ r. ⌜ saidField r ≡ cellStepBy optionalType w (now (s .entry)) p ⌝ }
 {
     let ReadOptType::Got(o, q) = index::optional_type_at(s, p) else {
         return FieldAnswer::Refused(Refusal::Ended);
@@ -135,7 +135,7 @@ fn optional_type_field(s: &[u8], p: usize, w: u32) -> FieldAnswer
 }
 
 fn optional_id_field(s: &[u8], p: usize, w: u32) -> FieldAnswer
-    ensures { λ r. ⌜ saidField r ≡ stepBy optionalId w (now (s .entry)) p ⌝ }
+    ensures { λ r. ⌜ saidField r ≡ cellStepBy optionalId w (now (s .entry)) p ⌝ }
 {
     let ReadOptId::Got(o, q) = index::optional_id_at(s, p) else {
         return FieldAnswer::Refused(Refusal::Ended);
@@ -223,7 +223,7 @@ fn pointer_field(s: &[u8], p: usize) -> FieldAnswer
 }
 
 fn gap_field(s: &[u8], p: usize, w: u32) -> FieldAnswer
-    ensures { λ r. ⌜ saidField r ≡ stepBy (gap 2) w (now (s .entry)) p ⌝ }
+    ensures { λ r. ⌜ saidField r ≡ cellStepBy (gap 2) w (now (s .entry)) p ⌝ }
 {
     let Read16::Got(_, q) = fixed::u16_at(s, p) else {
         return FieldAnswer::Refused(Refusal::Ended);
@@ -276,7 +276,7 @@ fn negative_cell(n: u64, width: u8, shorter: bool) -> Cell
 }
 
 fn number_field(s: &[u8], p: usize, w: u32) -> FieldAnswer
-    ensures { λ r. ⌜ saidField r ≡ stepBy numeric w (now (s .entry)) p ⌝ }
+    ensures { λ r. ⌜ saidField r ≡ cellStepBy numeric w (now (s .entry)) p ⌝ }
 {
     match field_number::number_at(s, p) {
         ReadVariant::Refused(e) => {
@@ -297,7 +297,7 @@ fn number_field(s: &[u8], p: usize, w: u32) -> FieldAnswer
 }
 
 fn size_field(s: &[u8], p: usize, w: u32) -> FieldAnswer
-    ensures { λ r. ⌜ saidField r ≡ stepBy size w (now (s .entry)) p ⌝ }
+    ensures { λ r. ⌜ saidField r ≡ cellStepBy size w (now (s .entry)) p ⌝ }
 {
     match field_number::size_at(s, p) {
         ReadSize::Refused(e) => {
@@ -310,7 +310,7 @@ fn size_field(s: &[u8], p: usize, w: u32) -> FieldAnswer
 }
 
 fn text_field(s: &[u8], p: usize, w: u32) -> FieldAnswer
-    ensures { λ r. ⌜ saidField r ≡ stepBy string w (now (s .entry)) p ⌝ }
+    ensures { λ r. ⌜ saidField r ≡ cellStepBy string w (now (s .entry)) p ⌝ }
 {
     let ReadString::Got(t, q) = field_text::string_at(s, p) else {
         return FieldAnswer::Refused(Refusal::Ended);
@@ -328,7 +328,7 @@ fn text_field(s: &[u8], p: usize, w: u32) -> FieldAnswer
 
 // As many type indices as the word says.
 fn indices_field(s: &[u8], p: usize, w: u32) -> FieldAnswer
-    ensures { λ r. ⌜ saidField r ≡ stepBy (run types) w (now (s .entry)) p ⌝ }
+    ensures { λ r. ⌜ saidField r ≡ cellStepBy (run types) w (now (s .entry)) p ⌝ }
 {
     let n = 4 * (w as usize);
     let After::At(q) = field::run::after_bytes(s, p, n) else {
@@ -347,7 +347,7 @@ fn indices_field(s: &[u8], p: usize, w: u32) -> FieldAnswer
 
 // As many slots of four bits as the word says.
 fn slots_field(s: &[u8], p: usize, w: u32) -> FieldAnswer
-    ensures { λ r. ⌜ saidField r ≡ stepBy (run slots) w (now (s .entry)) p ⌝ }
+    ensures { λ r. ⌜ saidField r ≡ cellStepBy (run slots) w (now (s .entry)) p ⌝ }
 {
     let n = ((w as usize) + 1) / 2;
     let After::At(q) = field::run::after_bytes(s, p, n) else {
@@ -381,7 +381,7 @@ fn no_field(p: usize, w: u32) -> FieldAnswer
 
 // A second string, if the properties say so.
 fn second_text_field(s: &[u8], p: usize, w: u32) -> FieldAnswer
-    ensures { λ r. ⌜ saidField r ≡ stepBy S2 w (now (s .entry)) p ⌝ }
+    ensures { λ r. ⌜ saidField r ≡ cellStepBy S2 w (now (s .entry)) p ⌝ }
 {
     if w / 0x200 % 2 == 1 {
         return text_field(s, p, w);
@@ -391,7 +391,7 @@ fn second_text_field(s: &[u8], p: usize, w: u32) -> FieldAnswer
 
 // The class of a pointer to member.
 fn member_class_field(s: &[u8], p: usize, w: u32) -> FieldAnswer
-    ensures { λ r. ⌜ saidField r ≡ stepBy memberO w (now (s .entry)) p ⌝ }
+    ensures { λ r. ⌜ saidField r ≡ cellStepBy memberO w (now (s .entry)) p ⌝ }
 {
     let FlagAnswer::Answered(to_member) = PointerAttributes(w).pointer_to_member() else {
         return no_field(p, w);
@@ -418,7 +418,7 @@ fn introduces(w: u32) -> bool
 
 // The offset of a method that introduces a virtual one.
 fn offset_field(s: &[u8], p: usize, w: u32) -> FieldAnswer
-    ensures { λ r. ⌜ saidField r ≡ stepBy offset w (now (s .entry)) p ⌝ }
+    ensures { λ r. ⌜ saidField r ≡ cellStepBy offset w (now (s .entry)) p ⌝ }
 {
     if introduces(w) {
         return whole_field(s, p, w);
@@ -428,7 +428,7 @@ fn offset_field(s: &[u8], p: usize, w: u32) -> FieldAnswer
 
 // The field of this code at place p, where w is the word.
 fn field_at(s: &[u8], p: usize, code: u64, w: u32) -> FieldAnswer
-    ensures { λ r. ⌜ saidField r ≡ stepBy (fieldOf code) w (now (s .entry)) p ⌝ }
+    ensures { λ r. ⌜ saidField r ≡ cellStepBy (fieldOf code) w (now (s .entry)) p ⌝ }
 {
     match code {
         1 => byte_field(s, p, w),
@@ -459,7 +459,7 @@ fn field_at(s: &[u8], p: usize, code: u64, w: u32) -> FieldAnswer
 
 // The fields of a layout at a place, as a row of nine cells; `out` stays as it is where a field is refused.
 fn cells_at(s: &[u8], at: usize, layout: u64, out: &mut [u64; 27]) -> CellsAnswer
-    ensures { λ r. ⌜ FillsCells (cellsOf 9) (readFields (fieldsOf layout) 0 (now (s .entry)) at) r (now (out .entry)) (now (out .exit)) ⌝ }
+    ensures { λ r. ⌜ FillsCells (cellsOf 9) (readFields (layoutOf layout) 0 (now (s .entry)) at) r (now (out .entry)) (now (out .exit)) ⌝ }
 {
     let mut row = [0u64; 27];
     let mut k: usize = 0;

@@ -3,12 +3,12 @@
 -- A layout is a list of fields. `readFields` reads any layout: fields in order, the first refusal given, bytes after the last not read.
 -- Whatever else is said of a record is said of its layout.
 use Prim.Native.Nat.{ℕ, _+_, _*_, _/_}
-use mathlib.Core.Bool.{Bool, true}
+use mathlib.Core.Bool.{Bool}
 use mathlib.Core.Path.{_≡_}
 use mathlib.Core.List.{List, [], _∷_, map}
 use mathlib.Core.Option.{Option, none, some}
 use lib.IntN.{ℤ, pos}
-use Rattle.answer.specs.Answer.{Answer, refused, Read, got, pick, then, and-then}
+use Rattle.answer.specs.Answer.{refused, Read, got, pick, then, and-then}
 use Rattle.field.specs.Fields.{fixedAt}
 use Rattle.field.specs.Indices.{noType, noId, optionalAt}
 use Rattle.field.specs.Runs.{bytesAfter}

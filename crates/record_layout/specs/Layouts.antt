@@ -3,7 +3,7 @@ use Prim.Native.Nat.{ℕ}
 use mathlib.Core.Bool.{Bool, true, false}
 use mathlib.Core.List.{List, [], _∷_}
 use mathlib.Core.Option.{Option, none, some}
-use Rattle.answer.specs.Answer.{Answer, answered, refused, Read, Got, got, both, then, and-then}
+use Rattle.answer.specs.Answer.{Answer, answered, refused, Read, got, both, and-then}
 use Rattle.answer.specs.Tables.{Line, _is_, find}
 use Rattle.field.specs.Fields.{fixedAt}
 use Rattle.word_attributes.specs.Bits.{bit}

@@ -9,7 +9,7 @@ use Rattle.field_number.specs.Numbers.{numberValue}
 use Rattle.field_number.specs.Forms.{variantForm, sizeForm}
 use Rattle.field_number.specs.declared.Variant.{Variant}
 use Rattle.field_number.specs.declared.Size.{Size}
-use Rattle.record_layout.specs.Fields.{Value, Shown, number, numeral, absent, many, numberOr}
+use Rattle.record_layout.specs.Fields.{Shown, number, numeral, absent, many, numberOr}
 
 -- value i of a record
 abbrev pub nth : ℕ → List Shown → Shown

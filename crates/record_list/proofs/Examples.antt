@@ -16,7 +16,7 @@ use Rattle.field_number.specs.Forms.{Form, shortest, formOf, numeralBy, sizedBy
 use Rattle.record_layout.specs.Fields.{number, numeral, absent, many, readFieldBy, readFieldsBy}
 use Rattle.record_layout.specs.Layouts.{typeLeaves, idLeaves, readLeaf, readRecord, memberLeaves}
 use Rattle.field.specs.declared.index.Stream.the-variants.{Types, Ids}
-use Rattle.record_list.specs.Lists.{typeElement, idElement, methodElement, memberElement, countedBy, counted, startTypes, startIds, startOf, countedStep, methodStep, memberStep, nextMember, stepOf, elementBy, elementOf}
+use Rattle.record_list.specs.Lists.{typeElement, idElement, methodElement, memberElement, countedBy, countedList, startTypes, startIds, startOf, countedStep, methodStep, memberStep, nextMember, stepOf, elementBy, elementOf}
 
 abbrev in-its-shortest : ℕ → Form
 in-its-shortest width = record { width = width; shorter = false }
@@ -82,7 +82,7 @@ pub two-arguments :
     × (elementOf Types arguments 2 ≡ refused 15 [])
     × (elementOf Types (0x01 ∷ 0x12 ∷ 2 ∷ 0 ∷ 0 ∷ 0 ∷ 0x74 ∷ 0 ∷ 0 ∷ 0 ∷ 0x02 ∷ 0x10 ∷ 0 ∷ []) 0 ≡ refused 1 [])
     × (elementOf Types (0x01 ∷ 0x12 ∷ 0 ∷ 0 ∷ 0 ∷ 0x40 ∷ 0x74 ∷ 0 ∷ 0 ∷ 0 ∷ []) 0 ≡ refused 1 [])
-unfolding littleAt fixedAt bytesAfter readFieldBy readFieldsBy counted startOf countedStep stepOf elementBy elementOf startTypes startIds find typeLeaves idLeaves countedBy
+unfolding littleAt fixedAt bytesAfter readFieldBy readFieldsBy countedList startOf countedStep stepOf elementBy elementOf startTypes startIds find typeLeaves idLeaves countedBy
 two-arguments = (refl, refl, refl, refl, refl)
 
 pub without-list :
@@ -100,5 +100,5 @@ pub two-ids :
     × (elementOf Ids (0x03 ∷ 0x16 ∷ 2 ∷ 0 ∷ 0x00 ∷ 0x10 ∷ 0 ∷ 0 ∷ 0x01 ∷ 0x10 ∷ 0 ∷ 0 ∷ []) 1 ≡ answered (idElement (number 0x1001 ∷ [])))
     × (elementOf Ids (0x03 ∷ 0x16 ∷ 2 ∷ 0 ∷ 0x00 ∷ 0x10 ∷ 0 ∷ 0 ∷ 0x01 ∷ 0x10 ∷ 0 ∷ 0 ∷ []) 2 ≡ refused 15 [])
     × (elementOf Ids (0x04 ∷ 0x16 ∷ 1 ∷ 0 ∷ 0 ∷ 0 ∷ 0x00 ∷ 0x10 ∷ 0 ∷ 0 ∷ []) 0 ≡ answered (typeElement (number 0x1000 ∷ [])))
-unfolding littleAt fixedAt bytesAfter readFieldBy readFieldsBy counted countedStep elementBy elementOf startOf startTypes startIds find typeLeaves idLeaves countedBy stepOf
+unfolding littleAt fixedAt bytesAfter readFieldBy readFieldsBy countedList countedStep elementBy elementOf startOf startTypes startIds find typeLeaves idLeaves countedBy stepOf
 two-ids = (refl, refl, refl, refl)

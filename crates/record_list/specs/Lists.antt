@@ -14,7 +14,7 @@ use Rattle.field.specs.declared.index.Stream.the-variants as stream
 use Rattle.record_layout.specs.Fields.{Field, id, readFields, Shown}
 use Rattle.record_layout.specs.Values.{nth, numberIn, stringIn}
 use Rattle.record_layout.specs.Layouts.{T, Layout, Table, typeLeaves, idLeaves, memberLeaves, method, readRecord}
-use Rattle.record_member.specs.Said.{leafIn}
+use Rattle.record_member.specs.Said.{memberLeaf}
 use Rattle.record_list.specs.declared.ListCursor.{ListCursor}
 
 -- an element: a type index, an id index, a method of 0x1206 or a member of 0x1203, with the values of its layout, for a member its leaf first
@@ -54,14 +54,14 @@ byLine none leaf s p = refused 10 (leaf ∷ [])
 byLine (some fs) leaf s p = countedBy fs leaf s p
 
 -- by the leaf's line of the table
-unfoldable pub counted : Table → ℕ → List ℕ → ℕ → Answer ListCursor
-counted table leaf s p = byLine (find leaf table) leaf s p
+unfoldable pub countedList : Table → ℕ → List ℕ → ℕ → Answer ListCursor
+countedList table leaf s p = byLine (find leaf table) leaf s p
 
 -- the lists of a type record: a leaf without a list is 10
 unfoldable pub startTypes : List ℕ → Answer ListCursor
 startTypes s =
     and-then (fixedAt 2 s 0) (λ leaf p.
-    pick (eqb leaf 0x1201) (counted typeLeaves 0x1201 s p)
+    pick (eqb leaf 0x1201) (countedList typeLeaves 0x1201 s p)
     (pick (eqb leaf 0x1206) (answered (toTheEnd 0x1206 p))
     (pick (eqb leaf 0x1203) (answered (toTheEnd 0x1203 p))
     (refused 10 (leaf ∷ [])))))
@@ -70,8 +70,8 @@ startTypes s =
 unfoldable pub startIds : List ℕ → Answer ListCursor
 startIds s =
     and-then (fixedAt 2 s 0) (λ leaf p.
-    pick (eqb leaf 0x1603) (counted idLeaves 0x1603 s p)
-    (pick (eqb leaf 0x1604) (counted idLeaves 0x1604 s p)
+    pick (eqb leaf 0x1603) (countedList idLeaves 0x1603 s p)
+    (pick (eqb leaf 0x1604) (countedList idLeaves 0x1604 s p)
     (refused 10 (leaf ∷ []))))
 
 -- the list of a record of this stream
@@ -97,7 +97,7 @@ methodStep s p =
 
 -- 0x1404 is an element that ends the list
 abbrev pub leftAfter : List Shown → ℕ
-leftAfter vs = pick (eqb (leafIn vs) 0x1404) 0 1
+leftAfter vs = pick (eqb (memberLeaf vs) 0x1404) 0 1
 
 -- 0x1203 to the end
 unfoldable pub memberStep : List ℕ → ℕ → Answer Step

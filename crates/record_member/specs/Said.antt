@@ -65,9 +65,9 @@ saidEntry rentry.Ended = ended
 -- Names ------------------------------------------------------------------------------------------------------------------------
 
 -- the leaf that the values of a member begin with
-abbrev pub leafIn : List Shown → ℕ
-leafIn [] = 0
-leafIn (v ∷ vs) = numberOr v 0
+abbrev pub memberLeaf : List Shown → ℕ
+memberLeaf [] = 0
+memberLeaf (v ∷ vs) = numberOr v 0
 
 -- the members whose name the crate's `name` gives; 0x1511 has one, and it does not give it
 unfoldable pub namedLeaves : List ℕ
@@ -82,4 +82,4 @@ stringAmong (numeral z f ∷ vs) = stringAmong vs
 stringAmong (absent ∷ vs) = stringAmong vs
 
 unfoldable pub memberName : List Shown → Option Part
-memberName vs = pick (among (leafIn vs) namedLeaves) (stringAmong vs) none
+memberName vs = pick (among (memberLeaf vs) namedLeaves) (stringAmong vs) none

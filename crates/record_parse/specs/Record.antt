@@ -26,18 +26,18 @@ pub data Parsed : Type 0 where
   id : List Shown → Parsed
 
 -- n bytes of s from place p
-abbrev pub bytes : List ℕ → ℕ → ℕ → List ℕ
-bytes s p n = take n (drop p s)
+abbrev pub payloadAt : List ℕ → ℕ → ℕ → List ℕ
+payloadAt s p n = take n (drop p s)
 
 abbrev pub numberedOf : ℕ → Answer Parsed
 numberedOf i = then (primitiveOf i) (λ t. answered (primitive t))
 
 -- an item that passes the end of its stream is 1
 unfoldable pub typeBytes : List ℕ → ℕ → ℕ → Answer Parsed
-typeBytes s p n = stop (ltb (length s) (p + n)) 1 (then (recordOf typeLeaves (bytes s p n)) (λ vs. answered (type vs)))
+typeBytes s p n = stop (ltb (length s) (p + n)) 1 (then (recordOf typeLeaves (payloadAt s p n)) (λ vs. answered (type vs)))
 
 unfoldable pub idBytes : List ℕ → ℕ → ℕ → Answer Parsed
-idBytes s p n = stop (ltb (length s) (p + n)) 1 (then (recordOf idLeaves (bytes s p n)) (λ vs. answered (id vs)))
+idBytes s p n = stop (ltb (length s) (p + n)) 1 (then (recordOf idLeaves (payloadAt s p n)) (λ vs. answered (id vs)))
 
 -- a type item below 0x1000 is read as a primitive; any other by its bytes
 unfoldable pub typeItem : List ℕ → ℕ → ℕ → ℕ → Answer Parsed

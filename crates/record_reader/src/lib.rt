@@ -1,5 +1,5 @@
 // The list reader of document 01: it "holds the record's bytes and walks them", by a cursor. Its methods are thin over `step` and
-// `element_from` of record_list; `step_of` and `nth` have plain parameters, so that their callers need no proof by hand.
+// `element_from` of record_list; `nth` has plain parameters, so that its callers need no proof by hand.
 ghost use mathlib.Core.Path.{_≡_};
 ghost use Rattle.record_list.specs.Lists.{stepOf, elementBy, elementOf};
 ghost use Rattle.record_list.specs.Said.{saidElement};
@@ -62,30 +62,12 @@ impl<'a> ListReader<'a> {
     }
 }
 
-// A step in place, through a reader: what it answers, and where the reader stands after it.
-pub fn step_of(bytes: &[u8], cursor: ListCursor) -> Stepped
-    ensures { λ u. ⌜ Steps cursor (stepOf (now (bytes .entry)) cursor) (u .answer) (u .cursor) ⌝ }
-{
-    let mut r = ListReader { bytes, cursor };
-    let answer = r.step();
-    Stepped {
-        cursor: r.cursor,
-        answer,
-    }
-}
-
-fn element_of(bytes: &[u8], cursor: ListCursor, k: u32) -> ElementAnswer
-    ensures { λ r. ⌜ saidElement r ≡ elementBy (stepOf (now (bytes .entry))) k cursor ⌝ }
-{
-    ListReader::new(bytes, cursor).element(k)
-}
-
-// Element k of a record's list, through a reader that stands where the list starts.
+// Element k of a record's list, from its start.
 pub fn nth(stream: Stream, s: &[u8], k: u32) -> ElementAnswer
     ensures { λ r. ⌜ saidElement r ≡ elementOf stream (now (s .entry)) k ⌝ }
 {
     match record_list::start(stream, s) {
         StartAnswer::Refused(x) => ElementAnswer::Refused(x),
-        StartAnswer::Answered(c) => element_of(s, c, k),
+        StartAnswer::Answered(c) => record_list::element_from(s, c, k),
     }
 }

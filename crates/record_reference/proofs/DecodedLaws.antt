@@ -16,7 +16,7 @@ use Rattle.field.proofs.FieldLaws.{field-there, field-ended}
 use Rattle.record_layout.specs.Fields.{Shown, readFieldBy, readFieldsBy}
 use Rattle.record_layout.specs.Layouts.{typeLeaves, recordOf}
 use Rattle.record_list.specs.declared.ListCursor.{ListCursor}
-use Rattle.record_list.specs.Lists.{Step, toTheEnd, countedBy, counted, startTypes, stepOf, elementBy}
+use Rattle.record_list.specs.Lists.{Step, toTheEnd, countedBy, countedList, startTypes, stepOf, elementBy}
 use Rattle.record_reference.specs.References.{Ref, refsAt, ifMore, refsFrom, refsList}
 use Rattle.record_reference.specs.Values.{refsBy}
 use Rattle.record_reference.specs.Decoded.{Decodes, Decoded, Has, HasExactly}
@@ -93,11 +93,11 @@ abbrev Starts : List ℕ → Answer ListCursor → Type 0
 Starts s (answered c) = (0 < c .at) × (c .at ≤ length s)
 Starts s (refused n d) = Unit
 
-counted-inside : (s : List ℕ) → Starts s (counted typeLeaves 0x1201 s 2)
-unfolding counted countedBy typeLeaves find readFieldsBy readFieldBy bytesAfter
+counted-inside : (s : List ℕ) → Starts s (countedList typeLeaves 0x1201 s 2)
+unfolding countedList countedBy typeLeaves find readFieldsBy readFieldBy bytesAfter
 counted-inside s = go (leb 6 (length s)) (ltb (length s) (6 + 4 * littleAt 4 s 2)) refl refl
   where
-    go : (a b : Bool) → leb 6 (length s) ≡ a → ltb (length s) (6 + 4 * littleAt 4 s 2) ≡ b → Starts s (counted typeLeaves 0x1201 s 2)
+    go : (a b : Bool) → leb 6 (length s) ≡ a → ltb (length s) (6 + 4 * littleAt 4 s 2) ≡ b → Starts s (countedList typeLeaves 0x1201 s 2)
     go false b i j = let k : length s < 6 = leb-false _ _ i in rw (sym (field-ended 4 s 2 k)) tt
     go true true i j = let k : 6 ≤ length s = leb-true _ _ i in rw (sym (field-there 4 s 2 (littleAt 4 s 2) k refl), j) tt
     go true false i j = let k : 6 ≤ length s = leb-true _ _ i in rw (sym (field-there 4 s 2 (littleAt 4 s 2) k refl), j) (omega arith, k)
@@ -106,7 +106,7 @@ start-inside : (s : List ℕ) → Starts s (startTypes s)
 unfolding startTypes
 start-inside s = go (leb 2 (length s)) refl
   where
-    by : 2 ≤ length s → (a b d : Bool) → Starts s (pick a (counted typeLeaves 0x1201 s 2) (pick b (answered (toTheEnd 0x1206 2)) (pick d (answered (toTheEnd 0x1203 2)) (refused 10 (littleAt 2 s 0 ∷ [])))))
+    by : 2 ≤ length s → (a b d : Bool) → Starts s (pick a (countedList typeLeaves 0x1201 s 2) (pick b (answered (toTheEnd 0x1206 2)) (pick d (answered (toTheEnd 0x1203 2)) (refused 10 (littleAt 2 s 0 ∷ [])))))
     by l true b d = counted-inside s
     by l false true d = (omega arith, l)
     by l false false true = (omega arith, l)

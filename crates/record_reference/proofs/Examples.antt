@@ -15,7 +15,7 @@ use Rattle.word_attributes.specs.Words.{introducing}
 use Rattle.word_attributes.specs.Pointers.{kindOf, pointerKinds, modeOf, pointerModes, toMemberOf}
 use Rattle.record_layout.specs.Fields.{readFieldBy, readFieldsBy}
 use Rattle.record_layout.specs.Layouts.{typeLeaves, memberLeaves, readLeaf, readRecord}
-use Rattle.record_list.specs.Lists.{countedBy, counted, countedStep, startTypes, methodStep, memberStep, nextMember, stepOf}
+use Rattle.record_list.specs.Lists.{countedBy, countedList, countedStep, startTypes, methodStep, memberStep, nextMember, stepOf}
 use Rattle.record_reference.specs.References.{ref, refsField, refsFields, refsLeaf, refsRecord, refsAt, refsFrom, refsOf}
 
 -- a pointer to a member; one whose class is 0xffff, which reads as none; and one of mode 0
@@ -30,7 +30,7 @@ pointers = (refl, refl, refl)
 pub arguments :
     (refsOf (0x01 ∷ 0x12 ∷ 2 ∷ 0 ∷ 0 ∷ 0 ∷ 0x74 ∷ 0 ∷ 0 ∷ 0 ∷ 0x03 ∷ 0x10 ∷ 0 ∷ 0 ∷ []) ≡ answered (ref 6 false 0x74 ∷ ref 10 false 0x1003 ∷ []))
     × (refsOf (0x01 ∷ 0x12 ∷ 2 ∷ 0 ∷ 0 ∷ 0 ∷ 0x74 ∷ 0 ∷ 0 ∷ 0 ∷ 0x03 ∷ 0x10 ∷ 0 ∷ []) ≡ refused 1 [])
-unfolding littleAt fixedAt bytesAfter find typeLeaves readFieldBy readFieldsBy countedBy counted countedStep startTypes stepOf refsField refsFields refsLeaf refsRecord refsAt refsFrom refsOf
+unfolding littleAt fixedAt bytesAfter find typeLeaves readFieldBy readFieldsBy countedBy countedList countedStep startTypes stepOf refsField refsFields refsLeaf refsRecord refsAt refsFrom refsOf
 arguments = (refl, refl)
 
 -- a member at 0 "A", an enumerator, padding, and a virtual base

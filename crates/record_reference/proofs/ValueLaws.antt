@@ -16,7 +16,7 @@ use Rattle.field.specs.Indices.{noType, noId, optionalOf, optionalAt}
 use Rattle.field_text.specs.Texts.{paddingAfter}
 use Rattle.record_layout.specs.Fields.{Shown, number, Field, fixed, type, id, stringReference, optionalType, optionalId, word, gap, numeric, size, string, run, methods, members, when, readField, readFieldBy, readFields, readFieldsBy, wordAfter}
 use Rattle.record_layout.specs.Layouts.{Layout, Table, T, typeLeaves, memberLeaves, method, byLayout, readLeaf, leafOf, readRecord, recordOf}
-use Rattle.record_member.specs.Said.{leafIn}
+use Rattle.record_member.specs.Said.{memberLeaf}
 use Rattle.record_list.specs.declared.ListCursor.{ListCursor}
 use Rattle.record_list.specs.Lists.{ElementValues, typeElement, idElement, methodElement, memberElement, Step, stepTo, inCounted, toTheEnd, afterMember, countedStep, methodStep, leftAfter, memberStep, nextMember, startTypes, stepOf}
 use Rattle.record_reference.specs.References.{Ref, refsField, refsFields, byRefs, refsLeaf, refsRecord, orNone, refsAt, refsList, refsOf}
@@ -161,11 +161,11 @@ module _ (table : Table) (fixed : allFixed table ≡ true) (s : List ℕ) where
   leaf-tell leaf p = go (find leaf table) refl
     where
       by : (fs : Layout) → find leaf table ≡ some fs → (a : Read (List Shown))
-          → and-then a (λ vs e. got (refsIn fs vs p) e) ≡ and-then (and-then a (λ vs e. got (number leaf ∷ vs) e)) (λ vs e. got (inLayout (find (leafIn vs) table) (behind vs) p) e)
+          → and-then a (λ vs e. got (refsIn fs vs p) e) ≡ and-then (and-then a (λ vs e. got (number leaf ∷ vs) e)) (λ vs e. got (inLayout (find (memberLeaf vs) table) (behind vs) p) e)
       by fs e (answered g) = rw e
       by fs e (refused n d) = refl
 
-      go : (o : Option Layout) → find leaf table ≡ o → byRefs o leaf s p ≡ and-then (byLayout o leaf s p) (λ vs e. got (inLayout (find (leafIn vs) table) (behind vs) p) e)
+      go : (o : Option Layout) → find leaf table ≡ o → byRefs o leaf s p ≡ and-then (byLayout o leaf s p) (λ vs e. got (inLayout (find (memberLeaf vs) table) (behind vs) p) e)
       go none e = refl
       go (some fs) e = fields-tell fs 0 s p (found table leaf fs fixed e) ∙ by fs e (readFields fs 0 s p)
 

@@ -11,7 +11,7 @@ use Rattle.answer.specs.Tables.{_is_, find}
 use Rattle.field_text.specs.Texts.{paddingAfter}
 use Rattle.record_layout.specs.Fields.{Shown, Field, fixed, type, id, stringReference, optionalType, optionalId, word, gap, numeric, size, string, run, methods, members, when}
 use Rattle.record_layout.specs.Layouts.{Layout, Table, T, memberLeaves, method}
-use Rattle.record_member.specs.Said.{leafIn}
+use Rattle.record_member.specs.Said.{memberLeaf}
 use Rattle.record_list.specs.declared.ListCursor.{ListCursor}
 use Rattle.record_list.specs.Lists.{ElementValues, typeElement, idElement, methodElement, memberElement}
 use Rattle.record_reference.specs.References.{Ref, refsField}
@@ -89,7 +89,7 @@ inLayout none vs p = []
 inLayout (some fs) vs p = refsIn fs vs p
 
 unfoldable pub refsBy : Table → List Shown → ℕ → List Ref
-refsBy table vs p = inLayout (find (leafIn vs) table) (behind vs) p
+refsBy table vs p = inLayout (find (memberLeaf vs) table) (behind vs) p
 
 -- The same field by field, for the fields that may refer: what the first of them has, the second, and so on
 unfoldable pub slotsIn : Layout → List Shown → ℕ → List (List Ref)
@@ -103,7 +103,7 @@ inSlots none vs p = []
 inSlots (some fs) vs p = slotsIn fs vs p
 
 unfoldable pub slotsBy : Table → List Shown → ℕ → List (List Ref)
-slotsBy table vs p = inSlots (find (leafIn vs) table) (behind vs) p
+slotsBy table vs p = inSlots (find (memberLeaf vs) table) (behind vs) p
 
 -- n of them, the last ones empty where there are fewer
 unfoldable pub slots : ℕ → List (List Ref) → List (List Ref)

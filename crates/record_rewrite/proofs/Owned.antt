@@ -10,7 +10,7 @@ use Rattle.field.specs.Fields.{fixedAt}
 use Rattle.field.proofs.FieldLaws.{field-got}
 use Rattle.record_layout.specs.Fields.{Shown, number, readFields}
 use Rattle.record_layout.specs.Layouts.{Layout, Table, byLayout, readLeaf, readRecord}
-use Rattle.record_member.specs.Said.{leafIn}
+use Rattle.record_member.specs.Said.{memberLeaf}
 use Rattle.record_reference.specs.References.{byRefs, refsLeaf, refsRecord}
 use Rattle.record_rewrite.specs.Rewrite.{Within, Moved, movedBy, movedRecord}
 use Rattle.record_reference.proofs.ValueLaws.{no-answer}
@@ -38,14 +38,14 @@ module _ (f : ℕ → ℕ) (table : Table) (s : List ℕ) where
           })
 
       go : (o : Option Layout) → find leaf table ≡ o → byLayout o leaf s p ≡ got vs e
-          → Owned f s 0 p (movedBy f (find (leafIn vs) table) vs) e (λ t. byLayout (find leaf table) leaf t p) (λ t. byRefs (find leaf table) leaf t p)
+          → Owned f s 0 p (movedBy f (find (memberLeaf vs) table) vs) e (λ t. byLayout (find leaf table) leaf t p) (λ t. byRefs (find leaf table) leaf t p)
       go none i g = no-answer g
       go (some fs) i g =
           let u = from (readFields fs 0 s p) (λ us d. got (number leaf ∷ us) d) _ g in
           to (u .value) (u .place) (u .was) vs e (same-value (number leaf ∷ u .value) vs (u .place) e (u .gives)) (same-place (number leaf ∷ u .value) vs (u .place) e (u .gives))
         where
           to : (us : List Shown) (d : ℕ) → readFields fs 0 s p ≡ got us d → (vs : List Shown) (e : ℕ) → number leaf ∷ us ≡ vs → d ≡ e
-              → Owned f s 0 p (movedBy f (find (leafIn vs) table) vs) e (λ t. byLayout (find leaf table) leaf t p) (λ t. byRefs (find leaf table) leaf t p)
+              → Owned f s 0 p (movedBy f (find (memberLeaf vs) table) vs) e (λ t. byLayout (find leaf table) leaf t p) (λ t. byRefs (find leaf table) leaf t p)
           to us d h vs e x y = rw (← x, ← y) (with-leaf fs i us d h)
 
   -- and the leaf before them, which is no reference

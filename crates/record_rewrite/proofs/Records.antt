@@ -16,7 +16,7 @@ use Rattle.field.proofs.FieldLaws.{field-got, field-there, field-ended}
 use Rattle.record_layout.specs.Fields.{Shown, number, absent, many, readFieldBy, readFieldsBy}
 use Rattle.record_layout.specs.Layouts.{Table, typeLeaves, readLeaf, readRecord, leafOf, recordOf}
 use Rattle.record_list.specs.declared.ListCursor.{ListCursor}
-use Rattle.record_list.specs.Lists.{inCounted, toTheEnd, countedBy, counted, startTypes, startOf, elementOf}
+use Rattle.record_list.specs.Lists.{inCounted, toTheEnd, countedBy, countedList, startTypes, startOf, elementOf}
 use Rattle.record_reference.specs.References.{Ref, refsField, refsFields, refsLeaf, refsRecord, refsFrom, refsList, refsOf}
 use Rattle.record_reference.specs.Values.{refsBy}
 use Rattle.record_reference.proofs.ValueLaws.{no-answer, types-fixed, record-tell}
@@ -63,7 +63,7 @@ abbrev counts : ℕ → List Shown
 counts n = number 0x1201 ∷ number n ∷ many (record { place = 6; length = 4 * n }) ∷ []
 
 types-begin : (n : ℕ) (t : List ℕ) → fixedAt 2 t 0 ≡ got 0x1201 2 → littleAt 4 t 2 ≡ n → 6 + 4 * n ≤ length t → Begins (counts n) (inCounted 0x1201 6 n) t
-unfolding startTypes counted countedBy recordOf leafOf readLeaf typeLeaves find readFieldsBy readFieldBy bytesAfter refsRecord refsLeaf refsFields refsField
+unfolding startTypes countedList countedBy recordOf leafOf readLeaf typeLeaves find readFieldsBy readFieldBy bytesAfter refsRecord refsLeaf refsFields refsField
 types-begin n t h i r =
     let k : fixedAt 4 t 2 ≡ got n 6 = sym (field-there 4 t 2 n (omega arith) (sym i)) in
     let l = le-ltb _ _ r in

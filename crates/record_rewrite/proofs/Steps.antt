@@ -13,7 +13,7 @@ use Rattle.answer.specs.Tables.{find}
 use Rattle.field_text.specs.Texts.{paddingAfter}
 use Rattle.record_layout.specs.Fields.{Shown, id, readField, readFields}
 use Rattle.record_layout.specs.Layouts.{Layout, T, method, memberLeaves, readRecord}
-use Rattle.record_member.specs.Said.{leafIn}
+use Rattle.record_member.specs.Said.{memberLeaf}
 use Rattle.record_list.specs.declared.ListCursor.{ListCursor}
 use Rattle.record_list.specs.Lists.{ElementValues, typeElement, idElement, methodElement, memberElement, Step, stepTo, inCounted, toTheEnd, afterMember, countedStep, methodStep, leftAfter, memberStep, nextMember, stepOf}
 use Rattle.record_reference.specs.References.{Ref, refsField, refsFields, refsRecord, orNone, refsAt}
@@ -91,7 +91,7 @@ id-none s p = go (readField id 0 s p)
     go (answered g) = refl
     go (refused n d) = refl
 
-same-leaf : (f : ℕ → ℕ) (o : Option Layout) (vs : List Shown) → leafIn (movedBy f o vs) ≡ leafIn vs
+same-leaf : (f : ℕ → ℕ) (o : Option Layout) (vs : List Shown) → memberLeaf (movedBy f o vs) ≡ memberLeaf vs
 same-leaf f none vs = refl
 same-leaf f (some fs) [] = refl
 same-leaf f (some fs) (v ∷ vs) = refl
@@ -141,7 +141,7 @@ module _ (f : ℕ → ℕ) (s : List ℕ) where
       (λ vs e g. record-owned f memberLeaves s p vs e g) (λ vs. refl) (λ vs e. refl) stays x h
     where
       stays : (vs : List Shown) (e : ℕ) → afterMember e (leftAfter (movedRecord f memberLeaves vs)) ≡ afterMember e (leftAfter vs)
-      stays vs e = ap (λ n. afterMember e (pick (eqb n 0x1404) 0 1)) (same-leaf f (find (leafIn vs) memberLeaves) vs)
+      stays vs e = ap (λ n. afterMember e (pick (eqb n 0x1404) 0 1)) (same-leaf f (find (memberLeaf vs) memberLeaves) vs)
 
   -- after the padding
   next-step : (p left : ℕ) (padded : Bool) (x : Step) → nextMember s p left padded ≡ answered x

@@ -14,7 +14,7 @@ use Rattle.field.specs.Indices.{noType}
 use Rattle.field_put.specs.Bytes.{put}
 use Rattle.record_layout.specs.Fields.{Shown, number, numeral, absent, many, Field, fixed, type, id, stringReference, optionalType, optionalId, word, gap, numeric, size, string, run, methods, members, when}
 use Rattle.record_layout.specs.Layouts.{Layout, Table, T, memberLeaves, method}
-use Rattle.record_member.specs.Said.{leafIn}
+use Rattle.record_member.specs.Said.{memberLeaf}
 use Rattle.record_list.specs.Lists.{ElementValues, typeElement, idElement, methodElement, memberElement, Step}
 use Rattle.record_reference.specs.References.{Ref, ref}
 
@@ -115,7 +115,7 @@ movedBy f (some fs) [] = []
 movedBy f (some fs) (v ∷ vs) = v ∷ movedValues f fs vs
 
 unfoldable pub movedRecord : (ℕ → ℕ) → Table → List Shown → List Shown
-movedRecord f table vs = movedBy f (find (leafIn vs) table) vs
+movedRecord f table vs = movedBy f (find (memberLeaf vs) table) vs
 
 -- of an element of a list
 unfoldable pub movedElement : (ℕ → ℕ) → ElementValues → ElementValues

@@ -9,7 +9,7 @@ use Rattle.field.specs.Fields.{littleAt, fixedAt}
 use Rattle.field.specs.Runs.{bytesAfter}
 use Rattle.record_layout.specs.Fields.{readFieldBy, readFieldsBy}
 use Rattle.record_layout.specs.Layouts.{typeLeaves, idLeaves}
-use Rattle.record_list.specs.Lists.{inCounted, toTheEnd, countedBy, counted, startTypes, startIds, startOf}
+use Rattle.record_list.specs.Lists.{inCounted, toTheEnd, countedBy, countedList, startTypes, startIds, startOf}
 use Rattle.section_read.specs.Readers.{readerOf, readerAt}
 
 -- the seven id leaves, and 0x1609, a structure that stands behind them
@@ -31,5 +31,5 @@ pub starts : map (λ (b : List ℕ). startOf (readerAt b 0) b)
     ∷ (0x03 ∷ [])
     ∷ [])
     ≡ answered (inCounted 0x1201 6 2) ∷ answered (inCounted 0x1604 6 2) ∷ answered (toTheEnd 0x1203 2) ∷ refused 10 (0x1605 ∷ []) ∷ refused 1 [] ∷ []
-unfolding startOf startTypes startIds counted countedBy readerAt readerOf find typeLeaves idLeaves readFieldsBy readFieldBy fixedAt littleAt bytesAfter
+unfolding startOf startTypes startIds countedList countedBy readerAt readerOf find typeLeaves idLeaves readFieldsBy readFieldBy fixedAt littleAt bytesAfter
 starts = refl

@@ -9,7 +9,7 @@ use lib.Dec.{ltb}
 use Rattle.answer.specs.Answer.{Answer, Read, answered, refused, pick}
 use Rattle.answer.specs.Tables.{find}
 use Rattle.field.specs.Fields.{fixedAt}
-use Rattle.field.specs.Indices.{indexIn, numberIn}
+use Rattle.field.specs.Indices.{indexIn, indexNumber}
 use Rattle.field.specs.declared.index.Stream.{Stream}
 use Rattle.field.specs.declared.index.Stream.the-variants.{Types, Ids}
 use Rattle.stream_item.specs.declared.Entry.{Entry}
@@ -44,8 +44,8 @@ pub record EachTaken : Type 0 where
 
 -- an entry under the tag of the reader that takes it: one run of numbers, so that the tag it came with says nothing
 abbrev pub sortedOf : List ℕ → Entry → Entry
-sortedOf s (entry.Record i) = entry.Record (record { index = indexIn (tagOf s (numberIn (i .index)) (i .place)) (numberIn (i .index)); place = i .place; length = i .length })
-sortedOf s (entry.Marker i) = entry.Marker (indexIn Types (numberIn i))
+sortedOf s (entry.Record i) = entry.Record (record { index = indexIn (tagOf s (indexNumber (i .index)) (i .place)) (indexNumber (i .index)); place = i .place; length = i .length })
+sortedOf s (entry.Marker i) = entry.Marker (indexIn Types (indexNumber i))
 
 -- 16 first
 unfoldable pub readOf : List ℕ → Entry → Answer Parsed

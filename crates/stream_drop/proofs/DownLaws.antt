@@ -21,7 +21,7 @@ use Rattle.record_reference.specs.References.{Ref, refsOf}
 use Rattle.record_reference.proofs.DecodedLaws.{has-exactly}
 use Rattle.stream_fit.specs.Fit.{payloadOf}
 use Rattle.stream_fit.proofs.SentenceLaws.{first-at}
-use Rattle.stream_prune.specs.Links.{link, links, Walked, ends, past, payloadsBy, payloadsFrom}
+use Rattle.stream_prune.specs.Links.{link, links, ComesPast, ends, past, payloadsBy, payloadsFrom}
 use Rattle.stream_prune.specs.Pruned.{rank, numbers, linkBytes}
 use Rattle.stream_prune.specs.Dropped.{IsIn, markAll, visit, pass, marks, numbersOf, rootsFrom, namesOf, marksOf}
 use Rattle.stream_prune.proofs.Numbers.{same-or}
@@ -30,7 +30,7 @@ use Rattle.stream_prune.proofs.LinkLaws.{link-length, record-onward, walked-lin
 use Rattle.stream_prune.proofs.HeadLaws.{size-inside}
 use Rattle.stream_prune.proofs.NewStream.{Old, op, goods, count}
 use Rattle.stream_prune.proofs.DroppedLaws.{good-at}
-use Rattle.stream_drop.specs.Each.{held, doneOf}
+use Rattle.stream_drop.specs.Each.{heldOf, doneOf}
 use Rattle.stream_drop.specs.Passes.{lengthsIn, rootsIn, visited, downFrom, Numbered, numberFrom}
 use Rattle.stream_drop.specs.declared.each.Job.the-variants as job
 use Rattle.stream_drop.proofs.DoneLaws.{done-refs}
@@ -60,7 +60,7 @@ spot-last a [] = omega arith
 spot-last a (p ∷ ps) = omega (arith, spot-last (a + 2 + length p) ps, length-append (link p) (links ps), link-length p)
 
 -- its payload is there
-pub spot-bytes : (s : List ℕ) (c : ItemIter) (ps : List (List ℕ)) → Walked s c ps → (i : ℕ) → i < length ps
+pub spot-bytes : (s : List ℕ) (c : ItemIter) (ps : List (List ℕ)) → ComesPast s c ps → (i : ℕ) → i < length ps
     → bytesAt (length (getD ps i [])) s (spot (c .at) ps i + 2) ≡ getD ps i []
 unfolding spot
 spot-bytes s c ps (ends e) i l = absurd (omega arith)
@@ -74,7 +74,7 @@ spot-bytes s c ps (past {d = d} {i = x} {p = p} {ps = qs} e f w) (suc i) l =
     let z : d .at ≡ c .at + 2 + length p = omega (arith, yields s c x d e .at) in
     ap (λ k. bytesAt (length (getD qs i [])) s (spot k qs i + 2)) (sym z) ∙ spot-bytes s d qs w i (omega arith)
 
-pub walked-small : (s : List ℕ) (c : ItemIter) (ps : List (List ℕ)) → Octets s → Walked s c ps → Small (map length ps)
+pub walked-small : (s : List ℕ) (c : ItemIter) (ps : List (List ℕ)) → Octets s → ComesPast s c ps → Small (map length ps)
 unfolding Octets
 walked-small s c ps o (ends e) i = omega arith
 walked-small s c ps o (past {d = d} {i = x} {p = p} {ps = qs} e f w) zero =
@@ -136,15 +136,15 @@ module _ (s : List ℕ) (h : Header) (c : ItemIter) (ps : List (List ℕ)) (old 
 
   module _ (g : Bool) (b : List ℕ) where
     visited-packed : (ms : List ℕ) (i : ℕ) → length ms ≡ length ps → Bits ms → i < length ps
-        → visited least s (getD (put t 0 (packed ls ms)) i 0) (spot (c .at) ps i + 2) (held g (put t 0 (packed ls ms)) b)
-        ≡ held g (put t 0 (packed ls (visit (namesOf least ps) i ms))) b
+        → visited least s (getD (put t 0 (packed ls ms)) i 0) (spot (c .at) ps i + 2) (heldOf g (put t 0 (packed ls ms)) b)
+        ≡ heldOf g (put t 0 (packed ls (visit (namesOf least ps) i ms))) b
     visited-packed ms i e k l = go (same-or (getD ms i 0) 1)
       where
-        go : (getD ms i 0 ≡ 1) ⊎ (getD ms i 0 ≡ 1 → ⊥) → visited least s (getD (put t 0 (packed ls ms)) i 0) (spot (c .at) ps i + 2) (held g (put t 0 (packed ls ms)) b)
-            ≡ held g (put t 0 (packed ls (visit (namesOf least ps) i ms))) b
+        go : (getD ms i 0 ≡ 1) ⊎ (getD ms i 0 ≡ 1 → ⊥) → visited least s (getD (put t 0 (packed ls ms)) i 0) (spot (c .at) ps i + 2) (heldOf g (put t 0 (packed ls ms)) b)
+            ≡ heldOf g (put t 0 (packed ls (visit (namesOf least ps) i ms))) b
         go (inl m) =
             let v = getD (put t 0 (packed ls ms)) i 0 in
-            let x = held g (put t 0 (packed ls ms)) b in
+            let x = heldOf g (put t 0 (packed ls ms)) b in
             let up : 65536 ≤ getD (put t 0 (packed ls ms)) i 0 = omega (arith, entry-at ms i e l, m) in
             let a = good-at least least ps i (goods s h c ps old) l in
             let r = has-exactly .decoded-has (getD ps i []) (a .decodes) in
@@ -153,25 +153,25 @@ module _ (s : List ℕ) (h : Header) (c : ItemIter) (ps : List (List ℕ)) (old 
             ∙ ap (λ y. doneOf least job.Mark y x) (spot-bytes s c ps (old .walked) i l)
             ∙ done-refs least job.Mark (getD ps i []) (r .refs) x (r .are)
             ∙ marks-packed t ls small room-for least (r .refs) ms g b (omega (arith, long)) k (λ y j u. omega (arith, a .order (r .refs) (r .are) y j u))
-            ∙ ap (λ y. held g (put t 0 (packed ls y)) b) (sym (visit-marked least ps i ms (r .refs) (r .are) m))
+            ∙ ap (λ y. heldOf g (put t 0 (packed ls y)) b) (sym (visit-marked least ps i ms (r .refs) (r .are) m))
         go (inr m) =
             let v = getD (put t 0 (packed ls ms)) i 0 in
-            let x = held g (put t 0 (packed ls ms)) b in
+            let x = heldOf g (put t 0 (packed ls ms)) b in
             let down : getD (put t 0 (packed ls ms)) i 0 < 65536 = omega (arith, entry-at ms i e l, k i, m, small i, length-at i) in
             ap (λ y. pick y x (doneOf least job.Mark (bytesAt (v % 65536) s (spot (c .at) ps i + 2)) x)) (lt-ltb v 65536 down)
-            ∙ ap (λ y. held g (put t 0 (packed ls y)) b) (sym (visit-clear least ps i ms m))
+            ∙ ap (λ y. heldOf g (put t 0 (packed ls y)) b) (sym (visit-clear least ps i ms m))
 
     -- The pass ------------------------------------------------------------------------------------------------------------------------
 
     -- of the first i records, from where the next one starts
     pub down-from : (i : ℕ) (ms : List ℕ) → i ≤ length ps → length ms ≡ length ps → Bits ms
-        → downFrom (h .«minimum_index») s i (spot (c .at) ps i) (held g (put t 0 (packed (map length ps) ms)) b)
-        ≡ held g (put t 0 (packed (map length ps) (pass (namesOf (h .«minimum_index») ps) i ms))) b
+        → downFrom (h .«minimum_index») s i (spot (c .at) ps i) (heldOf g (put t 0 (packed (map length ps) ms)) b)
+        ≡ heldOf g (put t 0 (packed (map length ps) (pass (namesOf (h .«minimum_index») ps) i ms))) b
     unfolding downFrom pass
     down-from zero ms l e k = refl
     down-from (suc i) ms l e k =
         let v = getD (put t 0 (packed ls ms)) i 0 in
-        let x = held g (put t 0 (packed ls ms)) b in
+        let x = heldOf g (put t 0 (packed ls ms)) b in
         let place : spot (c .at) ps (suc i) - v % 65536 ≡ spot (c .at) ps i + 2 = omega (arith, spot-next (c .at) ps i l, entry-low ms i e l) in
         let before : spot (c .at) ps (suc i) - v % 65536 - 2 ≡ spot (c .at) ps i = omega (arith, place) in
         ap (λ y. downFrom least s i y (visited least s v (spot (c .at) ps (suc i) - v % 65536) x)) before
@@ -186,20 +186,20 @@ module _ (s : List ℕ) (h : Header) (c : ItemIter) (ps : List (List ℕ)) (old 
         omega (arith, spot-last (c .at) ps, ap length (walked-links s c ps (old .bytes) a (old .walked)), length-drop (c .at) s)
 
     pub down-packed : (ms : List ℕ) → length ms ≡ length ps → Bits ms
-        → downFrom (h .«minimum_index») s (length ps) (length s) (held g (put t 0 (packed (map length ps) ms)) b)
-        ≡ held g (put t 0 (packed (map length ps) (pass (namesOf (h .«minimum_index») ps) (length ps) ms))) b
+        → downFrom (h .«minimum_index») s (length ps) (length s) (heldOf g (put t 0 (packed (map length ps) ms)) b)
+        ≡ heldOf g (put t 0 (packed (map length ps) (pass (namesOf (h .«minimum_index») ps) (length ps) ms))) b
     down-packed ms e k =
-        ap (λ y. downFrom least s (length ps) y (held g (put t 0 (packed ls ms)) b)) (sym ends-there) ∙ down-from (length ps) ms (omega arith) e k
+        ap (λ y. downFrom least s (length ps) y (heldOf g (put t 0 (packed ls ms)) b)) (sym ends-there) ∙ down-from (length ps) ms (omega arith) e k
 
     -- from the lengths and the roots
     pub down-all : (roots : List ℕ) → ((x : ℕ) → IsIn x roots → x < h .«maximum_index»)
-        → downFrom (h .«minimum_index») s (length ps) (length s) (held g (rootsIn (h .«minimum_index») roots (lengthsIn 0 ps t)) b)
-        ≡ held g (put t 0 (packed (map length ps) (marksOf (h .«minimum_index») ps roots))) b
+        → downFrom (h .«minimum_index») s (length ps) (length s) (heldOf g (rootsIn (h .«minimum_index») roots (lengthsIn 0 ps t)) b)
+        ≡ heldOf g (put t 0 (packed (map length ps) (marksOf (h .«minimum_index») ps roots))) b
     unfolding marksOf marks
     down-all roots inside =
         let clean : List ℕ = replicate (length ps) 0 in
         let n : length clean ≡ length ps = length-replicate (length ps) 0 in
-        ap (λ y. downFrom least s (length ps) (length s) (held g y b))
+        ap (λ y. downFrom least s (length ps) (length s) (heldOf g y b))
         (ap (rootsIn least roots) (lengths-all ps t small)
         ∙ roots-packed t ls small room-for least roots clean (long ∙ sym n) (clean-bits (length ps)) (λ x i. omega (arith, inside x i, count s h c ps old, n)))
         ∙ down-packed (markAll (rootsFrom least roots) clean) (markAll-length (rootsFrom least roots) clean ∙ n) (markAll-bits (rootsFrom least roots) clean (clean-bits (length ps)))

@@ -12,7 +12,7 @@ use borrow.Author.Tests.{lt-ltb, le-ltb, leb-true, leb-false, le-leb, lt-leb}
 use Rattle.answer.specs.Answer.{Answer, answered, refused, pick}
 use Rattle.field.specs.declared.index.Stream.the-variants as stream
 use Rattle.field_put.specs.Bytes.{put, Octets}
-use Rattle.stream_header.specs.Header.{empty, headerOf}
+use Rattle.stream_header.specs.Header.{zeroHeader, headerOf}
 use Rattle.stream_header.specs.declared.Header.{Header}
 use Rattle.stream_item.specs.Iterator.{iterOf, nextOf}
 use Rattle.stream_item.specs.declared.iter.ItemIter.{ItemIter}
@@ -20,14 +20,14 @@ use Rattle.answer.specs.Refusals.{no}
 use Rattle.answer.specs.declared.Refusal.{Refusal}
 use Rattle.answer.specs.declared.Refusal.the-variants as refusal
 use Rattle.stream_fit.specs.Fit.{fit, unfit, fitOf}
-use Rattle.stream_prune.specs.Links.{Walked, payloadsFrom}
+use Rattle.stream_prune.specs.Links.{ComesPast, payloadsFrom}
 use Rattle.stream_prune.specs.Pruned.{rank, numbers, linkBytes, newStream}
 use Rattle.stream_prune.specs.Dropped.{IsIn, markAll, pass, marks, rootsFrom, marksOf}
 use Rattle.stream_prune.proofs.HeadLaws.{opened, size-inside, minimum-is, maximum-is}
 use Rattle.stream_prune.proofs.NewStream.{Old, op, count, low, new-long, new-shorter, pruning}
 use Rattle.stream_prune.proofs.Walks.{fit-payloads, payloads-count}
-use Rattle.stream_drop.specs.Each.{Held, held}
-use Rattle.stream_drop.specs.Passes.{Numbered, numbered, numberFrom, upFrom, markedIn, askedIn, writtenIn}
+use Rattle.stream_drop.specs.Each.{Held, heldOf}
+use Rattle.stream_drop.specs.Passes.{Numbered, numberedTo, numberFrom, upFrom, markedIn, askedIn, writtenIn}
 use Rattle.stream_drop.specs.Drop.{firstAbove, someReadAsNone, droppedOf, dropOf, Drops}
 use Rattle.stream_drop.specs.declared.passes.Count.{Count}
 use Rattle.stream_drop.specs.declared.DropAnswer.{DropAnswer}
@@ -49,10 +49,10 @@ all-below maximum (y ∷ ys) e x i = go (leb maximum y) refl e i (λ g. all-belo
     go false f g (inr j) later = later g j
 
 -- the table, the next number and the bytes; the answer, the table and the buffer
-numbered-parts : (t t′ : List ℕ) (k : Count) (next n : ℕ) → numbered t k ≡ record { table = t′; next = next; bytes = n } → (t ≡ t′) × (k .next ≡ next) × (k .bytes ≡ n)
+numbered-parts : (t t′ : List ℕ) (k : Count) (next n : ℕ) → numberedTo t k ≡ record { table = t′; next = next; bytes = n } → (t ≡ t′) × (k .next ≡ next) × (k .bytes ≡ n)
 numbered-parts t t′ k next n e = (ap (λ (x : Numbered). x .table) e, ap (λ (x : Numbered). x .next) e, ap (λ (x : Numbered). x .bytes) e)
 
-held-parts : (g g′ : Bool) (t t′ b b′ : List ℕ) → held g t b ≡ held g′ t′ b′ → (g ≡ g′) × (t ≡ t′) × (b ≡ b′)
+held-parts : (g g′ : Bool) (t t′ b b′ : List ℕ) → heldOf g t b ≡ heldOf g′ t′ b′ → (g ≡ g′) × (t ≡ t′) × (b ≡ b′)
 held-parts g g′ t t′ b b′ e = (ap (λ (x : Held). x .good) e, ap (λ (x : Held). x .table) e, ap (λ (x : Held). x .out) e)
 
 -- a test that was answered by its contrary
@@ -80,12 +80,12 @@ tableIn s h c roots t = put t 0 (numbers (h .«minimum_index») (marksIn s h c r
 abbrev noneIn : List ℕ → Header → ItemIter → List ℕ → Bool
 noneIn s h c roots = someReadAsNone (h .«minimum_index») (marksIn s h c roots) 0 (records s c)
 
-no-header : (h : Header) → headerOf [] ≡ answered h → empty ≡ h
+no-header : (h : Header) → headerOf [] ≡ answered h → zeroHeader ≡ h
 unfolding headerOf
 no-header h e = cc
 
 -- the empty stream has an empty header, no root and nothing to write
-at-empty : (h : Header) → empty ≡ h → (ps : List (List ℕ)) → length ps ≡ 0 → (roots t b : List ℕ) → firstAbove (h .«maximum_index») roots ≡ none
+at-empty : (h : Header) → zeroHeader ≡ h → (ps : List (List ℕ)) → length ps ≡ 0 → (roots t b : List ℕ) → firstAbove (h .«maximum_index») roots ≡ none
     → Drops t b (droppedOf [] h ps roots (length t) (length b)) (answer.Written 0) t b
 unfolding droppedOf firstAbove marksOf marks pass markAll rootsFrom numbers someReadAsNone put
 at-empty h z [] l [] t b e =
@@ -151,24 +151,24 @@ module _ (s : List ℕ) (h : Header) (c : ItemIter) (roots t b : List ℕ) where
       inside = all-below (h .«maximum_index») roots below
 
       marked : (n : ℕ) (qs : List (List ℕ)) → n ≡ length (records s c) → qs ≡ records s c
-          → markedIn (h .«minimum_index») s n qs roots t b ≡ held true (put t 0 (packed (map length (records s c)) (marksIn s h c roots))) b
+          → markedIn (h .«minimum_index») s n qs roots t b ≡ heldOf true (put t 0 (packed (map length (records s c)) (marksIn s h c roots))) b
       unfolding markedIn
       marked n qs e f = rw (e, f) (down-all s h c (records s c) old t room true b roots inside)
 
       asked-all : (start : ℕ) (qs : List (List ℕ)) → qs ≡ records s c
-          → askedIn (h .«minimum_index») (nextIn s h c roots) start qs (held true (tableIn s h c roots t) b) ≡ held (pick (noneIn s h c roots) false true) (tableIn s h c roots t) b
+          → askedIn (h .«minimum_index») (nextIn s h c roots) start qs (heldOf true (tableIn s h c roots t) b) ≡ heldOf (pick (noneIn s h c roots) false true) (tableIn s h c roots t) b
       unfolding askedIn
       asked-all start qs f = rw f (go (leb (nextIn s h c roots) 0xffff) refl)
         where
           go : (x : Bool) → leb (nextIn s h c roots) 0xffff ≡ x
-              → pick x (held true (tableIn s h c roots t) b) (upFrom (h .«minimum_index») false 0 start (records s c) (held true (tableIn s h c roots t) b))
-              ≡ held (pick (noneIn s h c roots) false true) (tableIn s h c roots t) b
+              → pick x (heldOf true (tableIn s h c roots t) b) (upFrom (h .«minimum_index») false 0 start (records s c) (heldOf true (tableIn s h c roots t) b))
+              ≡ heldOf (pick (noneIn s h c roots) false true) (tableIn s h c roots t) b
           go true e = rw (none-below s h c (records s c) roots old inside (leb-true _ _ e))
           go false e = ask-all s h c (records s c) roots old inside t room start b
 
       written-all : (qs : List (List ℕ)) → qs ≡ records s c → length (newStream s h (marksIn s h c roots) (records s c)) ≤ length b
           → writtenIn (h .«minimum_index») (nextIn s h c roots) (h .«header_size») s qs (tableIn s h c roots t) b
-          ≡ held true (tableIn s h c roots t) (put b 0 (newStream s h (marksIn s h c roots) (records s c)))
+          ≡ heldOf true (tableIn s h c roots t) (put b 0 (newStream s h (marksIn s h c roots) (records s c)))
       unfolding writtenIn
       written-all qs f l = rw f (stream-all s h c (records s c) roots old inside t room b l)
 
@@ -178,13 +178,13 @@ module _ (s : List ℕ) (h : Header) (c : ItemIter) (roots t b : List ℕ) where
 
       -- what the passes leave: new numbers, and the buffer as it was
       module _ (k : Count) (t₁ b₁ : List ℕ)
-          (numbers-left : numbered t₁ k
+          (numbers-left : numberedTo t₁ k
           ≡ numberFrom (h .«maximum_index» - h .«minimum_index») 0 (record { table = markedIn (h .«minimum_index») s (h .«maximum_index» - h .«minimum_index») (payloadsFrom (h .«maximum_index» - h .«minimum_index») s c) roots t b .table; next = h .«minimum_index»; bytes = 0 }))
           (buffer-left : b₁ ≡ markedIn (h .«minimum_index») s (h .«maximum_index» - h .«minimum_index») (payloadsFrom (h .«maximum_index» - h .«minimum_index») s c) roots t b .out) where
         renumbered : (t₁ ≡ tableIn s h c roots t) × (k .next ≡ nextIn s h c roots) × (k .bytes ≡ linkBytes (marksIn s h c roots) 0 (records s c))
         renumbered =
             let m = marked (h .«maximum_index» - h .«minimum_index») (payloadsFrom (h .«maximum_index» - h .«minimum_index») s c) number-of enough in
-            let e : numbered t₁ k ≡ numberFrom (h .«maximum_index» - h .«minimum_index») 0 (record { table = put t 0 (packed (map length (records s c)) (marksIn s h c roots)); next = h .«minimum_index»; bytes = 0 })
+            let e : numberedTo t₁ k ≡ numberFrom (h .«maximum_index» - h .«minimum_index») 0 (record { table = put t 0 (packed (map length (records s c)) (marksIn s h c roots)); next = h .«minimum_index»; bytes = 0 })
             = numbers-left ∙ ap (λ (x : Held). numberFrom (h .«maximum_index» - h .«minimum_index») 0 (record { table = x .table; next = h .«minimum_index»; bytes = 0 })) m in
             numbered-parts _ _ _ _ _ (e ∙ rw number-of (number-all s h c (records s c) old t room roots))
 
@@ -196,10 +196,10 @@ module _ (s : List ℕ) (h : Header) (c : ItemIter) (roots t b : List ℕ) where
         size-fits = omega (arith, renumbered .2, long, new-shorter s h c (records s c) old (marksIn s h c roots), op s h c (records s c) old .sized .there .short)
 
         module _ (r : Bool) (t₂ b₂ : List ℕ)
-            (answer-left : held r t₂ b₂ ≡ askedIn (h .«minimum_index») (k .next) (h .«header_size») (payloadsFrom (h .«maximum_index» - h .«minimum_index») s c) (held true t₁ b₁)) where
+            (answer-left : heldOf r t₂ b₂ ≡ askedIn (h .«minimum_index») (k .next) (h .«header_size») (payloadsFrom (h .«maximum_index» - h .«minimum_index») s c) (heldOf true t₁ b₁)) where
           asked : (r ≡ pick (noneIn s h c roots) false true) × (t₂ ≡ tableIn s h c roots t) × (b₂ ≡ b)
           asked =
-              let e : held r t₂ b₂ ≡ askedIn (h .«minimum_index») (nextIn s h c roots) (h .«header_size») (payloadsFrom (h .«maximum_index» - h .«minimum_index») s c) (held true (tableIn s h c roots t) b)
+              let e : heldOf r t₂ b₂ ≡ askedIn (h .«minimum_index») (nextIn s h c roots) (h .«header_size») (payloadsFrom (h .«maximum_index» - h .«minimum_index») s c) (heldOf true (tableIn s h c roots t) b)
               = rw (renumbered .1, renumbered .0, buffer-kept) at answer-left in
               held-parts _ _ _ _ _ _ (e ∙ asked-all (h .«header_size») (payloadsFrom (h .«maximum_index» - h .«minimum_index») s c) enough)
 
@@ -216,13 +216,13 @@ module _ (s : List ℕ) (h : Header) (c : ItemIter) (roots t b : List ℕ) where
               rw (below, le-ltb _ _ room, was-false (noneIn s h c roots) (sym (asked .0) ∙ e), lt-ltb _ _ m, asked .1, asked .2) (record { says = refl; table = refl; buffer = refl })
 
           pub wrote : (r₃ : Bool) (t₃ b₃ : List ℕ) → r ≡ true → h .«header_size» + k .bytes ≤ length b₂
-              → held r₃ t₃ b₃ ≡ writtenIn (h .«minimum_index») (k .next) (h .«header_size») s (payloadsFrom (h .«maximum_index» - h .«minimum_index») s c) t₂ b₂
+              → heldOf r₃ t₃ b₃ ≡ writtenIn (h .«minimum_index») (k .next) (h .«header_size») s (payloadsFrom (h .«maximum_index» - h .«minimum_index») s c) t₂ b₂
               → Drops t b (droppedOf s h (records s c) roots (length t) (length b)) (answer.Written (h .«header_size» + k .bytes)) t₃ b₃
           unfolding droppedOf
           wrote r₃ t₃ b₃ e l f =
               let x = asked .2 in
               let m : length (newStream s h (marksIn s h c roots) (records s c)) ≤ length b = omega (arith, long, renumbered .2, ap length x) in
-              let g : held r₃ t₃ b₃ ≡ writtenIn (h .«minimum_index») (nextIn s h c roots) (h .«header_size») s (payloadsFrom (h .«maximum_index» - h .«minimum_index») s c) (tableIn s h c roots t) b
+              let g : heldOf r₃ t₃ b₃ ≡ writtenIn (h .«minimum_index») (nextIn s h c roots) (h .«header_size») s (payloadsFrom (h .«maximum_index» - h .«minimum_index») s c) (tableIn s h c roots t) b
               = rw (renumbered .1, asked .1, asked .2) at f in
               let w = held-parts _ _ _ _ _ _ (g ∙ written-all (payloadsFrom (h .«maximum_index» - h .«minimum_index») s c) enough m) in
               rw (below, le-ltb _ _ room, was-false (noneIn s h c roots) (sym (asked .0) ∙ e), le-ltb _ _ m)

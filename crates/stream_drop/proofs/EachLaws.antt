@@ -26,7 +26,7 @@ use Rattle.record_rewrite.specs.Rewrite.{Within}
 use Rattle.record_rewrite.proofs.Places.{within-sooner, within-later}
 use Rattle.record_rewrite.proofs.Steps.{step-carried}
 use Rattle.field_text.specs.Texts.{paddingAfter}
-use Rattle.stream_drop.specs.Each.{Held, held, raised, laid, done, doneAt, doneAll, doneFrom, doneOf}
+use Rattle.stream_drop.specs.Each.{Held, heldOf, raised, laid, done, doneAt, doneAll, doneFrom, doneOf}
 use Rattle.stream_drop.specs.declared.each.Job.{Job}
 use Rattle.stream_drop.specs.declared.each.Job.the-variants as job
 
@@ -63,15 +63,15 @@ module _ (minimum place : ℕ) (optional : Bool) (index : ℕ) where
   done-above j x h = rw (le-ltb _ _ h)
 
   module _ (g : Bool) (t b : List ℕ) (above : minimum ≤ index) where
-    pub asked-none : optional ≡ true → getD t (index - minimum) 0 ≡ 0xffff → held false t b ≡ done minimum job.Ask (ref place optional index) (held g t b)
+    pub asked-none : optional ≡ true → getD t (index - minimum) 0 ≡ 0xffff → heldOf false t b ≡ done minimum job.Ask (ref place optional index) (heldOf g t b)
     unfolding done
     asked-none o e = rw (le-ltb _ _ above, o, eq-eqb _ _ e)
 
-    pub asked-some : optional ≡ true → (getD t (index - minimum) 0 ≡ 0xffff → ⊥) → held g t b ≡ done minimum job.Ask (ref place optional index) (held g t b)
+    pub asked-some : optional ≡ true → (getD t (index - minimum) 0 ≡ 0xffff → ⊥) → heldOf g t b ≡ done minimum job.Ask (ref place optional index) (heldOf g t b)
     unfolding done
     asked-some o e = rw (le-ltb _ _ above, o, ne-eqb _ _ e)
 
-    pub asked-plain : optional ≡ false → held g t b ≡ done minimum job.Ask (ref place optional index) (held g t b)
+    pub asked-plain : optional ≡ false → heldOf g t b ≡ done minimum job.Ask (ref place optional index) (heldOf g t b)
     unfolding done
     asked-plain o = rw (le-ltb _ _ above, o)
 

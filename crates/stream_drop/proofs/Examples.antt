@@ -20,7 +20,7 @@ use Rattle.stream_header.specs.Examples.{four}
 use Rattle.stream_item.specs.Iterator.{iterOf, nextOf}
 use Rattle.record_layout.specs.Fields.{readFieldBy, readFieldsBy}
 use Rattle.record_layout.specs.Layouts.{typeLeaves, memberLeaves, readLeaf, readRecord}
-use Rattle.record_list.specs.Lists.{countedBy, counted, countedStep, startTypes, memberStep, nextMember, stepOf}
+use Rattle.record_list.specs.Lists.{countedBy, countedList, countedStep, startTypes, memberStep, nextMember, stepOf}
 use Rattle.record_reference.specs.References.{refsField, refsFields, refsLeaf, refsRecord, refsAt, refsFrom, refsOf}
 use Rattle.record_rewrite.specs.Rewrite.{rewrite}
 use Rattle.stream_fit.specs.Fit.{someRef, ruleOf, judged, fitOf}
@@ -100,7 +100,7 @@ pub elements :
     ≡ written (0 ∷ 0x1000 ∷ 0x1001 ∷ 0x1002 ∷ []) (head (four 0x00 0x10) (four 0x03 0x10) ++ links (modifier 0x75 ∷ modifier 0x10 ∷ arguments (four 0x01 0x10) (four 0x00 0x10) ∷ [])))
     × (dropOf (before (base (four 0x00 0x10) (four 0x02 0x10))) (0x1003 ∷ []) 4 96
     ≡ written (0x1000 ∷ 0 ∷ 0x1001 ∷ 0x1002 ∷ []) (head (four 0x00 0x10) (four 0x03 0x10) ++ links (modifier 0x74 ∷ modifier 0x10 ∷ base (four 0x00 0x10) (four 0x01 0x10) ∷ [])))
-unfolding bytes find among littleAt fixedAt optionalOf optionalAt bytesAt put kindOf pointerKinds modeOf pointerModes toMemberOf kinds indirections primitiveOf headerOf iterOf nextOf readFieldBy typeLeaves startTypes refsField refsFields refsLeaf refsRecord refsOf rewrite someRef ruleOf judged fitOf link links payloadsFrom rank numbers newIndex renumbered keptFrom newHead newStream markAll visit pass marks numbersOf rootsFrom namesOf marksOf firstAbove oneReadsAsNone someReadAsNone droppedOf dropOf bytesAfter toZero stringAt pad paddingAfter prefixes numericAt sizeAt unsignedAt formOf sizedBy readFieldsBy readLeaf readRecord memberLeaves countedBy counted countedStep memberStep nextMember stepOf refsAt refsFrom
+unfolding bytes find among littleAt fixedAt optionalOf optionalAt bytesAt put kindOf pointerKinds modeOf pointerModes toMemberOf kinds indirections primitiveOf headerOf iterOf nextOf readFieldBy typeLeaves startTypes refsField refsFields refsLeaf refsRecord refsOf rewrite someRef ruleOf judged fitOf link links payloadsFrom rank numbers newIndex renumbered keptFrom newHead newStream markAll visit pass marks numbersOf rootsFrom namesOf marksOf firstAbove oneReadsAsNone someReadAsNone droppedOf dropOf bytesAfter toZero stringAt pad paddingAfter prefixes numericAt sizeAt unsignedAt formOf sizedBy readFieldsBy readLeaf readRecord memberLeaves countedBy countedList countedStep memberStep nextMember stepOf refsAt refsFrom
 elements = (refl, refl)
 
 -- 0xffff ------------------------------------------------------------------------------------------------------------------------------------------

@@ -11,14 +11,14 @@ use lib.Dec.{ltb}
 use borrow.Author.Tests.{lt-ltb, le-ltb, le-leb, lt-leb}
 use Rattle.answer.specs.Answer.{Answer, answered, refused, pick}
 use Rattle.field.specs.declared.index.Stream.the-variants as stream
-use Rattle.stream_header.specs.Header.{empty, headerOf}
+use Rattle.stream_header.specs.Header.{zeroHeader, headerOf}
 use Rattle.stream_header.specs.declared.Header.{Header}
 use Rattle.stream_item.specs.Iterator.{iterOf, nextOf}
 use Rattle.stream_item.specs.declared.iter.ItemIter.{ItemIter}
 use Rattle.stream_item.proofs.NextLaws.{iter-is}
 use Rattle.stream_fit.specs.Fit.{Verdict, fit, unfit, judged, fitOf}
 use Rattle.stream_fit.proofs.SentenceLaws.{sentences}
-use Rattle.stream_prune.specs.Links.{Walked, payloadsFrom}
+use Rattle.stream_prune.specs.Links.{ComesPast, payloadsFrom}
 use Rattle.stream_prune.specs.Pruned.{numbers, newStream}
 use Rattle.stream_prune.specs.Dropped.{IsIn, markAll, pass, marks, rootsFrom, marksOf}
 use Rattle.stream_prune.proofs.LinkLaws.{walked-one}
@@ -41,7 +41,7 @@ none-above maximum (x ∷ xs) h = rw (lt-leb _ _ (h x (inl refl))) (none-above m
 
 -- Of a fit stream ---------------------------------------------------------------------------------------------------------------------------------
 
-pub drop-fit : (s : List ℕ) (h : Header) (c : ItemIter) (ps : List (List ℕ)) → headerOf s ≡ answered h → iterOf stream.Types s ≡ answered c → fitOf s ≡ answered fit → Walked s c ps
+pub drop-fit : (s : List ℕ) (h : Header) (c : ItemIter) (ps : List (List ℕ)) → headerOf s ≡ answered h → iterOf stream.Types s ≡ answered c → fitOf s ≡ answered fit → ComesPast s c ps
     → (roots : List ℕ) (places room : ℕ) → dropOf s roots places room ≡ droppedOf s h ps roots places room
 unfolding dropOf
 drop-fit s h c ps e i f w roots places room =
@@ -137,11 +137,11 @@ not-fit s roots places room i rule f = go (headerOf s) refl
 
 -- The empty stream ----------------------------------------------------------------------------------------------------------------------------------
 
-pub empty-header : (h : Header) → headerOf [] ≡ answered h → empty ≡ h
+pub empty-header : (h : Header) → headerOf [] ≡ answered h → zeroHeader ≡ h
 unfolding headerOf
 empty-header h e = cc
 
-drop-empty : (roots : List ℕ) (places room : ℕ) → dropOf [] roots places room ≡ droppedOf [] empty [] roots places room
+drop-empty : (roots : List ℕ) (places room : ℕ) → dropOf [] roots places room ≡ droppedOf [] zeroHeader [] roots places room
 unfolding dropOf headerOf iterOf nextOf fitOf judged payloadsFrom
 drop-empty roots places room = refl
 
@@ -153,4 +153,4 @@ nothing-written places room =
     drop-empty [] places room ∙ rw (le-ltb places 0 m, pruning .empty-stream [], le-ltb room 0 n)
 
 pub nothing-there : (x : ℕ) (xs : List ℕ) (places room : ℕ) → dropOf [] (x ∷ xs) places room ≡ stays 8 (x ∷ [])
-nothing-there x xs places room = drop-empty (x ∷ xs) places room ∙ root-above [] empty [] (x ∷ xs) places room x (first-is 0 (x ∷ xs) x (here (omega arith)))
+nothing-there x xs places room = drop-empty (x ∷ xs) places room ∙ root-above [] zeroHeader [] (x ∷ xs) places room x (first-is 0 (x ∷ xs) x (here (omega arith)))

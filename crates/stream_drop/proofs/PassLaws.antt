@@ -17,8 +17,8 @@ use Rattle.stream_item.specs.declared.Item.{Item}
 use Rattle.stream_item.specs.declared.iter.ItemIter.{ItemIter}
 use Rattle.stream_fit.specs.Fit.{payloadOf}
 use Rattle.stream_prune.specs.Links.{payloadsFrom}
-use Rattle.stream_drop.specs.Each.{Held, held, raised, laid, doneOf}
-use Rattle.stream_drop.specs.Passes.{lengthsIn, rooted, rootsIn, visited, downFrom, Numbered, numberedAt, numberFrom, linked, placeAfter, keptAt, upAt, upFrom}
+use Rattle.stream_drop.specs.Each.{Held, heldOf, raised, laid, doneOf}
+use Rattle.stream_drop.specs.Passes.{lengthsIn, rooted, rootsIn, visited, downFrom, Numbered, numberedAt, numberFrom, linkLaid, placeBehind, keptAt, upAt, upFrom}
 use Rattle.stream_drop.specs.declared.each.Job.the-variants as job
 use Rattle.stream_drop.proofs.EachLaws.{laid-by}
 
@@ -127,22 +127,22 @@ number-end n i x l = let z : n - i ≡ 0 = omega arith in rw z
 
 -- The pass up ---------------------------------------------------------------------------------------------------------------------------
 
-pub linked-by : (p : List ℕ) (q : ℕ) (b b₁ b₂ : List ℕ) (r₁ r₂ : ℕ) → Lays b q (bytes 2 (length p % 65536)) r₁ b₁ → Lays b₁ (q + 2) p r₂ b₂ → b₂ ≡ linked p q b
-unfolding linked
+pub linked-by : (p : List ℕ) (q : ℕ) (b b₁ b₂ : List ℕ) (r₁ r₂ : ℕ) → Lays b q (bytes 2 (length p % 65536)) r₁ b₁ → Lays b₁ (q + 2) p r₂ b₂ → b₂ ≡ linkLaid p q b
+unfolding linkLaid
 linked-by p q b b₁ b₂ r₁ r₂ h k = laid-by _ _ _ _ _ k ∙ ap (λ (y : List ℕ). laid y (q + 2) p) (laid-by _ _ _ _ _ h)
 
 module _ (minimum : ℕ) (writing : Bool) (q kept : ℕ) (p : List ℕ) (x : Held) where
   pub up-dropped : kept ≡ 0 → x ≡ upAt minimum writing q kept p x
   up-dropped e = rw (eq-eqb kept 0 e)
 
-  pub up-written : (x′ : Held) → (kept ≡ 0 → ⊥) → writing ≡ true → (b : List ℕ) → b ≡ linked p q (x .out) → x′ ≡ doneOf minimum (job.Write (q + 2)) p (held (x .good) (x .table) b)
+  pub up-written : (x′ : Held) → (kept ≡ 0 → ⊥) → writing ≡ true → (b : List ℕ) → b ≡ linkLaid p q (x .out) → x′ ≡ doneOf minimum (job.Write (q + 2)) p (heldOf (x .good) (x .table) b)
       → x′ ≡ upAt minimum writing q kept p x
   up-written x′ e w b f g = rw (ne-eqb kept 0 e, w, ← f) g
 
   pub up-asked : (x′ : Held) → (kept ≡ 0 → ⊥) → writing ≡ false → x′ ≡ doneOf minimum job.Ask p x → x′ ≡ upAt minimum writing q kept p x
   up-asked x′ e w g = rw (ne-eqb kept 0 e, w) g
 
-pub up-turn : (minimum : ℕ) (writing : Bool) (i q kept q′ : ℕ) (ps qs : List (List ℕ)) (p : List ℕ) (x x′ : Held) → ps ≡ p ∷ qs → kept ≡ getD (x .table) i 0 → q′ ≡ placeAfter q kept p
+pub up-turn : (minimum : ℕ) (writing : Bool) (i q kept q′ : ℕ) (ps qs : List (List ℕ)) (p : List ℕ) (x x′ : Held) → ps ≡ p ∷ qs → kept ≡ getD (x .table) i 0 → q′ ≡ placeBehind q kept p
     → x′ ≡ upAt minimum writing q kept p x → upFrom minimum writing (i + 1) q′ qs x′ ≡ upFrom minimum writing i q ps x
 unfolding upFrom
 up-turn minimum writing i q kept q′ ps qs p x x′ a b d e = rw (a, d, e, b)

@@ -23,9 +23,9 @@ use Rattle.record_rewrite.proofs.Places.{put-four}
 use Rattle.record_rewrite.proofs.Rewritten.{rewriting}
 use Rattle.stream_fit.specs.Fit.{fit, fitOf}
 use Rattle.stream_fit.specs.Sentences.{In}
-use Rattle.stream_prune.specs.Links.{links, Walked}
+use Rattle.stream_prune.specs.Links.{links, ComesPast}
 use Rattle.stream_prune.specs.Pruned.{Marked, rank, numbers, newIndex, keptFrom, newHead, newStream, AllClose, AllOctets}
-use Rattle.stream_prune.specs.Dropped.{IsIn, Reached, root, rootsFrom, namesOf, marksOf, Droppable, roots₂, header₂, Drops}
+use Rattle.stream_prune.specs.Dropped.{IsIn, Reached, root, rootsFrom, namesOf, marksOf, Droppable, roots₂, header₂, DropHolds}
 use Rattle.stream_prune.proofs.Numbers.{rank-less, index-kept, index-below, stood, numbers-long, numbers-kept}
 use Rattle.stream_prune.proofs.MarkLaws.{Downward, Inside, marked-inside, marks-sound, marks-complete, marks-long}
 use Rattle.stream_prune.proofs.PrunedLaws.{new-fits}
@@ -34,7 +34,7 @@ use Rattle.stream_prune.proofs.Walks.{fit-count}
 use Rattle.stream_prune.proofs.NewStream.{Old, op, low, octets, goods, count, new-count, renewed}
 use Rattle.stream_prune.proofs.DroppedLaws.{names-down, all-close, drops}
 use Rattle.stream_drop.specs.Drop.{firstAbove, someReadAsNone, dropOf, written}
-use Rattle.stream_drop.specs.Sentences.{through, IsKept, rewritten, keptBy, upward, OldToNew, Says, ReadsAsNone, FirstAbove, here, later, Case, by-8, by-13, by-30, by-19, by-none, When, Sentences}
+use Rattle.stream_drop.specs.Sentences.{renumberedBy, IsKept, rewritten, keptBy, upward, OldToNew, DropSays, ReadsAsNone, FirstAbove, here, later, Case, by-8, by-13, by-30, by-19, by-none, When, DropSentences}
 use Rattle.stream_drop.proofs.UpLaws.{AllKnown, named-kept, all-known}
 use Rattle.stream_drop.proofs.DropLaws.{all-below}
 use Rattle.stream_drop.proofs.ThroughLaws.{same-fits, same-map, marked-kept, kept-marked, through-new, kept-by, all-numbers, all-index, reads-found, reads-there}
@@ -136,15 +136,15 @@ module _ (s : List ℕ) (h : Header) (c : ItemIter) (ps : List (List ℕ)) (root
   }
 
   -- what a kept record names goes to its new index
-  agrees : (k : ℕ) → Marked t k → (rs : List Ref) → refsOf (getD ps k []) ≡ answered rs → (r : Ref) → In r rs → through least table (r .index) ≡ newIndex least t (r .index)
+  agrees : (k : ℕ) → Marked t k → (rs : List Ref) → refsOf (getD ps k []) ≡ answered rs → (r : Ref) → In r rs → renumberedBy least table (r .index) ≡ newIndex least t (r .index)
   agrees k m rs e r i = through-new least t up (r .index) (named-kept s h c ps roots old inside k m rs e r i)
 
   -- and so does a root
   root-marked : (x : ℕ) → IsIn x roots → least ≤ x → Marked t (x - least)
   root-marked x i l = complete (x - least) (root (root-in least roots x i l))
 
-  roots-new : map (through least table) roots ≡ map (newIndex least t) roots
-  roots-new = same-map (through least table) (newIndex least t) roots (λ x i. through-new least t up x (root-marked x i))
+  roots-new : map (renumberedBy least table) roots ≡ map (newIndex least t) roots
+  roots-new = same-map (renumberedBy least table) (newIndex least t) roots (λ x i. through-new least t up x (root-marked x i))
 
   -- 30 ------------------------------------------------------------------------------------------------------------------------------------------
 
@@ -194,7 +194,7 @@ module _ (s : List ℕ) (h : Header) (c : ItemIter) (ps : List (List ℕ)) (root
     close : AllClose least t 0 ps
     close = all-close s h c ps roots old droppable
 
-    done : Drops s h c ps roots
+    done : DropHolds s h c ps roots
     done = drops s h c ps roots old droppable
 
     abbrev new : List ℕ
@@ -207,14 +207,14 @@ module _ (s : List ℕ) (h : Header) (c : ItemIter) (ps : List (List ℕ)) (root
         List·getD-append (newHead s h m) (links (keptFrom least t 0 ps)) 0 i (omega (arith, head-long s h m (size-inside s h (op s h c ps old))))
         ∙ put-four (take (h .«header_size») s) 12 m i k ∙ getD-take (h .«header_size») s i 0 l
 
-    alike : (k : ℕ) → IsKept table k → (rs : List Ref) → refsOf (getD ps k []) ≡ answered rs → Kept (through least table) (getD ps k []) rs (rewritten least table (getD ps k []))
+    alike : (k : ℕ) → IsKept table k → (rs : List Ref) → refsOf (getD ps k []) ≡ answered rs → Kept (renumberedBy least table) (getD ps k []) rs (rewritten least table (getD ps k []))
     alike k l rs e =
         let m = is-marked k l in
         let f = new-fits least t (getD ps k []) rs e (low s h c ps old) (octets-at ps k (octets s h c ps old) (early k m)) (record {
           named = named-kept s h c ps roots old inside k m;
           some = some k (early k m) m;
         }) in
-        rw e (rewriting .keeps (through least table) (getD ps k []) rs e (same-fits (through least table) (newIndex least t) rs (agrees k m rs e) f))
+        rw e (rewriting .keeps (renumberedBy least table) (getD ps k []) rs e (same-fits (renumberedBy least table) (newIndex least t) rs (agrees k m rs e) f))
 
     -- Dropping twice -----------------------------------------------------------------------------------------------------------------------------
 
@@ -250,7 +250,7 @@ module _ (s : List ℕ) (h : Header) (c : ItemIter) (ps : List (List ℕ)) (root
             absurd (x .some (sym (all-index least u all (x .reference .index) (x .named)) ∙ x .becomes))
 
     twice : (places room : ℕ) → length (keptBy least table 0 ps) ≤ places → length new ≤ room
-        → dropOf new (map (through least table) roots) places room ≡ written (upward least (keptBy least table 0 ps)) new
+        → dropOf new (map (renumberedBy least table) roots) places room ≡ written (upward least (keptBy least table 0 ps)) new
     twice places room l k =
         let e : newStream new (header₂ h ps roots) u qs ≡ new = done .twice in
         let n : length (newStream new (header₂ h ps roots) u qs) ≤ room = rw e k in
@@ -261,7 +261,7 @@ module _ (s : List ℕ) (h : Header) (c : ItemIter) (ps : List (List ℕ)) (root
         ∙ ap (λ x. written x (newStream new (header₂ h ps roots) u qs)) (all-numbers least u qs (marks-long least qs (roots₂ h ps roots)) all)
         ∙ ap (written (upward least qs)) e)
 
-    pub says : Says s roots h c ps table new
+    pub says : DropSays s roots h c ps table new
     says = record {
       old-to-new = old-to-new;
       header = rw kept-many (done .prunes .head);
@@ -326,7 +326,7 @@ no-records [] l = refl
 no-records (p ∷ ps) l = absurd (omega arith)
 
 module _ (roots : List ℕ) (c : ItemIter) (ps : List (List ℕ)) where
-  decides : (s : List ℕ) (h : Header) → Octets s → headerOf s ≡ answered h → iterOf stream.Types s ≡ answered c → fitOf s ≡ answered fit → Walked s c ps
+  decides : (s : List ℕ) (h : Header) → Octets s → headerOf s ≡ answered h → iterOf stream.Types s ≡ answered c → fitOf s ≡ answered fit → ComesPast s c ps
       → ((x : ℕ) → IsIn x roots → x < h .«maximum_index») → Decides roots h ps
   decides [] h o e i f w inside =
       let z = empty-header h e in
@@ -377,7 +377,7 @@ case-of roots h ps new places room d = by-root (firstAbove (h .«maximum_index»
     by-root (a-root x) e = by-8 x (above-or-below (h .«maximum_index») roots x e)
     by-root no-root e = by-places (all-below (h .«maximum_index») roots e) (ltb places (length ps)) refl
 
-when : (s roots : List ℕ) (h : Header) (c : ItemIter) (ps : List (List ℕ)) → Octets s → headerOf s ≡ answered h → iterOf stream.Types s ≡ answered c → fitOf s ≡ answered fit → Walked s c ps
+when : (s roots : List ℕ) (h : Header) (c : ItemIter) (ps : List (List ℕ)) → Octets s → headerOf s ≡ answered h → iterOf stream.Types s ≡ answered c → fitOf s ≡ answered fit → ComesPast s c ps
     → When s roots h c ps
 when s roots h c ps o e i f w =
     let d = decides roots c ps s h o e i f w in
@@ -395,15 +395,15 @@ when s roots h c ps o e i f w =
       answers = λ places room inside l n k. drop places room ∙ writes s h ps roots places room (below inside) l (d inside .not n) k;
     }
 
-says-all : (s roots : List ℕ) (h : Header) (c : ItemIter) (ps : List (List ℕ)) → Octets s → 0 < length s → headerOf s ≡ answered h → iterOf stream.Types s ≡ answered c → Walked s c ps
-    → (places room : ℕ) (entries new : List ℕ) → dropOf s roots places room ≡ written entries new → Says s roots h c ps entries new
+says-all : (s roots : List ℕ) (h : Header) (c : ItemIter) (ps : List (List ℕ)) → Octets s → 0 < length s → headerOf s ≡ answered h → iterOf stream.Types s ≡ answered c → ComesPast s c ps
+    → (places room : ℕ) (entries new : List ℕ) → dropOf s roots places room ≡ written entries new → DropSays s roots h c ps entries new
 says-all s roots h c ps o l e i w places room entries new d =
     let f = was-fit s h c e i roots places room entries new d in
     let old : Old s h c ps = record { bytes = o; filled = l; header = e; iter = i; yes = f; walked = w } in
     let k = wrote s h ps roots places room entries new (sym (drop-fit s h c ps e i f w roots places room) ∙ d) in
     rw (k .table, k .stream) at (says s h c ps roots old (all-below (h .«maximum_index») roots (k .below)) (k .reads))
 
-pub sentences : Sentences
+pub sentences : DropSentences
 sentences = record {
   header = header-refused;
   unfit-is-29 = not-fit;

@@ -11,7 +11,7 @@ use borrow.Author.Tests.{le-leb, lt-leb}
 use Rattle.field.specs.Bytes.{bytes}
 use Rattle.field.specs.Runs.{bytesAt}
 use Rattle.field_put.specs.Bytes.{Lays}
-use Rattle.stream_drop.specs.Each.{Held, held, laid}
+use Rattle.stream_drop.specs.Each.{Held, heldOf, laid}
 use Rattle.stream_drop.specs.Passes.{lengthsIn, rootsIn, downFrom, upFrom, markedIn, askedIn, writtenIn}
 use Rattle.stream_drop.specs.Drop.{firstAbove}
 use Rattle.stream_drop.proofs.EachLaws.{laid-by}
@@ -31,7 +31,7 @@ module _ (maximum j : ℕ) (roots : List ℕ) where
 
 -- the table and the buffer after lengths, roots, and the pass down
 pub marked-by : (minimum : ℕ) (s : List ℕ) (n : ℕ) (ps : List (List ℕ)) (roots t b t₁ t₂ : List ℕ) (x : Held) → t₁ ≡ lengthsIn 0 ps t → t₂ ≡ rootsIn minimum roots t₁
-    → x ≡ downFrom minimum s n (length s) (held true t₂ b) → x ≡ markedIn minimum s n ps roots t b
+    → x ≡ downFrom minimum s n (length s) (heldOf true t₂ b) → x ≡ markedIn minimum s n ps roots t b
 unfolding markedIn
 marked-by minimum s n ps roots t b t₁ t₂ x e f g = rw (← e, ← f) g
 
@@ -45,7 +45,7 @@ module _ (minimum next start : ℕ) (ps : List (List ℕ)) (x : Held) where
   asked-high x′ h e = rw (lt-leb next 0xffff h) e
 
 pub written-by : (minimum next start : ℕ) (s : List ℕ) (ps : List (List ℕ)) (t b p b₁ b₂ : List ℕ) (r₁ r₂ : ℕ) (x : Held) → p ≡ bytesAt start s 0 → Lays b 0 p r₁ b₁
-    → Lays b₁ 12 (bytes 4 next) r₂ b₂ → x ≡ upFrom minimum true 0 start ps (held true t b₂) → x ≡ writtenIn minimum next start s ps t b
+    → Lays b₁ 12 (bytes 4 next) r₂ b₂ → x ≡ upFrom minimum true 0 start ps (heldOf true t b₂) → x ≡ writtenIn minimum next start s ps t b
 unfolding writtenIn
 written-by minimum next start s ps t b p b₁ b₂ r₁ r₂ x e f g k =
     let a : b₁ ≡ laid b 0 p = laid-by _ _ _ _ _ f in

@@ -20,7 +20,7 @@ use Rattle.stream_prune.specs.Pruned.{rank, numbers, linkBytes}
 use Rattle.stream_prune.specs.Dropped.{IsIn, markAll, numbersOf, rootsFrom}
 use Rattle.stream_prune.proofs.Numbers.{same-or, rank-first}
 use Rattle.stream_prune.proofs.MarkLaws.{Bits}
-use Rattle.stream_drop.specs.Each.{held, raised, done, doneAll}
+use Rattle.stream_drop.specs.Each.{heldOf, raised, done, doneAll}
 use Rattle.stream_drop.specs.Passes.{lengthsIn, rooted, rootsIn, Numbered, numberedAt, numberFrom}
 use Rattle.stream_drop.specs.declared.each.Job.the-variants as job
 use Rattle.stream_drop.proofs.EachLaws.{raised-marked, raised-here, done-below, done-above}
@@ -166,27 +166,27 @@ module _ (t ls : List ℕ) (small : Small ls) (room : length ls ≤ length t) wh
   -- what references name
   pub marks-packed : (minimum : ℕ) (rs : List Ref) (ms : List ℕ) (g : Bool) (b : List ℕ) → length ls ≡ length ms → Bits ms
       → ((r : Ref) → In r rs → minimum ≤ r .index → r .index < minimum + length ms)
-      → doneAll minimum job.Mark rs (held g (put t 0 (packed ls ms)) b) ≡ held g (put t 0 (packed ls (markAll (numbersOf minimum rs) ms))) b
+      → doneAll minimum job.Mark rs (heldOf g (put t 0 (packed ls ms)) b) ≡ heldOf g (put t 0 (packed ls (markAll (numbersOf minimum rs) ms))) b
   unfolding doneAll numbersOf markAll In
   marks-packed minimum [] ms g b e k h = refl
   marks-packed minimum (r ∷ rs) ms g b e k h = go (leb minimum (r .index)) refl (λ us. marks-packed minimum rs us g b)
     where
       go : (x : Bool) → leb minimum (r .index) ≡ x
           → ((us : List ℕ) → length ls ≡ length us → Bits us → ((q : Ref) → In q rs → minimum ≤ q .index → q .index < minimum + length us)
-          → doneAll minimum job.Mark rs (held g (put t 0 (packed ls us)) b) ≡ held g (put t 0 (packed ls (markAll (numbersOf minimum rs) us))) b)
-          → doneAll minimum job.Mark rs (done minimum job.Mark r (held g (put t 0 (packed ls ms)) b))
-          ≡ held g (put t 0 (packed ls (markAll (pick x ((r .index - minimum) ∷ numbersOf minimum rs) (numbersOf minimum rs)) ms))) b
+          → doneAll minimum job.Mark rs (heldOf g (put t 0 (packed ls us)) b) ≡ heldOf g (put t 0 (packed ls (markAll (numbersOf minimum rs) us))) b)
+          → doneAll minimum job.Mark rs (done minimum job.Mark r (heldOf g (put t 0 (packed ls ms)) b))
+          ≡ heldOf g (put t 0 (packed ls (markAll (pick x ((r .index - minimum) ∷ numbersOf minimum rs) (numbersOf minimum rs)) ms))) b
       go true q ih =
           let up : minimum ≤ r .index = leb-true minimum (r .index) q in
           let d = r .index - minimum in
           let n = length-set ms d 1 in
-          let z : done minimum job.Mark r (held g (put t 0 (packed ls ms)) b) ≡ held g (put t 0 (packed ls (set ms d 1))) b =
-          sym (done-above minimum (r .place) (r .optional) (r .index) job.Mark (held g (put t 0 (packed ls ms)) b) up)
-          ∙ ap (λ y. held g y b) (raised-packed ms d e k (omega (arith, h r (inl refl) up))) in
+          let z : done minimum job.Mark r (heldOf g (put t 0 (packed ls ms)) b) ≡ heldOf g (put t 0 (packed ls (set ms d 1))) b =
+          sym (done-above minimum (r .place) (r .optional) (r .index) job.Mark (heldOf g (put t 0 (packed ls ms)) b) up)
+          ∙ ap (λ y. heldOf g y b) (raised-packed ms d e k (omega (arith, h r (inl refl) up))) in
           ap (doneAll minimum job.Mark rs) z ∙ ih (set ms d 1) (omega arith) (set-bits ms d k) (λ y i v. omega (arith, n, h y (inr i) v))
       go false q ih =
-          let z : done minimum job.Mark r (held g (put t 0 (packed ls ms)) b) ≡ held g (put t 0 (packed ls ms)) b =
-          sym (done-below minimum (r .place) (r .optional) (r .index) job.Mark (held g (put t 0 (packed ls ms)) b) (leb-false minimum (r .index) q)) in
+          let z : done minimum job.Mark r (heldOf g (put t 0 (packed ls ms)) b) ≡ heldOf g (put t 0 (packed ls ms)) b =
+          sym (done-below minimum (r .place) (r .optional) (r .index) job.Mark (heldOf g (put t 0 (packed ls ms)) b) (leb-false minimum (r .index) q)) in
           ap (doneAll minimum job.Mark rs) z ∙ ih ms e k (λ y i. h y (inr i))
 
 -- New numbers ---------------------------------------------------------------------------------------------------------------------------

@@ -18,7 +18,7 @@ use Rattle.stream_prune.specs.Dropped.{IsIn}
 use Rattle.stream_prune.proofs.Numbers.{same-or, rank-all, index-kept, index-below, numbers-long, numbers-kept, numbers-dropped, numbers-index}
 use Rattle.stream_prune.proofs.MarkLaws.{marked-inside}
 use Rattle.stream_drop.specs.Drop.{oneReadsAsNone, someReadAsNone}
-use Rattle.stream_drop.specs.Sentences.{through, IsKept, rewritten, keptBy, upward}
+use Rattle.stream_drop.specs.Sentences.{renumberedBy, IsKept, rewritten, keptBy, upward}
 use Rattle.stream_drop.proofs.UpLaws.{Known, AllKnown}
 
 -- Two functions that agree on the references -------------------------------------------------------------------------------------------------
@@ -54,8 +54,8 @@ module _ (m : ℕ) (ms : List ℕ) (up : 0 < m) where
       go false e = absurd (omega (arith, l, List·getD-eq-default (numbers m ms) 0 {n = k} (omega (arith, numbers-long m ms, ltb-false k (length ms) e))))
 
   -- an old index through the table
-  pub through-new : (n : ℕ) → (m ≤ n → Marked ms (n - m)) → through m (numbers m ms) n ≡ newIndex m ms n
-  unfolding through
+  pub through-new : (n : ℕ) → (m ≤ n → Marked ms (n - m)) → renumberedBy m (numbers m ms) n ≡ newIndex m ms n
+  unfolding renumberedBy
   through-new n k = go (leb m n) refl
     where
       go : (b : Bool) → leb m n ≡ b → pick b (getD (numbers m ms) (n - m) 0) n ≡ newIndex m ms n
@@ -66,7 +66,7 @@ module _ (m : ℕ) (ms : List ℕ) (up : 0 < m) where
 
   rewritten-new : (i : ℕ) (p : List ℕ) → Known m ms i p → Marked ms i → rewritten m (numbers m ms) p ≡ renumbered m ms p
   unfolding renumbered
-  rewritten-new i p k e = rw (k .are) (same-rewrite (through m (numbers m ms)) (newIndex m ms) (k .refs) p (λ r j. through-new (r .index) (k .names e r j)))
+  rewritten-new i p k e = rw (k .are) (same-rewrite (renumberedBy m (numbers m ms)) (newIndex m ms) (k .refs) p (λ r j. through-new (r .index) (k .names e r j)))
 
   pub kept-by : (i : ℕ) (ps : List (List ℕ)) → i + length ps ≤ length ms → AllKnown m ms i ps → keptBy m (numbers m ms) i ps ≡ keptFrom m ms i ps
   unfolding keptBy keptFrom AllKnown

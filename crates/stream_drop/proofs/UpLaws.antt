@@ -25,7 +25,7 @@ use Rattle.record_rewrite.specs.Rewrite.{StandsOne, Stand}
 use Rattle.record_rewrite.proofs.Rewritten.{rewriting}
 use Rattle.record_rewrite.proofs.InPlace.{put-inside}
 use Rattle.stream_fit.specs.Sentences.{In}
-use Rattle.stream_prune.specs.Links.{Walked, ends, past}
+use Rattle.stream_prune.specs.Links.{ComesPast, ends, past}
 use Rattle.stream_prune.specs.Pruned.{Marked, rank, numbers, newIndex, orNothing, AllOctets}
 use Rattle.stream_prune.specs.Dropped.{IsIn, Reached, named, numbersOf, rootsFrom, namesOf, marksOf}
 use Rattle.stream_prune.proofs.Numbers.{same-or, rank-less, index-kept, index-below, numbers-long, numbers-dropped, numbers-zero, numbers-index}
@@ -33,8 +33,8 @@ use Rattle.stream_prune.proofs.MarkLaws.{marked-inside, marks-sound, marks-comp
 use Rattle.stream_prune.proofs.LinkLaws.{record-onward}
 use Rattle.stream_prune.proofs.NewStream.{Old, low, octets, goods, count}
 use Rattle.stream_prune.proofs.DroppedLaws.{good-at, names-down}
-use Rattle.stream_drop.specs.Each.{held, readsAsNone, done, doneAll}
-use Rattle.stream_drop.specs.Passes.{placeAfter, upAt, upFrom}
+use Rattle.stream_drop.specs.Each.{heldOf, readsAsNone, done, doneAll}
+use Rattle.stream_drop.specs.Passes.{placeBehind, upAt, upFrom}
 use Rattle.stream_drop.specs.Drop.{oneReadsAsNone, someReadAsNone}
 use Rattle.stream_drop.specs.declared.each.Job.the-variants as job
 use Rattle.stream_drop.proofs.DoneLaws.{done-refs}
@@ -126,7 +126,7 @@ unfolding Octets
 length-small s q o = little-below 2 s q o
 
 -- a link holds a length of two bytes
-short-at : (s : List ℕ) (c : ItemIter) (ps : List (List ℕ)) → Octets s → Walked s c ps → (k : ℕ) → k < length ps → length (getD ps k []) < 65536
+short-at : (s : List ℕ) (c : ItemIter) (ps : List (List ℕ)) → Octets s → ComesPast s c ps → (k : ℕ) → k < length ps → length (getD ps k []) < 65536
 short-at s c ps o (ends e) k l = absurd (omega arith)
 short-at s c ps o (past {d = d} {i = i} {p = p} {ps = qs} e f w) zero l =
     let y = yields s c i d e in
@@ -179,46 +179,46 @@ module _ (minimum : ℕ) (ms t : List ℕ) (en : Entries minimum ms t) where
   -- Asking --------------------------------------------------------------------------------------------------------------------------------------
 
   ask-one : (r : Ref) (g : Bool) (b : List ℕ) → (minimum ≤ r .index → Marked ms (r .index - minimum)) → (r .optional ≡ true → r .index ≡ 0xffff → ⊥)
-      → done minimum job.Ask r (held g t b) ≡ held (pick (readsAsNone (r .optional) (newIndex minimum ms (r .index))) false g) t b
+      → done minimum job.Ask r (heldOf g t b) ≡ heldOf (pick (readsAsNone (r .optional) (newIndex minimum ms (r .index))) false g) t b
   unfolding done
   ask-one r g b k o = go (leb minimum (r .index)) refl
     where
-      below : (c : Bool) → r .optional ≡ c → held g t b ≡ held (pick (readsAsNone c (r .index)) false g) t b
+      below : (c : Bool) → r .optional ≡ c → heldOf g t b ≡ heldOf (pick (readsAsNone c (r .index)) false g) t b
       below true e = rw (ne-eqb (r .index) 0xffff (o e))
       below false e = refl
 
       go : (c : Bool) → leb minimum (r .index) ≡ c
-          → pick (ltb (r .index) minimum) (held g t b) (held (pick (readsAsNone (r .optional) (getD t (r .index - minimum) 0)) false g) t b)
-          ≡ held (pick (readsAsNone (r .optional) (newIndex minimum ms (r .index))) false g) t b
+          → pick (ltb (r .index) minimum) (heldOf g t b) (heldOf (pick (readsAsNone (r .optional) (getD t (r .index - minimum) 0)) false g) t b)
+          ≡ heldOf (pick (readsAsNone (r .optional) (newIndex minimum ms (r .index))) false g) t b
       go true e = let l = leb-true minimum (r .index) e in rw (le-ltb (r .index) minimum l, entry-index (r .index) l (k l))
       go false e = let l = leb-false minimum (r .index) e in rw (lt-ltb (r .index) minimum l, index-below minimum ms (r .index) l) (below (r .optional) refl)
 
   ask-refs : (rs : List Ref) (g : Bool) (b : List ℕ) → ((r : Ref) → In r rs → minimum ≤ r .index → Marked ms (r .index - minimum)) → ((r : Ref) → In r rs → r .optional ≡ true → r .index ≡ 0xffff → ⊥)
-      → doneAll minimum job.Ask rs (held g t b) ≡ held (pick (oneReadsAsNone minimum ms rs) false g) t b
+      → doneAll minimum job.Ask rs (heldOf g t b) ≡ heldOf (pick (oneReadsAsNone minimum ms rs) false g) t b
   unfolding doneAll oneReadsAsNone In
   ask-refs [] g b k o = refl
   ask-refs (r ∷ rs) g b k o =
       let x = readsAsNone (r .optional) (newIndex minimum ms (r .index)) in
       ap (doneAll minimum job.Ask rs) (ask-one r g b (k r (inl refl)) (o r (inl refl))) ∙ ask-refs rs (pick x false g) b (λ y i. k y (inr i)) (λ y i. o y (inr i))
-      ∙ ap (λ y. held y t b) (or-else x (oneReadsAsNone minimum ms rs) g)
+      ∙ ap (λ y. heldOf y t b) (or-else x (oneReadsAsNone minimum ms rs) g)
 
   ask-from : (i q : ℕ) (g : Bool) (b : List ℕ) (ps : List (List ℕ)) → i + length ps ≤ length ms → AllKnown minimum ms i ps
-      → upFrom minimum false i q ps (held g t b) ≡ held (pick (someReadAsNone minimum ms i ps) false g) t b
+      → upFrom minimum false i q ps (heldOf g t b) ≡ heldOf (pick (someReadAsNone minimum ms i ps) false g) t b
   unfolding upFrom someReadAsNone AllKnown
   ask-from i q g b [] l k = refl
   ask-from i q g b (p ∷ ps) l k = go (same-or (getD ms i 0) 1) (λ y x. ask-from (i + 1) y x b ps (omega arith) (k .1))
     where
       go : (getD ms i 0 ≡ 1) ⊎ (getD ms i 0 ≡ 1 → ⊥)
-          → ((y : ℕ) (x : Bool) → upFrom minimum false (i + 1) y ps (held x t b) ≡ held (pick (someReadAsNone minimum ms (i + 1) ps) false x) t b)
-          → upFrom minimum false (i + 1) (placeAfter q (getD t i 0) p) ps (upAt minimum false q (getD t i 0) p (held g t b))
-          ≡ held (pick (pick (both (eqb (getD ms i 0) 1) (oneReadsAsNone minimum ms (orNothing (refsOf p)))) true (someReadAsNone minimum ms (i + 1) ps)) false g) t b
+          → ((y : ℕ) (x : Bool) → upFrom minimum false (i + 1) y ps (heldOf x t b) ≡ heldOf (pick (someReadAsNone minimum ms (i + 1) ps) false x) t b)
+          → upFrom minimum false (i + 1) (placeBehind q (getD t i 0) p) ps (upAt minimum false q (getD t i 0) p (heldOf g t b))
+          ≡ heldOf (pick (pick (both (eqb (getD ms i 0) 1) (oneReadsAsNone minimum ms (orNothing (refsOf p)))) true (someReadAsNone minimum ms (i + 1) ps)) false g) t b
       go (inl m) ih =
           let rs = k .0 .refs in
           let x = oneReadsAsNone minimum ms rs in
           rw (entry-kept i m, eq-eqb _ _ m, k .0 .are)
-          (ap (upFrom minimum false (i + 1) (q + 2 + length p % 65536) ps) (done-refs minimum job.Ask p rs (held g t b) (k .0 .are) ∙ ask-refs rs g b (k .0 .names m) (k .0 .some))
+          (ap (upFrom minimum false (i + 1) (q + 2 + length p % 65536) ps) (done-refs minimum job.Ask p rs (heldOf g t b) (k .0 .are) ∙ ask-refs rs g b (k .0 .names m) (k .0 .some))
           ∙ ih (q + 2 + length p % 65536) (pick x false g)
-          ∙ ap (λ y. held y t b) (or-else x (someReadAsNone minimum ms (i + 1) ps) g))
+          ∙ ap (λ y. heldOf y t b) (or-else x (someReadAsNone minimum ms (i + 1) ps) g))
       go (inr m) ih = rw (entry-dropped i (omega arith) m, ne-eqb _ _ m) (ih q g)
 
 -- Where the new numbers stay small -----------------------------------------------------------------------------------------------------------
@@ -273,7 +273,7 @@ module _ (s : List ℕ) (h : Header) (c : ItemIter) (ps : List (List ℕ)) (root
 
   -- the pass that asks leaves the table and the buffer, and says whether none would read as none
   pub ask-all : (t : List ℕ) → length ps ≤ length t → (q : ℕ) (b : List ℕ)
-      → upFrom least false 0 q ps (held true (put t 0 (numbers least ms)) b) ≡ held (pick (someReadAsNone least ms 0 ps) false true) (put t 0 (numbers least ms)) b
+      → upFrom least false 0 q ps (heldOf true (put t 0 (numbers least ms)) b) ≡ heldOf (pick (someReadAsNone least ms 0 ps) false true) (put t 0 (numbers least ms)) b
   ask-all t l q b =
       ask-from least ms (put t 0 (numbers least ms)) (all-entries t l) 0 q true b ps (omega (arith, marks-long least ps roots)) (all-known s h c ps roots old inside)
 

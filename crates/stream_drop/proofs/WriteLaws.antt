@@ -35,8 +35,8 @@ use Rattle.stream_prune.proofs.LinkLaws.{link-length}
 use Rattle.stream_prune.proofs.PrunedLaws.{new-length}
 use Rattle.stream_prune.proofs.HeadLaws.{head-long, size-inside, size-least}
 use Rattle.stream_prune.proofs.NewStream.{Old, op, new-long}
-use Rattle.stream_drop.specs.Each.{held, laid, done, doneAll, doneOf}
-use Rattle.stream_drop.specs.Passes.{linked, placeAfter, upAt, upFrom}
+use Rattle.stream_drop.specs.Each.{heldOf, laid, done, doneAll, doneOf}
+use Rattle.stream_drop.specs.Passes.{linkLaid, placeBehind, upAt, upFrom}
 use Rattle.stream_drop.specs.declared.each.Job.the-variants as job
 use Rattle.stream_drop.proofs.DoneLaws.{done-refs}
 use Rattle.stream_drop.proofs.UpLaws.{Known, AllKnown, Entries, entry-kept, entry-dropped, entry-index, all-known, all-entries}
@@ -47,8 +47,8 @@ pub laid-there : (b : List ℕ) (p : ℕ) (bs : List ℕ) → p + length bs ≤ 
 unfolding laid
 laid-there b p bs l = rw (le-leb _ _ l)
 
-linked-there : (p : List ℕ) (q : ℕ) (b : List ℕ) → length p < 65536 → q + 2 + length p ≤ length b → linked p q b ≡ put (put b q (bytes 2 (length p))) (q + 2) p
-unfolding linked
+linked-there : (p : List ℕ) (q : ℕ) (b : List ℕ) → length p < 65536 → q + 2 + length p ≤ length b → linkLaid p q b ≡ put (put b q (bytes 2 (length p))) (q + 2) p
+unfolding linkLaid
 linked-there p q b h l =
     let z : length p % 65536 ≡ length p = omega arith in
     let xs = bytes 2 (length p) in
@@ -79,27 +79,27 @@ stand-put (r ∷ rs) p k n e w st = (
 module _ (minimum : ℕ) (ms t : List ℕ) (en : Entries minimum ms t) where
   write-one : (r : Ref) (at : ℕ) (g : Bool) (b p : List ℕ) → at + length p ≤ length b → r .place + 4 ≤ length p → Octets p → littleAt 4 p (r .place) ≡ r .index
       → (minimum ≤ r .index → Marked ms (r .index - minimum))
-      → done minimum (job.Write at) r (held g t (put b at p)) ≡ held g t (put b at (put p (r .place) (bytes 4 (newIndex minimum ms (r .index)))))
+      → done minimum (job.Write at) r (heldOf g t (put b at p)) ≡ heldOf g t (put b at (put p (r .place) (bytes 4 (newIndex minimum ms (r .index)))))
   unfolding done
   write-one r at g b p l v o st k = go (leb minimum (r .index)) refl
     where
       go : (c : Bool) → leb minimum (r .index) ≡ c
-          → pick (ltb (r .index) minimum) (held g t (put b at p)) (held g t (laid (put b at p) (at + r .place) (bytes 4 (getD t (r .index - minimum) 0))))
-          ≡ held g t (put b at (put p (r .place) (bytes 4 (newIndex minimum ms (r .index)))))
+          → pick (ltb (r .index) minimum) (heldOf g t (put b at p)) (heldOf g t (laid (put b at p) (at + r .place) (bytes 4 (getD t (r .index - minimum) 0))))
+          ≡ heldOf g t (put b at (put p (r .place) (bytes 4 (newIndex minimum ms (r .index)))))
       go true e =
           let u = leb-true minimum (r .index) e in
           let n = newIndex minimum ms (r .index) in
           let four : length (bytes 4 n) ≡ 4 = length-bytes 4 n in
           rw (le-ltb (r .index) minimum u, entry-index minimum ms t en (r .index) u (k u))
-          (ap (λ x. held g t x) (laid-there (put b at p) (at + r .place) (bytes 4 n) (omega (arith, length-put b at p)) ∙ sym (put-into b at p (r .place) (bytes 4 n) (omega arith) l)))
+          (ap (λ x. heldOf g t x) (laid-there (put b at p) (at + r .place) (bytes 4 n) (omega (arith, length-put b at p)) ∙ sym (put-into b at p (r .place) (bytes 4 n) (omega arith) l)))
       go false e =
           let u = leb-false minimum (r .index) e in
           rw (lt-ltb (r .index) minimum u, index-below minimum ms (r .index) u)
-          (ap (λ x. held g t (put b at x)) (sym (ap (λ y. put p (r .place) (bytes 4 y)) (sym st) ∙ put-same p (r .place) o v)))
+          (ap (λ x. heldOf g t (put b at x)) (sym (ap (λ y. put p (r .place) (bytes 4 y)) (sym st) ∙ put-same p (r .place) o v)))
 
   write-refs : (rs : List Ref) (at k : ℕ) (g : Bool) (b p : List ℕ) → at + length p ≤ length b → Within k rs (length p) → Octets p → Stand p rs
       → ((r : Ref) → In r rs → minimum ≤ r .index → Marked ms (r .index - minimum))
-      → doneAll minimum (job.Write at) rs (held g t (put b at p)) ≡ held g t (put b at (rewrite (newIndex minimum ms) p rs))
+      → doneAll minimum (job.Write at) rs (heldOf g t (put b at p)) ≡ heldOf g t (put b at (rewrite (newIndex minimum ms) p rs))
   unfolding doneAll rewrite Within Stand In
   write-refs [] at k g b p l w o st f = refl
   write-refs (r ∷ rs) at k g b p l w o st f =
@@ -110,29 +110,29 @@ module _ (minimum : ℕ) (ms t : List ℕ) (en : Entries minimum ms t) where
       ∙ write-refs rs at (r .place + 4) g b (put p (r .place) (bytes 4 n)) (omega arith) (rw e (w .1)) (put-octets p (r .place) n o) (stand-put rs p (r .place) n (length p) (w .1) (st .1)) (λ y i. f y (inr i))
 
   write-record : (i q : ℕ) (g : Bool) (b p : List ℕ) → Known minimum ms i p → Marked ms i → q + 2 + length p ≤ length b
-      → doneOf minimum (job.Write (q + 2)) p (held g t (linked p q b)) ≡ held g t (put b q (link (renumbered minimum ms p)))
+      → doneOf minimum (job.Write (q + 2)) p (heldOf g t (linkLaid p q b)) ≡ heldOf g t (put b q (link (renumbered minimum ms p)))
   unfolding renumbered
   write-record i q g b p k m l =
       let rs = k .refs in
       let f = newIndex minimum ms in
       let xs = bytes 2 (length p) in
       let same : rewrite f p (orNothing (refsOf p)) ≡ rewrite f p rs = ap (λ x. rewrite f p (orNothing x)) (k .are) in
-      done-refs minimum (job.Write (q + 2)) p rs (held g t (linked p q b)) (k .are) ∙ ap (λ x. doneAll minimum (job.Write (q + 2)) rs (held g t x)) (linked-there p q b (k .short) l)
+      done-refs minimum (job.Write (q + 2)) p rs (heldOf g t (linkLaid p q b)) (k .are) ∙ ap (λ x. doneAll minimum (job.Write (q + 2)) rs (heldOf g t x)) (linked-there p q b (k .short) l)
       ∙ write-refs rs (q + 2) 2 g (put b q xs) p (omega (arith, length-put b q xs)) (rewriting .apart p rs (k .are)) (k .octets) (rewriting .stand p rs (k .are)) (k .names m)
-      ∙ ap (λ x. held g t x) (link-there p (rewrite f p rs) q b (length-rewrite f p rs) ∙ ap (λ x. put b q (link x)) (sym same))
+      ∙ ap (λ x. heldOf g t x) (link-there p (rewrite f p rs) q b (length-rewrite f p rs) ∙ ap (λ x. put b q (link x)) (sym same))
 
   -- All of them --------------------------------------------------------------------------------------------------------------------------------------
 
   write-from : (i q : ℕ) (g : Bool) (b : List ℕ) (ps : List (List ℕ)) → i + length ps ≤ length ms → AllKnown minimum ms i ps → q + linkBytes ms i ps ≤ length b
-      → upFrom minimum true i q ps (held g t b) ≡ held g t (put b q (links (keptFrom minimum ms i ps)))
+      → upFrom minimum true i q ps (heldOf g t b) ≡ heldOf g t (put b q (links (keptFrom minimum ms i ps)))
   unfolding upFrom AllKnown linkBytes keptFrom links
-  write-from i q g b [] l k room = ap (λ x. held g t x) (sym (put-none b q))
+  write-from i q g b [] l k room = ap (λ x. heldOf g t x) (sym (put-none b q))
   write-from i q g b (p ∷ ps) l k room = go (same-or (getD ms i 0) 1) room (λ y x. write-from (i + 1) y g x ps (omega arith) (k .1))
     where
       go : (getD ms i 0 ≡ 1) ⊎ (getD ms i 0 ≡ 1 → ⊥) → q + (pick (eqb (getD ms i 0) 1) (2 + length p) 0 + linkBytes ms (i + 1) ps) ≤ length b
-          → ((y : ℕ) (x : List ℕ) → y + linkBytes ms (i + 1) ps ≤ length x → upFrom minimum true (i + 1) y ps (held g t x) ≡ held g t (put x y (links (keptFrom minimum ms (i + 1) ps))))
-          → upFrom minimum true (i + 1) (placeAfter q (getD t i 0) p) ps (upAt minimum true q (getD t i 0) p (held g t b))
-          ≡ held g t (put b q (links (pick (eqb (getD ms i 0) 1) (renumbered minimum ms p ∷ keptFrom minimum ms (i + 1) ps) (keptFrom minimum ms (i + 1) ps))))
+          → ((y : ℕ) (x : List ℕ) → y + linkBytes ms (i + 1) ps ≤ length x → upFrom minimum true (i + 1) y ps (heldOf g t x) ≡ heldOf g t (put x y (links (keptFrom minimum ms (i + 1) ps))))
+          → upFrom minimum true (i + 1) (placeBehind q (getD t i 0) p) ps (upAt minimum true q (getD t i 0) p (heldOf g t b))
+          ≡ heldOf g t (put b q (links (pick (eqb (getD ms i 0) 1) (renumbered minimum ms p ∷ keptFrom minimum ms (i + 1) ps) (keptFrom minimum ms (i + 1) ps))))
       go (inl m) room ih =
           let r = renumbered minimum ms p in
           let K = keptFrom minimum ms (i + 1) ps in
@@ -141,7 +141,7 @@ module _ (minimum : ℕ) (ms t : List ℕ) (en : Entries minimum ms t) where
           rw (entry-kept minimum ms t en i m, eq-eqb _ _ m)
           (ap (upFrom minimum true (i + 1) (q + 2 + length p % 65536) ps) (write-record i q g b p (k .0) m (omega arith))
           ∙ ih (q + 2 + length p % 65536) (put b q (link r)) (omega (arith, k .0 .short, length-put b q (link r)))
-          ∙ ap (λ x. held g t x) (ap (λ n. put (put b q (link r)) n (links K)) z ∙ put-put b q (link r) (links K)))
+          ∙ ap (λ x. heldOf g t x) (ap (λ n. put (put b q (link r)) n (links K)) z ∙ put-put b q (link r) (links K)))
       go (inr m) room ih =
           let there : q + (0 + linkBytes ms (i + 1) ps) ≤ length b = rw (ne-eqb _ _ m) at room in
           rw (entry-dropped minimum ms t en i (omega arith) m, ne-eqb _ _ m) (ih q b (omega arith))
@@ -174,15 +174,15 @@ module _ (s : List ℕ) (h : Header) (c : ItemIter) (ps : List (List ℕ)) (root
   module _ (t : List ℕ) (places : length ps ≤ length t) where
     -- the pass that writes leaves the links of the kept records at its place
     pub write-all : (q : ℕ) (b : List ℕ) → q + linkBytes ms 0 ps ≤ length b
-        → upFrom least true 0 q ps (held true (put t 0 (numbers least ms)) b) ≡ held true (put t 0 (numbers least ms)) (put b q (links (keptFrom least ms 0 ps)))
+        → upFrom least true 0 q ps (heldOf true (put t 0 (numbers least ms)) b) ≡ heldOf true (put t 0 (numbers least ms)) (put b q (links (keptFrom least ms 0 ps)))
     write-all q b room =
         write-from least ms (put t 0 (numbers least ms)) (all-entries s h c ps roots old inside t places) 0 q true b ps (omega (arith, marks-long least ps roots))
         (all-known s h c ps roots old inside) room
 
     -- behind the header that is the new stream
     pub stream-all : (b : List ℕ) → length (newStream s h ms ps) ≤ length b
-        → upFrom least true 0 (h .«header_size») ps (held true (put t 0 (numbers least ms)) (laid (laid b 0 (bytesAt (h .«header_size») s 0)) 12 (bytes 4 (least + rank ms (length ps)))))
-        ≡ held true (put t 0 (numbers least ms)) (put b 0 (newStream s h ms ps))
+        → upFrom least true 0 (h .«header_size») ps (heldOf true (put t 0 (numbers least ms)) (laid (laid b 0 (bytesAt (h .«header_size») s 0)) 12 (bytes 4 (least + rank ms (length ps)))))
+        ≡ heldOf true (put t 0 (numbers least ms)) (put b 0 (newStream s h ms ps))
     unfolding newStream
     stream-all b l =
         let size = h .«header_size» in
@@ -194,5 +194,5 @@ module _ (s : List ℕ) (h : Header) (c : ItemIter) (ps : List (List ℕ)) (root
         let long : length H ≡ size = head-long s h maximum i in
         let room : size + linkBytes ms 0 ps ≤ length b = omega (arith, l, new-long s h ms ps i) in
         let z : size ≡ 0 + length H = omega arith in
-        ap (λ x. upFrom least true 0 size ps (held true T x)) (head-all s h c ps old b maximum (omega arith)) ∙ write-all size (put b 0 H) (omega (arith, length-put b 0 H))
-        ∙ ap (λ x. held true T x) (ap (λ n. put (put b 0 H) n L) z ∙ put-put b 0 H L)
+        ap (λ x. upFrom least true 0 size ps (heldOf true T x)) (head-all s h c ps old b maximum (omega arith)) ∙ write-all size (put b 0 H) (omega (arith, length-put b 0 H))
+        ∙ ap (λ x. heldOf true T x) (ap (λ n. put (put b 0 H) n L) z ∙ put-put b 0 H L)

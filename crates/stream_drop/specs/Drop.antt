@@ -87,15 +87,15 @@ answerOf (stays n d) = refused n d
 answerOf (numbersOnly n entries) = refused n []
 answerOf (written entries new) = answered (length new)
 
-abbrev pub tableAfter : List ℕ → Outcome → List ℕ
-tableAfter t (stays n d) = t
-tableAfter t (numbersOnly n entries) = put t 0 entries
-tableAfter t (written entries new) = put t 0 entries
+abbrev pub dropTableAfter : List ℕ → Outcome → List ℕ
+dropTableAfter t (stays n d) = t
+dropTableAfter t (numbersOnly n entries) = put t 0 entries
+dropTableAfter t (written entries new) = put t 0 entries
 
-abbrev pub bufferAfter : List ℕ → Outcome → List ℕ
-bufferAfter b (stays n d) = b
-bufferAfter b (numbersOnly n entries) = b
-bufferAfter b (written entries new) = put b 0 new
+abbrev pub dropBufferAfter : List ℕ → Outcome → List ℕ
+dropBufferAfter b (stays n d) = b
+dropBufferAfter b (numbersOnly n entries) = b
+dropBufferAfter b (written entries new) = put b 0 new
 
 abbrev pub saidDrop : DropAnswer → Answer ℕ
 saidDrop (answer.Written n) = answered n
@@ -108,5 +108,5 @@ saidAbove (above.Root x) = some x
 -- the contract: the answer, the table after the call, and the buffer after it
 pub record Drops (t b : List ℕ) (o : Outcome) (r : DropAnswer) (t′ b′ : List ℕ) : Type 0 where
   pub says : saidDrop r ≡ answerOf o
-  pub table : t′ ≡ tableAfter t o
-  pub buffer : b′ ≡ bufferAfter b o
+  pub table : t′ ≡ dropTableAfter t o
+  pub buffer : b′ ≡ dropBufferAfter b o

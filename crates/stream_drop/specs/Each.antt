@@ -1,7 +1,7 @@
 -- What is done at each type reference of a payload, for the three jobs of R-13. What a job changes is held together: the lent table, the lent
 -- buffer, and whether no reference so far would read as none.
 use Prim.Native.Nat.{ℕ, zero, suc, _+_, _-_}
-use mathlib.Core.Bool.{Bool, true, false}
+use mathlib.Core.Bool.{Bool, false}
 use mathlib.Core.List.{List, [], _∷_}
 use lib.ListN.{length, getD, set}
 use lib.Dec.{leb, ltb, eqb}
@@ -22,8 +22,8 @@ pub record Held : Type 0 where
   pub table : List ℕ
   pub out : List ℕ
 
-abbrev pub held : Bool → List ℕ → List ℕ → Held
-held g t b = record { good = g; table = t; out = b }
+abbrev pub heldOf : Bool → List ℕ → List ℕ → Held
+heldOf g t b = record { good = g; table = t; out = b }
 
 -- the mark of record d, 65,536 above the length that its entry holds
 abbrev pub raised : List ℕ → ℕ → List ℕ
@@ -39,9 +39,9 @@ readsAsNone optional n = both optional (eqb n 0xffff)
 
 -- at a reference to record d
 abbrev pub doneAt : Job → Ref → ℕ → Held → Held
-doneAt job.Mark r d x = held (x .good) (raised (x .table) d) (x .out)
-doneAt job.Ask r d x = held (pick (readsAsNone (r .optional) (getD (x .table) d 0)) false (x .good)) (x .table) (x .out)
-doneAt (job.Write at) r d x = held (x .good) (x .table) (laid (x .out) (at + r .place) (bytes 4 (getD (x .table) d 0)))
+doneAt job.Mark r d x = heldOf (x .good) (raised (x .table) d) (x .out)
+doneAt job.Ask r d x = heldOf (pick (readsAsNone (r .optional) (getD (x .table) d 0)) false (x .good)) (x .table) (x .out)
+doneAt (job.Write at) r d x = heldOf (x .good) (x .table) (laid (x .out) (at + r .place) (bytes 4 (getD (x .table) d 0)))
 
 -- what is below the minimum names no record
 unfoldable pub done : ℕ → Job → Ref → Held → Held

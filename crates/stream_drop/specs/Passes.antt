@@ -8,7 +8,7 @@ use lib.Dec.{leb, ltb, eqb}
 use Rattle.answer.specs.Answer.{pick}
 use Rattle.field.specs.Bytes.{bytes}
 use Rattle.field.specs.Runs.{bytesAt}
-use Rattle.stream_drop.specs.Each.{Held, held, raised, laid, doneOf}
+use Rattle.stream_drop.specs.Each.{Held, heldOf, raised, laid, doneOf}
 use Rattle.stream_drop.specs.declared.each.Job.the-variants as job
 use Rattle.stream_drop.specs.declared.passes.Count.{Count}
 
@@ -40,8 +40,8 @@ pub record Numbered : Type 0 where
   pub next : ℕ
   pub bytes : ℕ
 
-abbrev pub numbered : List ℕ → Count → Numbered
-numbered t k = record { table = t; next = k .next; bytes = k .bytes }
+abbrev pub numberedTo : List ℕ → Count → Numbered
+numberedTo t k = record { table = t; next = k .next; bytes = k .bytes }
 
 unfoldable pub numberedAt : ℕ → Numbered → Numbered
 numberedAt i x =
@@ -53,15 +53,15 @@ numberFrom zero i x = x
 numberFrom (suc n) i x = numberFrom n (i + 1) (numberedAt i x)
 
 -- a payload behind its length, at place q of a buffer
-unfoldable pub linked : List ℕ → ℕ → List ℕ → List ℕ
-linked p q b = laid (laid b q (bytes 2 (length p % 65536))) (q + 2) p
+unfoldable pub linkLaid : List ℕ → ℕ → List ℕ → List ℕ
+linkLaid p q b = laid (laid b q (bytes 2 (length p % 65536))) (q + 2) p
 
 -- the pass up, from record i on, which goes to place q if it is kept
-abbrev pub placeAfter : ℕ → ℕ → List ℕ → ℕ
-placeAfter q kept p = pick (eqb kept 0) q (q + 2 + length p % 65536)
+abbrev pub placeBehind : ℕ → ℕ → List ℕ → ℕ
+placeBehind q kept p = pick (eqb kept 0) q (q + 2 + length p % 65536)
 
 abbrev pub keptAt : ℕ → Bool → ℕ → List ℕ → Held → Held
-keptAt minimum true q p x = doneOf minimum (job.Write (q + 2)) p (held (x .good) (x .table) (linked p q (x .out)))
+keptAt minimum true q p x = doneOf minimum (job.Write (q + 2)) p (heldOf (x .good) (x .table) (linkLaid p q (x .out)))
 keptAt minimum false q p x = doneOf minimum job.Ask p x
 
 abbrev pub upAt : ℕ → Bool → ℕ → ℕ → List ℕ → Held → Held
@@ -70,13 +70,13 @@ upAt minimum writing q kept p x = pick (eqb kept 0) x (keptAt minimum writing q 
 unfoldable pub upFrom : ℕ → Bool → ℕ → ℕ → List (List ℕ) → Held → Held
 upFrom minimum writing i q [] x = x
 upFrom minimum writing i q (p ∷ ps) x =
-    upFrom minimum writing (i + 1) (placeAfter q (getD (x .table) i 0) p) ps (upAt minimum writing q (getD (x .table) i 0) p x)
+    upFrom minimum writing (i + 1) (placeBehind q (getD (x .table) i 0) p) ps (upAt minimum writing q (getD (x .table) i 0) p x)
 
 -- Together --------------------------------------------------------------------------------------------------------------------------------
 
 -- lengths, roots, and the pass down, of n records with these payloads
 unfoldable pub markedIn : ℕ → List ℕ → ℕ → List (List ℕ) → List ℕ → List ℕ → List ℕ → Held
-markedIn minimum s n ps roots t b = downFrom minimum s n (length s) (held true (rootsIn minimum roots (lengthsIn 0 ps t)) b)
+markedIn minimum s n ps roots t b = downFrom minimum s n (length s) (heldOf true (rootsIn minimum roots (lengthsIn 0 ps t)) b)
 
 -- where the numbers end at or below 0xffff, none has become it, and nothing is asked
 unfoldable pub askedIn : ℕ → ℕ → ℕ → List (List ℕ) → Held → Held
@@ -84,4 +84,4 @@ askedIn minimum next start ps x = pick (leb next 0xffff) x (upFrom minimum false
 
 -- the header with another maximum, and the kept records
 unfoldable pub writtenIn : ℕ → ℕ → ℕ → List ℕ → List (List ℕ) → List ℕ → List ℕ → Held
-writtenIn minimum next start s ps t b = upFrom minimum true 0 start ps (held true t (laid (laid b 0 (bytesAt start s 0)) 12 (bytes 4 next)))
+writtenIn minimum next start s ps t b = upFrom minimum true 0 start ps (heldOf true t (laid (laid b 0 (bytesAt start s 0)) 12 (bytes 4 next)))

@@ -19,7 +19,7 @@ use Rattle.record_rewrite.specs.Rewrite.{rewrite}
 use Rattle.record_rewrite.specs.Kept.{Kept}
 use Rattle.stream_fit.specs.Fit.{fit, unfit, fitOf}
 use Rattle.stream_fit.specs.Sentences.{In}
-use Rattle.stream_prune.specs.Links.{Walked}
+use Rattle.stream_prune.specs.Links.{ComesPast}
 use Rattle.stream_prune.specs.Pruned.{orNothing, newHeader}
 use Rattle.stream_prune.specs.Dropped.{IsIn, Reached, rootsFrom, namesOf}
 use Rattle.stream_drop.specs.Drop.{stays, numbersOnly, written, dropOf}
@@ -27,8 +27,8 @@ use Rattle.stream_drop.specs.Drop.{stays, numbersOnly, written, dropOf}
 -- Through the table ------------------------------------------------------------------------------------------------------------------------
 
 -- the new index of an old one, by the table; what is below the minimum stays
-unfoldable pub through : ℕ → List ℕ → ℕ → ℕ
-through minimum entries n = pick (leb minimum n) (getD entries (n - minimum) 0) n
+unfoldable pub renumberedBy : ℕ → List ℕ → ℕ → ℕ
+renumberedBy minimum entries n = pick (leb minimum n) (getD entries (n - minimum) 0) n
 
 -- a record is kept exactly if its entry is not 0
 abbrev pub IsKept : List ℕ → ℕ → Type 0
@@ -36,7 +36,7 @@ IsKept entries k = 0 < getD entries k 0
 
 -- a payload with its references rewritten
 abbrev pub rewritten : ℕ → List ℕ → List ℕ → List ℕ
-rewritten minimum entries p = rewrite (through minimum entries) p (orNothing (refsOf p))
+rewritten minimum entries p = rewrite (renumberedBy minimum entries) p (orNothing (refsOf p))
 
 -- the payloads of the kept records, from number i on
 unfoldable pub keptBy : ℕ → List ℕ → ℕ → List (List ℕ) → List (List ℕ)
@@ -71,21 +71,21 @@ pub record OldToNew (roots : List ℕ) (h : Header) (ps : List (List ℕ)) (entr
 
 -- The stream --------------------------------------------------------------------------------------------------------------------------------
 
-pub record Says (s roots : List ℕ) (h : Header) (c : ItemIter) (ps : List (List ℕ)) (entries new : List ℕ) : Type 0 where
+pub record DropSays (s roots : List ℕ) (h : Header) (c : ItemIter) (ps : List (List ℕ)) (entries new : List ℕ) : Type 0 where
   pub old-to-new : OldToNew roots h ps entries
   -- "the header kept but for its maximum"
   pub header : headerOf new ≡ answered (newHeader h (h .«minimum_index» + length (keptBy (h .«minimum_index») entries 0 ps)))
   pub header-bytes : (i : ℕ) → i < h .«header_size» → (i < 12 ⊎ 16 ≤ i) → getD new i 0 ≡ getD s i 0
   -- "references rewritten, and all other payload bytes kept": the new stream's records are the kept ones, each as it was but for its references
   pub begins : iterOf stream.Types new ≡ answered c
-  pub records : Walked new c (keptBy (h .«minimum_index») entries 0 ps)
+  pub records : ComesPast new c (keptBy (h .«minimum_index») entries 0 ps)
   pub alike : (k : ℕ) → IsKept entries k → (rs : List Ref) → refsOf (getD ps k []) ≡ answered rs
-      → Kept (through (h .«minimum_index») entries) (getD ps k []) rs (rewritten (h .«minimum_index») entries (getD ps k []))
+      → Kept (renumberedBy (h .«minimum_index») entries) (getD ps k []) rs (rewritten (h .«minimum_index») entries (getD ps k []))
   -- what it is good for: it is fit to bind
   pub fit-again : fitOf new ≡ answered fit
   -- "Dropping twice with the renumbered roots changes nothing": the same bytes, and a table that says i to i
   pub twice : (places room : ℕ) → length (keptBy (h .«minimum_index») entries 0 ps) ≤ places → length new ≤ room
-      → dropOf new (map (through (h .«minimum_index») entries) roots) places room ≡ written (upward (h .«minimum_index») (keptBy (h .«minimum_index») entries 0 ps)) new
+      → dropOf new (map (renumberedBy (h .«minimum_index») entries) roots) places room ≡ written (upward (h .«minimum_index») (keptBy (h .«minimum_index») entries 0 ps)) new
 
 -- The refusals -----------------------------------------------------------------------------------------------------------------------------
 
@@ -98,7 +98,7 @@ pub record ReadsAsNone (minimum : ℕ) (entries : List ℕ) (ps : List (List ℕ
   pub reference : Ref
   pub one : In reference refs
   pub optional : reference .optional ≡ true
-  pub becomes : through minimum entries (reference .index) ≡ 0xffff
+  pub becomes : renumberedBy minimum entries (reference .index) ≡ 0xffff
 
 -- the first of the roots that is at or above the maximum
 pub data FirstAbove (maximum : ℕ) : List ℕ → ℕ → Type 0 where
@@ -137,15 +137,15 @@ pub record When (s roots : List ℕ) (h : Header) (c : ItemIter) (ps : List (Lis
 
 -- The promises -----------------------------------------------------------------------------------------------------------------------------
 
-pub record Sentences : Type 0 where
+pub record DropSentences : Type 0 where
   -- "Refusals: the header's, 29 R-9 says no"
   pub header : (s roots : List ℕ) (places room n : ℕ) (d : List ℕ) → headerOf s ≡ refused n d → dropOf s roots places room ≡ stays n d
   pub unfit-is-29 : (s roots : List ℕ) (places room i rule : ℕ) → fitOf s ≡ answered (unfit i rule) → dropOf s roots places room ≡ stays 29 []
   pub when : (s roots : List ℕ) (h : Header) (c : ItemIter) (ps : List (List ℕ)) → Octets s → headerOf s ≡ answered h → iterOf stream.Types s ≡ answered c → fitOf s ≡ answered fit
-      → Walked s c ps → When s roots h c ps
+      → ComesPast s c ps → When s roots h c ps
   -- what an answer says, of a stream that has a header
-  pub says : (s roots : List ℕ) (h : Header) (c : ItemIter) (ps : List (List ℕ)) → Octets s → 0 < length s → headerOf s ≡ answered h → iterOf stream.Types s ≡ answered c → Walked s c ps
-      → (places room : ℕ) (entries new : List ℕ) → dropOf s roots places room ≡ written entries new → Says s roots h c ps entries new
+  pub says : (s roots : List ℕ) (h : Header) (c : ItemIter) (ps : List (List ℕ)) → Octets s → 0 < length s → headerOf s ≡ answered h → iterOf stream.Types s ≡ answered c → ComesPast s c ps
+      → (places room : ℕ) (entries new : List ℕ) → dropOf s roots places room ≡ written entries new → DropSays s roots h c ps entries new
   -- the empty stream has no header to keep: nothing is written, and any root is 8
   pub empty : (places room : ℕ) → dropOf [] [] places room ≡ written [] []
   pub empty-root : (x : ℕ) (xs : List ℕ) (places room : ℕ) → dropOf [] (x ∷ xs) places room ≡ stays 8 (x ∷ [])

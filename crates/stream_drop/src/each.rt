@@ -7,7 +7,7 @@ ghost use Rattle.record_reference.specs.References.{ref};
 ghost use Rattle.record_reference.specs.Values.{joined, behindLeaf, fieldsAt};
 ghost use Rattle.record_reference.specs.Said.{saidReference, saidReferences, saidOfElement};
 ghost use Rattle.record_rewrite.specs.Rewrite.{Within};
-ghost use Rattle.stream_drop.specs.Each.{held, raised, laid, done, doneAll, doneFrom, doneOf};
+ghost use Rattle.stream_drop.specs.Each.{heldOf, raised, laid, done, doneAll, doneFrom, doneOf};
 use field::index::Stream;
 use field::run::After;
 use record_data::TypeAnswer;
@@ -74,7 +74,7 @@ fn at_one(
     table: &mut [u32],
     out: &mut [u8],
 ) -> bool
-    ensures { λ r. ⌜ held r (now (table .exit)) (now (out .exit)) ≡ done minimum job (ref place optional index) (held good (now (table .entry)) (now (out .entry))) ⌝ }
+    ensures { λ r. ⌜ heldOf r (now (table .exit)) (now (out .exit)) ≡ done minimum job (ref place optional index) (heldOf good (now (table .entry)) (now (out .entry))) ⌝ }
 {
     if index < minimum {
         return good;
@@ -110,7 +110,7 @@ fn at_reference(
     table: &mut [u32],
     out: &mut [u8],
 ) -> bool
-    ensures { λ r. ⌜ held r (now (table .exit)) (now (out .exit)) ≡ doneAll minimum job (saidReference reference) (held good (now (table .entry)) (now (out .entry))) ⌝ }
+    ensures { λ r. ⌜ heldOf r (now (table .exit)) (now (out .exit)) ≡ doneAll minimum job (saidReference reference) (heldOf good (now (table .entry)) (now (out .entry))) ⌝ }
 {
     match reference {
         Reference::None => good,
@@ -127,7 +127,7 @@ fn at_references(
     table: &mut [u32],
     out: &mut [u8],
 ) -> bool
-    ensures { λ r. ⌜ held r (now (table .exit)) (now (out .exit)) ≡ doneAll minimum job (joined (saidReferences references)) (held good (now (table .entry)) (now (out .entry))) ⌝ }
+    ensures { λ r. ⌜ heldOf r (now (table .exit)) (now (out .exit)) ≡ doneAll minimum job (joined (saidReferences references)) (heldOf good (now (table .entry)) (now (out .entry))) ⌝ }
 {
     let first = references.first;
     let second = references.second;
@@ -184,7 +184,7 @@ fn at_element(
     out: &mut [u8],
 ) -> bool
     requires { ⌜ Within 0 (saidOfElement references p) size ⌝ }
-    ensures { λ r. ⌜ held r (now (table .exit)) (now (out .exit)) ≡ doneAll minimum job (saidOfElement references p) (held good (now (table .entry)) (now (out .entry))) ⌝ }
+    ensures { λ r. ⌜ heldOf r (now (table .exit)) (now (out .exit)) ≡ doneAll minimum job (saidOfElement references p) (heldOf good (now (table .entry)) (now (out .entry))) ⌝ }
 {
     match references {
         ElementReferences::None => good,
@@ -206,7 +206,7 @@ fn at_elements(
     table: &mut [u32],
     out: &mut [u8],
 ) -> bool
-    ensures { λ r. ⌜ held r (now (table .exit)) (now (out .exit)) ≡ doneFrom minimum job (length (now (s .entry))) (now (s .entry)) c (held good (now (table .entry)) (now (out .entry))) ⌝ }
+    ensures { λ r. ⌜ heldOf r (now (table .exit)) (now (out .exit)) ≡ doneFrom minimum job (length (now (s .entry))) (now (s .entry)) c (heldOf good (now (table .entry)) (now (out .entry))) ⌝ }
 {
     let mut here = c;
     let mut left = s.len();
@@ -245,7 +245,7 @@ pub fn at_payload(
     table: &mut [u32],
     out: &mut [u8],
 ) -> bool
-    ensures { λ r. ⌜ held r (now (table .exit)) (now (out .exit)) ≡ doneOf minimum job (now (s .entry)) (held good (now (table .entry)) (now (out .entry))) ⌝ }
+    ensures { λ r. ⌜ heldOf r (now (table .exit)) (now (out .exit)) ≡ doneOf minimum job (now (s .entry)) (heldOf good (now (table .entry)) (now (out .entry))) ⌝ }
 {
     match record_data::type_data(s) {
         TypeAnswer::Refused(_) => {

@@ -15,8 +15,8 @@ ghost use Rattle.stream_header.specs.Header.{headerOf};
 ghost use Rattle.stream_item.specs.Iterator.{iterOf};
 ghost use Rattle.stream_fit.specs.Fit.{fit, fitOf};
 ghost use Rattle.stream_prune.specs.Links.{payloadsFrom};
-ghost use Rattle.stream_drop.specs.Each.{held};
-ghost use Rattle.stream_drop.specs.Passes.{numbered, numberFrom, markedIn, askedIn, writtenIn};
+ghost use Rattle.stream_drop.specs.Each.{heldOf};
+ghost use Rattle.stream_drop.specs.Passes.{numberedTo, numberFrom, markedIn, askedIn, writtenIn};
 ghost use Rattle.stream_drop.specs.Drop.{firstAbove, saidAbove, droppedOf, dropOf, Drops};
 use answer::Refusal;
 use field::index::Stream;
@@ -65,7 +65,7 @@ fn renumber(
     out: &mut [u8],
 ) -> Count
     requires { ⌜ minimum + n ≤ 4294967295 ⌝ }
-    ensures { λ r. ⌜ (numbered (now (table .exit)) r ≡ numberFrom n 0 (record { table = markedIn minimum (now (s .entry)) n (payloadsFrom n (now (s .entry)) c) (now (roots .entry)) (now (table .entry)) (now (out .entry)) .table; next = minimum; bytes = 0 })) × (now (out .exit) ≡ markedIn minimum (now (s .entry)) n (payloadsFrom n (now (s .entry)) c) (now (roots .entry)) (now (table .entry)) (now (out .entry)) .out) ⌝ }
+    ensures { λ r. ⌜ (numberedTo (now (table .exit)) r ≡ numberFrom n 0 (record { table = markedIn minimum (now (s .entry)) n (payloadsFrom n (now (s .entry)) c) (now (roots .entry)) (now (table .entry)) (now (out .entry)) .table; next = minimum; bytes = 0 })) × (now (out .exit) ≡ markedIn minimum (now (s .entry)) n (payloadsFrom n (now (s .entry)) c) (now (roots .entry)) (now (table .entry)) (now (out .entry)) .out) ⌝ }
 {
     passes::lengths(s, c, n, table);
     passes::mark_roots(roots, minimum, table);
@@ -85,7 +85,7 @@ fn asked(
     out: &mut [u8],
 ) -> bool
     requires { ⌜ (n ≤ 4294967295) × (start ≤ 4294967295) ⌝ }
-    ensures { λ r. ⌜ held r (now (table .exit)) (now (out .exit)) ≡ askedIn minimum next start (payloadsFrom n (now (s .entry)) c) (held true (now (table .entry)) (now (out .entry))) ⌝ }
+    ensures { λ r. ⌜ heldOf r (now (table .exit)) (now (out .exit)) ≡ askedIn minimum next start (payloadsFrom n (now (s .entry)) c) (heldOf true (now (table .entry)) (now (out .entry))) ⌝ }
 {
     if next <= 0xffff {
         return true;
@@ -105,7 +105,7 @@ fn write(
     out: &mut [u8],
 ) -> bool
     requires { ⌜ (n ≤ 4294967295) × (start ≤ 4294967295) ⌝ }
-    ensures { λ r. ⌜ held r (now (table .exit)) (now (out .exit)) ≡ writtenIn minimum next start (now (s .entry)) (payloadsFrom n (now (s .entry)) c) (now (table .entry)) (now (out .entry)) ⌝ }
+    ensures { λ r. ⌜ heldOf r (now (table .exit)) (now (out .exit)) ≡ writtenIn minimum next start (now (s .entry)) (payloadsFrom n (now (s .entry)) c) (now (table .entry)) (now (out .entry)) ⌝ }
 {
     let head = field::run::bytes_at(s, 0, start);
     field_put::put_all(out, 0, head);

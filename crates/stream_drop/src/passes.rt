@@ -6,8 +6,8 @@ ghost use mathlib.Core.Bool.{true};
 ghost use mathlib.Core.Path.{_≡_};
 ghost use lib.ListN.{length, getD, set};
 ghost use Rattle.stream_prune.specs.Links.{payloadsFrom};
-ghost use Rattle.stream_drop.specs.Each.{held};
-ghost use Rattle.stream_drop.specs.Passes.{lengthsIn, rootsIn, rooted, visited, downFrom, numbered, numberedAt, numberFrom, linked, upAt, placeAfter, upFrom};
+ghost use Rattle.stream_drop.specs.Each.{heldOf};
+ghost use Rattle.stream_drop.specs.Passes.{lengthsIn, rootsIn, rooted, visited, downFrom, numberedTo, numberedAt, numberFrom, linkLaid, upAt, placeBehind, upFrom};
 use crate::each;
 use crate::each::Job;
 use stream_item::iter;
@@ -90,7 +90,7 @@ fn visit(
     table: &mut [u32],
     out: &mut [u8],
 ) -> bool
-    ensures { λ r. ⌜ held r (now (table .exit)) (now (out .exit)) ≡ visited minimum (now (s .entry)) e place (held good (now (table .entry)) (now (out .entry))) ⌝ }
+    ensures { λ r. ⌜ heldOf r (now (table .exit)) (now (out .exit)) ≡ visited minimum (now (s .entry)) e place (heldOf good (now (table .entry)) (now (out .entry))) ⌝ }
 {
     if e < 65536 {
         return good;
@@ -101,7 +101,7 @@ fn visit(
 
 // One pass from the last of n records down; the last ends with the stream.
 pub fn down(s: &[u8], minimum: u32, n: usize, table: &mut [u32], out: &mut [u8]) -> bool
-    ensures { λ r. ⌜ held r (now (table .exit)) (now (out .exit)) ≡ downFrom minimum (now (s .entry)) n (length (now (s .entry))) (held true (now (table .entry)) (now (out .entry))) ⌝ }
+    ensures { λ r. ⌜ heldOf r (now (table .exit)) (now (out .exit)) ≡ downFrom minimum (now (s .entry)) n (length (now (s .entry))) (heldOf true (now (table .entry)) (now (out .entry))) ⌝ }
 {
     let mut good = true;
     let mut i = n;
@@ -124,7 +124,7 @@ pub struct Count {
 
 fn number_one(table: &mut [u32], i: usize, k: Count) -> Count
     requires { ⌜ (k .next ≤ 4294967294) × (k .bytes ≤ 1125899906842624) ⌝ }
-    ensures { λ r. ⌜ (numbered (now (table .exit)) r ≡ numberedAt i (numbered (now (table .entry)) k)) × (r .next ≤ k .next + 1) × (r .bytes ≤ k .bytes + 65537) ⌝ }
+    ensures { λ r. ⌜ (numberedTo (now (table .exit)) r ≡ numberedAt i (numberedTo (now (table .entry)) k)) × (r .next ≤ k .next + 1) × (r .bytes ≤ k .bytes + 65537) ⌝ }
 {
     let e = each::entry(table, i);
     if e < 65536 {
@@ -143,7 +143,7 @@ fn number_one(table: &mut [u32], i: usize, k: Count) -> Count
 // The new numbers of n records, in place of their marks.
 pub fn number(table: &mut [u32], minimum: u32, n: usize) -> Count
     requires { ⌜ minimum + n ≤ 4294967295 ⌝ }
-    ensures { λ r. ⌜ numbered (now (table .exit)) r ≡ numberFrom n 0 (numbered (now (table .entry)) (record { next = minimum; bytes = 0 })) ⌝ }
+    ensures { λ r. ⌜ numberedTo (now (table .exit)) r ≡ numberFrom n 0 (numberedTo (now (table .entry)) (record { next = minimum; bytes = 0 })) ⌝ }
 {
     let mut k = Count {
         next: minimum,
@@ -160,7 +160,7 @@ pub fn number(table: &mut [u32], minimum: u32, n: usize) -> Count
 // A payload behind its length, at place q of the buffer.
 fn put_link(payload: &[u8], q: usize, out: &mut [u8])
     requires { ⌜ q ≤ 1125899906842624 ⌝ }
-    ensures { λ r. ⌜ now (out .exit) ≡ linked (now (payload .entry)) q (now (out .entry)) ⌝ }
+    ensures { λ r. ⌜ now (out .exit) ≡ linkLaid (now (payload .entry)) q (now (out .entry)) ⌝ }
 {
     field_put::put16(out, q, (payload.len() % 65536) as u16);
     field_put::put_all(out, q + 2, payload);
@@ -178,7 +178,7 @@ fn at_record(
     out: &mut [u8],
 ) -> bool
     requires { ⌜ q ≤ 1125899906842624 ⌝ }
-    ensures { λ r. ⌜ held r (now (table .exit)) (now (out .exit)) ≡ upAt minimum writing q kept (now (payload .entry)) (held good (now (table .entry)) (now (out .entry))) ⌝ }
+    ensures { λ r. ⌜ heldOf r (now (table .exit)) (now (out .exit)) ≡ upAt minimum writing q kept (now (payload .entry)) (heldOf good (now (table .entry)) (now (out .entry))) ⌝ }
 {
     if kept == 0 {
         return good;
@@ -193,7 +193,7 @@ fn at_record(
 // Where the next record that is kept goes.
 fn after(payload: &[u8], q: usize, kept: u32) -> usize
     requires { ⌜ q ≤ 1125899906842624 ⌝ }
-    ensures { λ r. ⌜ (r ≡ placeAfter q kept (now (payload .entry))) × (r ≤ q + 65537) ⌝ }
+    ensures { λ r. ⌜ (r ≡ placeBehind q kept (now (payload .entry))) × (r ≤ q + 65537) ⌝ }
 {
     if kept == 0 {
         return q;
@@ -213,7 +213,7 @@ pub fn up(
     out: &mut [u8],
 ) -> bool
     requires { ⌜ (n ≤ 4294967295) × (start ≤ 4294967295) ⌝ }
-    ensures { λ r. ⌜ held r (now (table .exit)) (now (out .exit)) ≡ upFrom minimum writing 0 start (payloadsFrom n (now (s .entry)) c) (held true (now (table .entry)) (now (out .entry))) ⌝ }
+    ensures { λ r. ⌜ heldOf r (now (table .exit)) (now (out .exit)) ≡ upFrom minimum writing 0 start (payloadsFrom n (now (s .entry)) c) (heldOf true (now (table .entry)) (now (out .entry))) ⌝ }
 {
     let mut here = c;
     let mut left = n;

@@ -9,7 +9,7 @@ use lib.Dec.{ltb, eqb}
 use borrow.Author.Tests.{ltb-false}
 use Rattle.answer.specs.Answer.{Answer, answered, pick}
 use Rattle.field.specs.Fields.{littleAt}
-use Rattle.stream_header.specs.Header.{longest, empty, headerOf}
+use Rattle.stream_header.specs.Header.{longest, zeroHeader, headerOf}
 use Rattle.stream_header.specs.declared.Header.{Header}
 use Rattle.stream_item.proofs.NextLaws.{passed}
 
@@ -19,7 +19,7 @@ pub record Accepted (s : List ℕ) (h : Header) : Type 0 where
   pub counts : h .«minimum_index» < h .«maximum_index»
 
 -- the empty stream counts none
-filled : (b : Bool) (a : Answer Header) (h : Header) → pick b (answered empty) a ≡ answered h → h .«minimum_index» < h .«maximum_index» → a ≡ answered h
+filled : (b : Bool) (a : Answer Header) (h : Header) → pick b (answered zeroHeader) a ≡ answered h → h .«minimum_index» < h .«maximum_index» → a ≡ answered h
 filled true a h e l =
     let x : _≡_ {A = ℕ} 0 (h .«minimum_index») = cc in
     let y : _≡_ {A = ℕ} 0 (h .«maximum_index») = cc in

@@ -12,7 +12,7 @@ use borrow.Author.Tests.{le-leb, lt-leb, le-ltb, lt-ltb, eq-eqb, ne-eqb}
 use Rattle.answer.specs.Answer.{Answer, answered, refused, both, then}
 use Rattle.stream_header.specs.Header.{longest, headerOf}
 use Rattle.stream_header.specs.declared.Header.{Header}
-use Rattle.field.specs.Indices.{numberIn}
+use Rattle.field.specs.Indices.{indexNumber}
 use Rattle.stream_item.specs.Links.{linkOf}
 use Rattle.field.specs.declared.index.ItemIndex.{ItemIndex}
 use Rattle.stream_item.specs.declared.Entry.the-variants as entry
@@ -194,5 +194,5 @@ module _ (s : List ℕ) (σ : State) (i : ItemIndex) (n : ℕ) where
   find-held k e o l u h = simp (le-ltb _ _ (o .short), le-ltb _ _ (o .shift), le-ltb _ _ (o .held), le-ltb _ _ l, le-ltb _ _ u, lt-leb _ _ h, ← e)
 
 -- the number as the code has it
-pub by-number : (s : List ℕ) (σ : State) (i : ItemIndex) (n : ℕ) (a : Answer Found) → n ≡ numberIn i → lookOf s σ i n ≡ a → a ≡ findOf s σ i
+pub by-number : (s : List ℕ) (σ : State) (i : ItemIndex) (n : ℕ) (a : Answer Found) → n ≡ indexNumber i → lookOf s σ i n ≡ a → a ≡ findOf s σ i
 by-number s σ i n a e h = sym h ∙ ap (lookOf s σ i) e

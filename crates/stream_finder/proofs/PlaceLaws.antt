@@ -13,7 +13,7 @@ use lib.Dec.{leb, ltb, eqb}
 use borrow.Author.Tests.{leb-true, leb-false, ltb-false, eqb-true}
 use Rattle.answer.specs.Answer.{Answer, answered, refused, pick, stop, both}
 use Rattle.stream_header.specs.Header.{longest}
-use Rattle.field.specs.Indices.{indexIn, numberIn}
+use Rattle.field.specs.Indices.{indexIn, indexNumber}
 use Rattle.stream_item.specs.Links.{linkOf, chain, reached}
 use Rattle.stream_item.specs.Iterator.{yielded, nextOf}
 use Rattle.stream_item.proofs.LinkLaws.{chain-none, chain-pass, chain-split, more, moreHit, linkOf-split}
@@ -135,7 +135,7 @@ gives-more : (i : ItemIndex) (k a : ℕ) (x : Hit) → landed i k x ≡ gives i 
 gives-more i k a (Landed p n) = refl
 gives-more i k a (Missed j) = ap (λ (n : ℕ). refused 1 (n ∷ [])) (sym (add-sub-cancel-left a j))
 
-number-in : (tag : Stream) (n : ℕ) → numberIn (indexIn tag n) ≡ n
+number-in : (tag : Stream) (n : ℕ) → indexNumber (indexIn tag n) ≡ n
 number-in Types n = refl
 number-in Ids n = refl
 

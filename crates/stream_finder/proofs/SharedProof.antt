@@ -20,7 +20,7 @@ use Rattle.stream_finder.specs.Finder.{State, state, blockOf, runOf, hol
 use Rattle.stream_finder.specs.Places.{Placed}
 use Rattle.stream_finder.specs.Demand.{looked, numberGiven}
 use Rattle.stream_finder.specs.Runs as runs
-use Rattle.stream_finder.specs.Runs.{onward, RoamedIn, UpdatedIn, SharedIn, OfRuns}
+use Rattle.stream_finder.specs.Runs.{iterAfter, RoamedIn, UpdatedIn, SharedIn, OfRuns}
 use Rattle.stream_finder.specs.Shared.{Roamed, begun, called, Updated, untouched, by, SharedBy, Shared}
 use Rattle.stream_finder.specs.declared.Run.{Run}
 use Rattle.stream_finder.proofs.FinderLaws.{run-none}
@@ -29,7 +29,7 @@ use Rattle.stream_finder.proofs.DemandProof.{looked-number, begun-place
 
 -- ---- cursors stay on the chain
 
-on-call : (s : List ℕ) (p m : ℕ) (c : ItemIter) (a : Answer Next) → nextOf s c ≡ a → OnChain s p m c → OnChain s p m (onward c a)
+on-call : (s : List ℕ) (p m : ℕ) (c : ItemIter) (a : Answer Next) → nextOf s c ≡ a → OnChain s p m c → OnChain s p m (iterAfter c a)
 on-call s p m c (answered done) e on = on
 on-call s p m c (answered (yielded i d)) e on = on-next s p m c i d on e
 on-call s p m c (refused n x) e on = on

@@ -10,7 +10,7 @@ use Rattle.answer.specs.Answer.{Answer, answered, refused, pick, stop, both, th
 use Rattle.answer.specs.Refusals.{no}
 use Rattle.stream_header.specs.Header.{longest, headerOf}
 use Rattle.stream_header.specs.declared.Header.{Header}
-use Rattle.field.specs.Indices.{numberIn}
+use Rattle.field.specs.Indices.{indexNumber}
 use Rattle.stream_item.specs.Links.{linkOf}
 use Rattle.field.specs.declared.index.ItemIndex.{ItemIndex}
 use Rattle.stream_item.specs.declared.Entry.{Entry}
@@ -142,7 +142,7 @@ lookOf s σ i n =
     (linkOf s (getD (σ .table) (distance (σ .finder) n / blockOf (σ .finder)) 0) (distance (σ .finder) n % blockOf (σ .finder)))))))))
 
 abbrev pub findOf : List ℕ → State → ItemIndex → Answer Found
-findOf s σ i = lookOf s σ i (numberIn i)
+findOf s σ i = lookOf s σ i (indexNumber i)
 
 -- ---- what the answers say
 abbrev pub saidFind : FindAnswer → Answer Found

@@ -51,15 +51,15 @@ NotIndexedIn shift =
 -- ---- R-11
 
 -- where a call of `next` leaves its cursor: behind the record that was yielded, and where it was if there was none or the call was refused
-abbrev pub onward : ItemIter → Answer Next → ItemIter
-onward c (answered done) = c
-onward c (answered (yielded i d)) = d
-onward c (refused n x) = c
+abbrev pub iterAfter : ItemIter → Answer Next → ItemIter
+iterAfter c (answered done) = c
+iterAfter c (answered (yielded i d)) = d
+iterAfter c (refused n x) = c
 
 -- a cursor that was started fresh on the run and advanced by `next` alone
 pub data RoamedIn (s : List ℕ) (r : Run) : ItemIter → Type 0 where
   begun : (tag : Stream) → RoamedIn s r (startIn tag r)
-  called : {c : ItemIter} → RoamedIn s r c → RoamedIn s r (onward c (nextOf s c))
+  called : {c : ItemIter} → RoamedIn s r c → RoamedIn s r (iterAfter c (nextOf s c))
 
 -- what any such cursors, in any order, made of a state: a refused update leaves it
 pub data UpdatedIn (s : List ℕ) (r : Run) (σ : State) : State → Type 0 where

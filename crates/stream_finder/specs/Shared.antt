@@ -11,12 +11,12 @@ use Rattle.stream_item.specs.Iterator.{iterOf, nextOf}
 use Rattle.field.specs.declared.index.Stream.{Stream}
 use Rattle.stream_item.specs.declared.iter.ItemIter.{ItemIter}
 use Rattle.stream_finder.specs.Finder.{State, runOf, createBy, updateOf, after}
-use Rattle.stream_finder.specs.Runs.{onward, ServesIn}
+use Rattle.stream_finder.specs.Runs.{iterAfter, ServesIn}
 
 -- a cursor that was started fresh on the stream and advanced by `next` alone
 pub data Roamed (s : List ℕ) : ItemIter → Type 0 where
   begun : (tag : Stream) {c : ItemIter} → iterOf tag s ≡ answered c → Roamed s c
-  called : {c : ItemIter} → Roamed s c → Roamed s (onward c (nextOf s c))
+  called : {c : ItemIter} → Roamed s c → Roamed s (iterAfter c (nextOf s c))
 
 -- what any such cursors, in any order, made of a state: a refused update leaves it
 pub data Updated (s : List ℕ) (σ : State) : State → Type 0 where

@@ -1,6 +1,5 @@
-// The finder lent by `&mut`, as document 01 has it: "`update` changes the finder in place". Thin over the update by value. A caller of a lent form
-// takes a proof by hand, so above it stands a function with plain parameters, `update_local`, which makes the finder in a local and lends it:
-// callers of that one are proved by search.
+// The finder lent by `&mut`, as document 01 has it: "`update` changes the finder in place". Thin over the update by value, which is what callers
+// inside this repository use: a caller of a lent form takes a proof by hand.
 ghost use Rattle.stream_finder.specs.Finder.{state};
 ghost use Rattle.stream_finder.specs.Lent.{Updates};
 use crate::FinderAnswer;
@@ -45,13 +44,4 @@ impl ItemFinder {
         *self = u.finder;
         u.answer
     }
-}
-
-// Above `update`, with plain parameters.
-pub fn update_local(f: ItemFinder, t: &mut [u32], c: ItemIter) -> UpdateStep
-    ensures { λ u. ⌜ Updates (state f (now (t .entry))) c (u .answer) (state (u .finder) (now (t .exit))) ⌝ }
-{
-    let mut g = f;
-    let answer = g.update(t, c);
-    UpdateStep { answer, finder: g }
 }

@@ -13,7 +13,7 @@ use Rattle.answer.specs.Answer.{Answer, answered, refused, pick, both, stop}
 use Rattle.field.specs.Fields.{littleAt}
 use Rattle.field.specs.declared.index.Stream.the-variants as stream
 use Rattle.word_primitive.specs.Primitive.{primitiveOf}
-use Rattle.stream_header.specs.Header.{longest, empty, fieldsOf, headerOf}
+use Rattle.stream_header.specs.Header.{longest, zeroHeader, fieldsOf, headerOf}
 use Rattle.stream_header.specs.declared.Header.{Header}
 use Rattle.stream_item.specs.Iterator.{iterOf, Next, done, yielded, nextOf}
 use Rattle.stream_item.specs.declared.Item.{Item}
@@ -24,8 +24,8 @@ use Rattle.record_layout.specs.Layouts.{isAnswered}
 use Rattle.record_reference.specs.References.{Ref, refsOf}
 use Rattle.record_reference.proofs.ValueLaws.{no-answer}
 use Rattle.record_reference.proofs.DecodedLaws.{has-exactly}
-use Rattle.stream_fit.specs.Fit.{Verdict, fit, unfit, disorderly, badPrimitive, inGap, someRef, ruleIn, ruleOf, payloadOf, orElse, judgedBy, judged, fitOf}
-use Rattle.stream_fit.specs.Sentences.{In, OrderKept, PrimitivesKept, GapKept, Good, Breaks, decode, order, primitive, gap, Visits, stays, goes, Fit, GoodBelow, Faulty, stopped, broken, counted, Sentences}
+use Rattle.stream_fit.specs.Fit.{Verdict, fit, unfit, disorderly, badPrimitive, inGap, someRef, ruleIn, ruleOf, payloadOf, unlessFault, judgedBy, judged, fitOf}
+use Rattle.stream_fit.specs.Sentences.{In, OrderKept, PrimitivesKept, GapKept, Good, Breaks, decode, order, primitive, gap, Visits, stays, goes, Fit, GoodBelow, Faulty, stopped, broken, counted, FitSentences}
 
 -- One record ---------------------------------------------------------------------------------------------------------------------------
 
@@ -229,7 +229,7 @@ module _ (s : List ℕ) (minimum maximum : ℕ) where
       last i true j g = from-over c i (eqb-true _ _ j)
 
       rule : (k : Item) (d : ItemIter) → nextOf s c ≡ answered (yielded k d) → (o : Option ℕ) → ruleOf minimum (c .index) (payloadOf s k) ≡ o
-          → orElse o (c .index) (judged n s minimum maximum d) ≡ fit → ((d : ItemIter) → judged n s minimum maximum d ≡ fit → From s minimum maximum d) → From s minimum maximum c
+          → unlessFault o (c .index) (judged n s minimum maximum d) ≡ fit → ((d : ItemIter) → judged n s minimum maximum d ≡ fit → From s minimum maximum d) → From s minimum maximum c
       rule k d i none j g ih = from-more c k d i (rule-good minimum (c .index) (payloadOf s k) j) (ih d g)
       rule k d i (some r) j g ih = unfit-fit g
 
@@ -296,7 +296,7 @@ module _ (s : List ℕ) (h : Header) where
           rw (← x, ← y) (counted-at 0 c stays (below-first c) f (eqb-false _ _ j))
 
       by-rule : (k : Item) (d : ItemIter) → nextOf s c ≡ answered (yielded k d) → (o : Option ℕ) → ruleOf (h .«minimum_index») (c .index) (payloadOf s k) ≡ o
-          → orElse o (c .index) (judged n s (h .«minimum_index») (h .«maximum_index») d) ≡ unfit i rule
+          → unlessFault o (c .index) (judged n s (h .«minimum_index») (h .«maximum_index») d) ≡ unfit i rule
           → ((d : ItemIter) → 0 < n → length s < d .at + n → judged n s (h .«minimum_index») (h .«maximum_index») d ≡ unfit i rule → FaultyFrom d i rule) → FaultyFrom c i rule
       by-rule k d f none j g ih =
           let o = record-onward s c k d f in
@@ -325,9 +325,9 @@ header-order s h e = go (eqb (length s) 0) (passed (ltb longest (length s)) 16 _
     taken : (x y : Header) → answered x ≡ answered y → x ≡ y
     taken x y i = cc
 
-    go : (b : Bool) → pick b (answered empty) (stop (ltb (length s) 56) 1 (stop (ltb (littleAt 4 s 4) 56) 2 (stop (ltb 1024 (littleAt 4 s 4)) 3 (stop (ltb (length s) (littleAt 4 s 4)) 1
+    go : (b : Bool) → pick b (answered zeroHeader) (stop (ltb (length s) 56) 1 (stop (ltb (littleAt 4 s 4) 56) 2 (stop (ltb 1024 (littleAt 4 s 4)) 3 (stop (ltb (length s) (littleAt 4 s 4)) 1
         (stop (ltb (littleAt 4 s 8) 4096) 4 (stop (ltb (littleAt 4 s 12) (littleAt 4 s 8)) 5 (answered (fieldsOf s)))))))) ≡ answered h → h .«minimum_index» ≤ h .«maximum_index»
-    go true i = rw (← taken empty h i) (omega arith)
+    go true i = rw (← taken zeroHeader h i) (omega arith)
     go false i =
         let t1 = passed (ltb (length s) 56) 1 _ _ i in
         let t2 = passed (ltb (littleAt 4 s 4) 56) 2 _ _ (t1 .1) in
@@ -396,7 +396,7 @@ no-other s n d g = go (headerOf s) refl
         e ∙ rw (x, y)
     go (answered h) e = no-answer (sym g ∙ verdict-is s h (record { stream = stream.Types; at = h .«header_size»; index = h .«minimum_index» }) e (iter-is stream.Types s h e))
 
-pub sentences : Sentences
+pub sentences : FitSentences
 sentences = record {
   sound = fit-sound;
   complete = fit-complete;

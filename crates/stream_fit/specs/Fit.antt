@@ -58,16 +58,16 @@ ruleOf minimum index payload = ruleIn minimum index (refsOf payload)
 abbrev pub payloadOf : List ℕ → Item → List ℕ
 payloadOf s i = bytesAt (i .length) s (i .place)
 
-abbrev pub orElse : Option ℕ → ℕ → Verdict → Verdict
-orElse none index v = v
-orElse (some rule) index v = unfit index rule
+abbrev pub unlessFault : Option ℕ → ℕ → Verdict → Verdict
+unlessFault none index v = v
+unlessFault (some rule) index v = unfit index rule
 
 -- of the step at the cursor: a refusal is the fault of the record it stopped at; the count comes last and names record 0. Indices go up by one
 -- from the minimum, so the count is right exactly if the walk ends at the maximum
 abbrev pub judgedBy : List ℕ → ℕ → ℕ → ItemIter → (ItemIter → Verdict) → Answer Next → Verdict
 judgedBy s minimum maximum c rest (refused n d) = unfit (c .index) 2
 judgedBy s minimum maximum c rest (answered done) = pick (eqb (c .index) maximum) fit (unfit 0 1)
-judgedBy s minimum maximum c rest (answered (yielded i d)) = orElse (ruleOf minimum (c .index) (payloadOf s i)) (c .index) (rest d)
+judgedBy s minimum maximum c rest (answered (yielded i d)) = unlessFault (ruleOf minimum (c .index) (payloadOf s i)) (c .index) (rest d)
 
 -- of the records from the cursor on, at most n steps
 unfoldable pub judged : ℕ → List ℕ → ℕ → ℕ → ItemIter → Verdict

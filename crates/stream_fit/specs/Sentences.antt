@@ -79,7 +79,7 @@ pub data Faulty (s : List ℕ) (h : Header) (c : ItemIter) : ℕ → ℕ → Typ
 
 -- The promises -------------------------------------------------------------------------------------------------------------------------
 
-pub record Sentences : Type 0 where
+pub record FitSentences : Type 0 where
   -- "The yes holds exactly when all this does"
   pub sound : (s : List ℕ) (h : Header) (c : ItemIter) → headerOf s ≡ answered h → iterOf stream.Types s ≡ answered c → fitOf s ≡ answered fit → Fit s h c
   pub complete : (s : List ℕ) (h : Header) (c : ItemIter) → headerOf s ≡ answered h → iterOf stream.Types s ≡ answered c → Fit s h c → fitOf s ≡ answered fit

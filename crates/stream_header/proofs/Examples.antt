@@ -5,7 +5,7 @@ use lib.ListN.{take}
 use lib.IntN.{pos}
 use Rattle.answer.specs.Answer.{answered, refused}
 use Rattle.field.specs.Fields.{littleAt}
-use Rattle.stream_header.specs.Header.{headerOf, empty}
+use Rattle.stream_header.specs.Header.{headerOf, zeroHeader}
 use Rattle.stream_header.specs.Examples.{four, headerE, streamE}
 
 pub header-of-E : headerOf streamE ≡ answered (record {
@@ -26,7 +26,7 @@ unfolding headerOf littleAt
 header-of-E = refl
 
 -- the empty stream is accepted; 55 bytes give 1; header_size 55 gives 2, 1025 gives 3
-pub empty-stream : headerOf [] ≡ answered empty
+pub empty-stream : headerOf [] ≡ answered zeroHeader
 unfolding headerOf
 empty-stream = refl
 

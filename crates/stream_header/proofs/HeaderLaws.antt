@@ -7,14 +7,14 @@ use lib.ListN.{length}
 use borrow.Author.Tests.{lt-ltb, le-ltb, eq-eqb, ne-eqb}
 use Rattle.answer.specs.Answer.{answered, refused}
 use Rattle.field.specs.Fields.{littleAt}
-use Rattle.stream_header.specs.Header.{longest, empty, fieldsOf, headerOf}
+use Rattle.stream_header.specs.Header.{longest, zeroHeader, fieldsOf, headerOf}
 
 module _ (s : List ℕ) where
   pub header-long : longest < length s → headerOf s ≡ refused 16 []
   unfolding headerOf
   header-long h = simp (lt-ltb _ _ h)
 
-  pub header-empty : length s ≡ 0 → headerOf s ≡ answered empty
+  pub header-empty : length s ≡ 0 → headerOf s ≡ answered zeroHeader
   unfolding headerOf
   header-empty h =
       let a : length s ≤ longest = omega arith in

@@ -35,8 +35,8 @@ fieldsOf s = record {
 }
 
 -- every field zero
-abbrev pub empty : Header
-empty = record {
+abbrev pub zeroHeader : Header
+zeroHeader = record {
   version = 0;
   «header_size» = 0;
   «minimum_index» = 0;
@@ -59,7 +59,7 @@ longest = 4294967294
 unfoldable pub headerOf : List ℕ → Answer Header
 headerOf s =
     stop (ltb longest (length s)) 16
-    (pick (eqb (length s) 0) (answered empty)
+    (pick (eqb (length s) 0) (answered zeroHeader)
     (stop (ltb (length s) 56) 1
     (stop (ltb (littleAt 4 s 4) 56) 2
     (stop (ltb 1024 (littleAt 4 s 4)) 3

@@ -5,7 +5,7 @@ ghost use lib.ListN.{length};
 ghost use mir.Syntax.{w32};
 ghost use mir.Val.{toZ};
 ghost use Rattle.field.specs.Fields.{littleAt, twos};
-ghost use Rattle.stream_header.specs.Header.{sliceOf, fieldsOf, empty, headerOf, saidHeader};
+ghost use Rattle.stream_header.specs.Header.{sliceOf, fieldsOf, zeroHeader, headerOf, saidHeader};
 use answer::Refusal;
 use field::fixed;
 use field::fixed::Read16;
@@ -176,7 +176,7 @@ fn fields(s: &[u8]) -> Header
 
 // The header of an empty stream, which stands for a stream that the database does not have.
 fn none() -> Header
-    ensures { λ r. ⌜ r ≡ empty ⌝ }
+    ensures { λ r. ⌜ r ≡ zeroHeader ⌝ }
 {
     let hash_values = Slice { offset: 0, size: 0 };
     let ti_off = Slice { offset: 0, size: 0 };

@@ -37,7 +37,7 @@ pub enum IndexAnswer {
 }
 
 // One record on, and the finder updated; refused by either, it changes nothing.
-pub fn turn(s: &[u8], f: ItemFinder, t: &mut [u32], c: ItemIter) -> TurnAnswer
+pub fn next_and_update(s: &[u8], f: ItemFinder, t: &mut [u32], c: ItemIter) -> TurnAnswer
     ensures { λ r. ⌜ Leads (now (t .entry)) (turnOf (now (s .entry)) (state f (now (t .entry))) c) r (now (t .exit)) ⌝ }
 {
     match iter::next(s, c) {
@@ -57,7 +57,7 @@ pub fn index_on(s: &[u8], f: ItemFinder, t: &mut [u32], c: ItemIter) -> Tour
     let mut finder = f;
     let mut cursor = c;
     loop {
-        match turn(s, finder, t, cursor) {
+        match next_and_update(s, finder, t, cursor) {
             TurnAnswer::Moved(g, d) => {
                 finder = g;
                 cursor = d;

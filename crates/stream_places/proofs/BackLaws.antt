@@ -15,7 +15,7 @@ use Rattle.field.specs.Fields.{littleAt}
 use Rattle.field_put.specs.Bytes.{bytes, Octets}
 use Rattle.field_put.proofs.PutLaws.{length-bytes}
 use Rattle.field_put.proofs.BackLaws.{head-at, tail-at, after-at, little-back, little-after, bytes-back}
-use Rattle.stream_places.specs.File.{Form, trailerSize, wordBytes, trailerBytes, wordsAt, trailerAt, spells}
+use Rattle.stream_places.specs.File.{FileForm, trailerSize, wordBytes, trailerBytes, wordsAt, trailerAt, spells}
 use Rattle.stream_places.specs.declared.trailer.Trailer.{Trailer}
 use Rattle.stream_places.proofs.FileLaws.{length-word-bytes}
 
@@ -73,7 +73,7 @@ letters-again (b ∷ bs) f p l e =
 -- ---- the trailer
 
 -- each field fits
-pub record Fits (F : Form) (k : Trailer) : Type 0 where
+pub record Fits (F : FileForm) (k : Trailer) : Type 0 where
   pub count : k .count < 256 ^ F .width
   pub shift : k .shift < 256
   pub minimum : k .«minimum_index» < 4294967296
@@ -82,7 +82,7 @@ pub record Fits (F : Form) (k : Trailer) : Type 0 where
   pub start : k .«header_size» < 4294967296
   pub distance : k .distance < 4294967296
 
-pub record Back (F : Form) (f : List ℕ) (p : ℕ) (k : Trailer) : Type 0 where
+pub record Back (F : FileForm) (f : List ℕ) (p : ℕ) (k : Trailer) : Type 0 where
   pub fields : trailerAt F f p ≡ k
   pub zero-byte : littleAt 1 f (p + F .width + 1) ≡ 0
   pub ends-in : spells f (p + F .width + 22) (F .letters) ≡ true
@@ -90,7 +90,7 @@ pub record Back (F : Form) (f : List ℕ) (p : ℕ) (k : Trailer) : Type 0 where
 abbrev numbersOf : Trailer → List ℕ
 numbersOf k = k .«minimum_index» ∷ k .«maximum_index» ∷ k .«stream_length» ∷ k .«header_size» ∷ k .distance ∷ []
 
-fit-numbers : (F : Form) (k : Trailer) → Fits F k → (i : ℕ) → i < 5 → getD (numbersOf k) i 0 < 4294967296
+fit-numbers : (F : FileForm) (k : Trailer) → Fits F k → (i : ℕ) → i < 5 → getD (numbersOf k) i 0 < 4294967296
 fit-numbers F k n zero l = n .minimum
 fit-numbers F k n (suc zero) l = n .maximum
 fit-numbers F k n (suc (suc zero)) l = n .bytes-are
@@ -98,7 +98,7 @@ fit-numbers F k n (suc (suc (suc zero))) l = n .start
 fit-numbers F k n (suc (suc (suc (suc zero)))) l = n .distance
 fit-numbers F k n (suc (suc (suc (suc (suc i))))) l = absurd (omega arith)
 
-pub trailer-back : (F : Form) (f : List ℕ) (p : ℕ) (k : Trailer) → Fits F k → drop p f ≡ trailerBytes F k → Back F f p k
+pub trailer-back : (F : FileForm) (f : List ℕ) (p : ℕ) (k : Trailer) → Fits F k → drop p f ≡ trailerBytes F k → Back F f p k
 unfolding trailerBytes trailerAt
 trailer-back F f p k n e =
     let q : ℕ = p + F .width in
@@ -126,7 +126,7 @@ trailer-back F f p k n e =
     }
 
 -- the five numbers as they stand one after the other
-numbers-at : (F : Form) (f : List ℕ) (p : ℕ) → numbersOf (trailerAt F f p) ≡ wordsAt 5 f (p + F .width + 2)
+numbers-at : (F : FileForm) (f : List ℕ) (p : ℕ) → numbersOf (trailerAt F f p) ≡ wordsAt 5 f (p + F .width + 2)
 unfolding trailerAt wordsAt
 numbers-at F f p =
     let q : ℕ = p + F .width in
@@ -136,7 +136,7 @@ numbers-at F f p =
     let d : q + 14 + 4 ≡ q + 18 = omega arith in
     rw (a, b, c, d)
 
-pub trailer-again : (F : Form) (f : List ℕ) (p : ℕ) → Octets f → p + trailerSize F ≡ length f → length (F .letters) ≡ 4 → littleAt 1 f (p + F .width + 1) ≡ 0
+pub trailer-again : (F : FileForm) (f : List ℕ) (p : ℕ) → Octets f → p + trailerSize F ≡ length f → length (F .letters) ≡ 4 → littleAt 1 f (p + F .width + 1) ≡ 0
     → spells f (p + F .width + 22) (F .letters) ≡ true → trailerBytes F (trailerAt F f p) ≡ drop p f
 unfolding trailerBytes trailerAt
 trailer-again F f p o l four z w =

@@ -15,7 +15,7 @@ use Rattle.field.specs.Fields.{littleAt}
 use Rattle.field_put.specs.Bytes.{bytes, put, Room, Puts}
 use Rattle.field_put.proofs.PutLaws.{length-bytes, put-none, put-put}
 use Rattle.stream_item.proofs.NextLaws.{passed}
-use Rattle.stream_places.specs.File.{Form, narrow, wide, formIn, trailerSize, wordBytes, trailerBytes, wordsAt, trailerAt, spells, checked, trailerBy, formOf, trailerOfEither}
+use Rattle.stream_places.specs.File.{FileForm, narrow, wide, fileFormIn, trailerSize, wordBytes, trailerBytes, wordsAt, trailerAt, spells, checked, trailerBy, fileFormOf, trailerOfEither}
 use Rattle.stream_places.specs.declared.Width.{Width}
 use Rattle.stream_places.specs.declared.Width.the-variants as width
 use Rattle.stream_places.specs.declared.trailer.Trailer.{Trailer}
@@ -88,12 +88,12 @@ write-end s₀ s p r t n i l h e f =
       left = sym (f ∙ ap (λ (xs : List ℕ). put s r (wordBytes xs)) (drop-of-length-le (take n t) {i = i} (omega arith)) ∙ put-none s r);
     }
 
-pub four-letters : (w : Width) → length (formIn w .letters) ≡ 4
+pub four-letters : (w : Width) → length (fileFormIn w .letters) ≡ 4
 four-letters width.Narrow = refl
 four-letters width.Wide = refl
 
 -- behind the count stand 26 bytes, if there are four letters
-pub length-trailer : (F : Form) (k : Trailer) → length (F .letters) ≡ 4 → length (trailerBytes F k) ≡ trailerSize F
+pub length-trailer : (F : FileForm) (k : Trailer) → length (F .letters) ≡ 4 → length (trailerBytes F k) ≡ trailerSize F
 unfolding trailerBytes
 length-trailer F k l =
     let ws : List ℕ = k .«minimum_index» ∷ k .«maximum_index» ∷ k .«stream_length» ∷ k .«header_size» ∷ k .distance ∷ [] in
@@ -168,7 +168,7 @@ pub spells-by : (f : List ℕ) (p : ℕ) (text letters : List ℕ) (r b : Bool) 
 spells-by f p text letters r b e g h = ap (spells f p) (sym g) ∙ sym e ∙ h
 
 -- ---- the outcomes of a trailer
-module _ (F : Form) (f : List ℕ) where
+module _ (F : FileForm) (f : List ℕ) where
   pub trailer-short : length f < trailerSize F → trailerBy F f ≡ refused 20 []
   unfolding trailerBy
   trailer-short h = simp (lt-ltb _ _ h)
@@ -190,14 +190,14 @@ module _ (F : Form) (f : List ℕ) where
       sym (trailer-checked (omega arith) s ∙ ap (λ (q : ℕ). checked F f q (trailerAt F f q)) g ∙ ap (checked F f p) (sym e) ∙ c)
 
 -- of either form
-pub form-wide : (f : List ℕ) → spells f (length f - 4) (wide .letters) ≡ true → formOf f ≡ wide
+pub form-wide : (f : List ℕ) → spells f (length f - 4) (wide .letters) ≡ true → fileFormOf f ≡ wide
 form-wide f e = rw e
 
-pub form-narrow : (f : List ℕ) → spells f (length f - 4) (wide .letters) ≡ false → formOf f ≡ narrow
+pub form-narrow : (f : List ℕ) → spells f (length f - 4) (wide .letters) ≡ false → fileFormOf f ≡ narrow
 form-narrow f e = rw e
 
 -- z: the zero byte's place
-module _ (F : Form) (f : List ℕ) (p : ℕ) (k : Trailer) (z : ℕ) (at : z ≡ p + F .width + 1) where
+module _ (F : FileForm) (f : List ℕ) (p : ℕ) (k : Trailer) (z : ℕ) (at : z ≡ p + F .width + 1) where
   zero-byte : (b : Bool) → eqb (littleAt 1 f z) 0 ≡ b → eqb (littleAt 1 f (p + F .width + 1)) 0 ≡ b
   zero-byte b e = ap (λ (q : ℕ). eqb (littleAt 1 f q) 0) (sym at) ∙ e
 
@@ -226,7 +226,7 @@ module _ (F : Form) (f : List ℕ) (p : ℕ) (k : Trailer) (z : ℕ) (at : z ≡
   checked-right a b d e h = simp (zero-byte true (eq-eqb _ _ a), le-ltb _ _ b, eq-eqb _ _ d, eq-eqb _ _ e, le-ltb _ _ h)
 
 -- and back: what a trailer that was answered says of its file
-pub record Trailed (F : Form) (f : List ℕ) (k : Trailer) : Type 0 where
+pub record Trailed (F : FileForm) (f : List ℕ) (k : Trailer) : Type 0 where
   pub long : trailerSize F ≤ length f
   pub ends-in : spells f (length f - 4) (F .letters) ≡ true
   pub fields : k ≡ trailerAt F f (length f - trailerSize F)
@@ -236,7 +236,7 @@ pub record Trailed (F : Form) (f : List ℕ) (k : Trailer) : Type 0 where
   pub whole : length f ≡ 4 * k .count + trailerSize F
   pub many : F .least ≤ k .count
 
-pub trailed : (F : Form) (f : List ℕ) (k : Trailer) → trailerBy F f ≡ answered k → Trailed F f k
+pub trailed : (F : FileForm) (f : List ℕ) (k : Trailer) → trailerBy F f ≡ answered k → Trailed F f k
 unfolding trailerBy checked
 trailed F f k e =
     let r : Trailer = trailerAt F f (length f - trailerSize F) in

@@ -18,7 +18,7 @@ use Rattle.field.specs.Fields.{littleAt}
 use Rattle.field.proofs.FieldLaws.{little-below}
 use Rattle.field_put.specs.Bytes.{put, Octets}
 use Rattle.field_put.proofs.PutLaws.{put-is, length-put}
-use Rattle.stream_header.specs.Header.{longest, empty, fieldsOf, headerOf}
+use Rattle.stream_header.specs.Header.{longest, zeroHeader, fieldsOf, headerOf}
 use Rattle.stream_header.specs.declared.Header.{Header}
 use Rattle.field.specs.Indices.{indexIn}
 use Rattle.stream_item.specs.Links.{linkOf, chain, reached}
@@ -32,8 +32,8 @@ use Rattle.stream_finder.specs.Demand.{looked, numberGiven}
 use Rattle.stream_finder.specs.Shared.{Serves}
 use Rattle.stream_finder.proofs.PlaceLaws.{find-placed}
 use Rattle.stream_finder.proofs.DemandProof.{looked-number}
-use Rattle.stream_places.specs.File.{Form, narrow, wide, trailerSize, wordBytes, trailerBytes, wordsAt, trailerAt, spells, trailerBy, trailerOf, formOf, trailerOfEither}
-use Rattle.stream_places.specs.Places.{onChain, loadFor, loadBy, loadOf, loadWideOf, trailerFor, fileOf, formFor, saveFor, saveBy, saveOf, saveWideOf, bufferAfter}
+use Rattle.stream_places.specs.File.{FileForm, narrow, wide, trailerSize, wordBytes, trailerBytes, wordsAt, trailerAt, spells, trailerBy, trailerOf, fileFormOf, trailerOfEither}
+use Rattle.stream_places.specs.Places.{onChain, loadFor, loadBy, loadOf, loadWideOf, trailerFor, fileOf, formFor, saveFor, saveBy, saveOf, saveWideOf, fileBufferAfter}
 use Rattle.stream_places.specs.Kept.{recordsOf, Loaded, Serving, LoadServes, WideServes, TripOf, RoundTrip, WideTrip, Encoding, OneEncoding, OneEncodingWide, LoadersAgree}
 use Rattle.stream_places.specs.declared.trailer.Trailer.{Trailer}
 use Rattle.stream_places.proofs.FileLaws.{length-words, length-word-bytes, length-trailer, one-tag, other-tag, trailer-letters, trailer-short, trailer-by, form-wide as letters-wide, form-narrow as letters-narrow, checked-right, Trailed, trailed, Taken, as-narrow, as-wide, taken-either}
@@ -42,7 +42,7 @@ use Rattle.stream_places.proofs.PlacesLaws.{Ours, load-header, load-tra
 use Rattle.stream_places.proofs.ChainLaws.{Chained, chained, unchained, chained-placed, placed-chained}
 
 -- ---- what the proofs ask of a form: four letters, a count that holds the most places, a distance that fits
-record Sound (F : Form) : Type 0 where
+record Sound (F : FileForm) : Type 0 where
   pub four : length (F .letters) ≡ 4
   pub count : F .most < 256 ^ F .width
   pub distance : 4 * F .most + trailerSize F < 4294967296
@@ -67,7 +67,7 @@ then-answered : {A B : Type 0} (a : Answer A) (g : A → Answer B) (b : B) → t
 then-answered (answered x) g b e = (x, (refl, e))
 then-answered (refused n d) g b e = let z : _≡_ {A = ℕ} 0 1 = cc in absurd (omega arith)
 
-pub record Finds (F : Form) (s f t : List ℕ) (h : Header) (τ : State) : Type 0 where
+pub record Finds (F : FileForm) (s f t : List ℕ) (h : Header) (τ : State) : Type 0 where
   pub trailer : Trailer
   pub right : trailerBy F f ≡ answered trailer
   pub ours : Ours s f t h trailer
@@ -75,7 +75,7 @@ pub record Finds (F : Form) (s f t : List ℕ) (h : Header) (τ : State) : Type 
   pub on-chain : onChain s (2 ^ trailer .shift) (h .«header_size») (wordsAt (trailer .count) f 0) ≡ true
   pub state-is : state (holding h (trailer .shift) (trailer .count)) (put t 0 (wordsAt (trailer .count) f 0)) ≡ τ
 
-found : (F : Form) (s f t : List ℕ) (h : Header) (k : Trailer) (τ : State) → trailerBy F f ≡ answered k → loadFor s f t h k ≡ answered τ → Finds F s f t h τ
+found : (F : FileForm) (s f t : List ℕ) (h : Header) (k : Trailer) (τ : State) → trailerBy F f ≡ answered k → loadFor s f t h k ≡ answered τ → Finds F s f t h τ
 unfolding loadFor
 found F s f t h k τ r e =
     let t1 = passed (both (eqb (k .count) 0) (ltb (h .«minimum_index») (h .«maximum_index»))) 20 _ _ e in
@@ -114,7 +114,7 @@ finds-either : (s f t : List ℕ) (h : Header) (τ : State) → headerOf s ≡ a
 finds-either s f t h τ a e = go (y .0) (y .1 .1) (taken-either f (y .0) (y .1 .0))
   where
     y : (x : Trailer) × ((trailerOfEither f ≡ answered x) × (loadFor s f t h x ≡ answered τ))
-    y = then-answered (trailerOfEither f) (loadFor s f t h) τ (sym (load-header (formOf f) s f t (answered h) a) ∙ e)
+    y = then-answered (trailerOfEither f) (loadFor s f t h) τ (sym (load-header (fileFormOf f) s f t (answered h) a) ∙ e)
 
     go : (k : Trailer) → loadFor s f t h k ≡ answered τ → Taken f k → FindsEither s f t h τ
     go k g (as-narrow l r) = in-narrow (found narrow s f t h k τ r g)
@@ -126,7 +126,7 @@ some-place : (n m M : ℕ) → both (eqb n 0) (ltb m M) ≡ false → m < M → 
 some-place zero m M e l = let z : _≡_ {A = Bool} true false = sym (lt-ltb m M l) ∙ e in let q : _≡_ {A = ℕ} 0 1 = cc in absurd (omega arith)
 some-place (suc n) m M e l = omega arith
 
-module _ (F : Form) (tag : Stream) (s f t : List ℕ) (h : Header) (k : Trailer) (a : headerOf s ≡ answered h) (r : trailerBy F f ≡ answered k) (o : Ours s f t h k) (room : k .count ≤ length t) (on : onChain s (2 ^ k .shift) (h .«header_size») (wordsAt (k .count) f 0) ≡ true) where
+module _ (F : FileForm) (tag : Stream) (s f t : List ℕ) (h : Header) (k : Trailer) (a : headerOf s ≡ answered h) (r : trailerBy F f ≡ answered k) (o : Ours s f t h k) (room : k .count ≤ length t) (on : onChain s (2 ^ k .shift) (h .«header_size») (wordsAt (k .count) f 0) ≡ true) where
   abbrev ws : List ℕ
   ws = wordsAt (k .count) f 0
 
@@ -166,7 +166,7 @@ module _ (F : Form) (tag : Stream) (s f t : List ℕ) (h : Header) (k : Trailer)
     not-indexed = λ l d u. unheld d u ∙ ap (λ (n : ℕ). leb n (d / 2 ^ k .shift)) (counted l);
   }
 
-serves-found : (F : Form) (tag : Stream) (s f t : List ℕ) (h : Header) (τ : State) → headerOf s ≡ answered h → Finds F s f t h τ → Loaded tag s h τ
+serves-found : (F : FileForm) (tag : Stream) (s f t : List ℕ) (h : Header) (τ : State) → headerOf s ≡ answered h → Finds F s f t h τ → Loaded tag s h τ
 serves-found F tag s f t h τ a x =
     subst (λ (ρ : State). Loaded tag s h ρ) (x .state-is) (loaded F tag s f t h (x .trailer) a (x .right) (x .ours) (x .room) (x .on-chain))
 
@@ -188,15 +188,15 @@ first-of : (t ws : List ℕ) → length ws ≤ length t → take (length ws) (pu
 first-of t ws l = ap (take (length ws)) (put-is t 0 ws (omega arith)) ∙ take-append-seam ws (drop (0 + length ws) t)
 
 -- what a file holds fits its form's count, and its distance 32 bits
-count-below : (F : Form) (f : List ℕ) (k : Trailer) → Octets f → Trailed F f k → k .count < 256 ^ F .width
+count-below : (F : FileForm) (f : List ℕ) (k : Trailer) → Octets f → Trailed F f k → k .count < 256 ^ F .width
 unfolding Octets trailerAt
 count-below F f k o x = subst (λ (y : Trailer). y .count < 256 ^ F .width) (sym (x .fields)) (little-below (F .width) f (length f - trailerSize F) o)
 
-distance-below : (F : Form) (f : List ℕ) (k : Trailer) → Octets f → Trailed F f k → k .distance < 4294967296
+distance-below : (F : FileForm) (f : List ℕ) (k : Trailer) → Octets f → Trailed F f k → k .distance < 4294967296
 unfolding Octets trailerAt
 distance-below F f k o x = subst (λ (y : Trailer). y .distance < 4294967296) (sym (x .fields)) (little-below 4 f (length f - trailerSize F + F .width + 18) o)
 
-module _ (F : Form) (sound : Sound F) (s f t : List ℕ) (h : Header) (k : Trailer) (oct : Octets f) (a : headerOf s ≡ answered h) (r : trailerBy F f ≡ answered k) (o : Ours s f t h k) (room : k .count ≤ length t) (most : k .count ≤ F .most) where
+module _ (F : FileForm) (sound : Sound F) (s f t : List ℕ) (h : Header) (k : Trailer) (oct : Octets f) (a : headerOf s ≡ answered h) (r : trailerBy F f ≡ answered k) (o : Ours s f t h k) (room : k .count ≤ length t) (most : k .count ≤ F .most) where
   trailer-is : trailerFor F h (length s) (k .shift) (k .count) ≡ k
   trailer-is =
       let x = trailed F f k r in
@@ -231,7 +231,7 @@ module _ (F : Form) (sound : Sound F) (s f t : List ℕ) (h : Header) (k : Trail
       ∙ ap (λ (bs : List ℕ). answered bs) file-again
 
 -- of the state that was found
-encodes : (F : Form) (s f t : List ℕ) (h : Header) (τ : State) (space : ℕ) → Sound F → Octets f → headerOf s ≡ answered h → (x : Finds F s f t h τ)
+encodes : (F : FileForm) (s f t : List ℕ) (h : Header) (τ : State) (space : ℕ) → Sound F → Octets f → headerOf s ≡ answered h → (x : Finds F s f t h τ)
     → x .trailer .count ≤ F .most → length f ≤ space → saveFor F (length s) τ space h ≡ answered f
 encodes F s f t h τ space sound oct a x m l =
     subst (λ (ρ : State). saveFor F (length s) ρ space h ≡ answered f) (x .state-is) (encoded F sound s f t h (x .trailer) oct a (x .right) (x .ours) (x .room) m space l)
@@ -252,7 +252,7 @@ one-encoding s f t τ space oct e l =
     save-header narrow s τ space (answered (y .0)) (y .1 .0) ∙ encodes narrow s f t (y .0) τ space narrow-sound oct (y .1 .0) x (narrow-most s f t (y .0) τ oct x) l
 
 -- the state's own number of places, and so the form that it is written in
-held-is : (F : Form) (s f t : List ℕ) (h : Header) (τ : State) (x : Finds F s f t h τ) → τ .finder .held ≡ x .trailer .count
+held-is : (F : FileForm) (s f t : List ℕ) (h : Header) (τ : State) (x : Finds F s f t h τ) → τ .finder .held ≡ x .trailer .count
 held-is F s f t h τ x = ap (λ (ρ : State). ρ .finder .held) (sym (x .state-is))
 
 pub one-encoding-wide : OneEncodingWide
@@ -268,7 +268,7 @@ one-encoding-wide s f t τ space oct e l = go (finds-either s f t h τ a e)
     a : headerOf s ≡ answered h
     a = y .1 .0
 
-    by-form : (F : Form) → formFor (τ .finder .held) ≡ F → saveFor F (length s) τ space h ≡ answered f → saveWideOf s τ space ≡ answered f
+    by-form : (F : FileForm) → formFor (τ .finder .held) ≡ F → saveFor F (length s) τ space h ≡ answered f → saveWideOf s τ space ≡ answered f
     by-form F g w = save-by F (formFor (τ .finder .held)) s τ space h a (sym g) ∙ w
 
     go : FindsEither s f t h τ → saveWideOf s τ space ≡ answered f
@@ -295,7 +295,7 @@ header-fits s h oct e =
     (λ w x y z. record { inside = omega arith; minimum = omega (arith, little-below 4 s 8 oct); maximum = omega (arith, little-below 4 s 12 oct) })
 
 -- what a file that was saved says of its finder
-record Kept (F : Form) (s : List ℕ) (h : Header) (σ : State) (space : ℕ) (f : List ℕ) : Type 0 where
+record Kept (F : FileForm) (s : List ℕ) (h : Header) (σ : State) (space : ℕ) (f : List ℕ) : Type 0 where
   pub minimum : σ .finder .«minimum_index» ≡ h .«minimum_index»
   pub maximum : σ .finder .«maximum_index» ≡ h .«maximum_index»
   pub shift : σ .finder .shift ≤ 6
@@ -304,7 +304,7 @@ record Kept (F : Form) (s : List ℕ) (h : Header) (σ : State) (space : ℕ) (f
   pub room : 4 * σ .finder .held + trailerSize F ≤ space
   pub file : fileOf F h (length s) σ ≡ f
 
-kept : (F : Form) (s : List ℕ) (h : Header) (σ : State) (space : ℕ) (f : List ℕ) → saveFor F (length s) σ space h ≡ answered f → Kept F s h σ space f
+kept : (F : FileForm) (s : List ℕ) (h : Header) (σ : State) (space : ℕ) (f : List ℕ) → saveFor F (length s) σ space h ≡ answered f → Kept F s h σ space f
 unfolding saveFor
 kept F s h σ space f e =
     let t1 = passed (not (eqb (σ .finder .«minimum_index») (h .«minimum_index»))) 21 _ _ e in
@@ -331,7 +331,7 @@ none-lacks zero m M h = go (ltb m M) refl
     go true e = let z : 0 < zero = h (ltb-true m M e) in absurd (omega arith)
     go false e = refl
 
-module _ (F : Form) (sound : Sound F) (s t : List ℕ) (h : Header) (σ : State) (f : List ℕ) (space : ℕ) (oct : Octets s) (a : headerOf s ≡ answered h) (pl : Placed s (h .«header_size») σ) (some : h .«minimum_index» < h .«maximum_index» → 0 < σ .finder .held) (many : F .least ≤ σ .finder .held) (x : Kept F s h σ space f) (l : σ .finder .held ≤ length t) where
+module _ (F : FileForm) (sound : Sound F) (s t : List ℕ) (h : Header) (σ : State) (f : List ℕ) (space : ℕ) (oct : Octets s) (a : headerOf s ≡ answered h) (pl : Placed s (h .«header_size») σ) (some : h .«minimum_index» < h .«maximum_index» → 0 < σ .finder .held) (many : F .least ≤ σ .finder .held) (x : Kept F s h σ space f) (l : σ .finder .held ≤ length t) where
   abbrev n : ℕ
   n = σ .finder .held
 
@@ -405,12 +405,12 @@ module _ (F : Form) (sound : Sound F) (s t : List ℕ) (h : Header) (σ : State)
 
   -- R-10's loader takes it by the same form
   either-is : (F ≡ narrow) ⊎ (F ≡ wide) → trailerOfEither f ≡ answered tail
-  either-is (inl e) = ap (λ (G : Form). trailerBy G f) (letters-narrow f (one-tag f (length f - 4) (subst (λ (G : Form). spells f (length f - 4) (G .letters) ≡ true) e tagged)) ∙ sym e) ∙ tail-is
-  either-is (inr e) = ap (λ (G : Form). trailerBy G f) (letters-wide f (subst (λ (G : Form). spells f (length f - 4) (G .letters) ≡ true) e tagged) ∙ sym e) ∙ tail-is
+  either-is (inl e) = ap (λ (G : FileForm). trailerBy G f) (letters-narrow f (one-tag f (length f - 4) (subst (λ (G : FileForm). spells f (length f - 4) (G .letters) ≡ true) e tagged)) ∙ sym e) ∙ tail-is
+  either-is (inr e) = ap (λ (G : FileForm). trailerBy G f) (letters-wide f (subst (λ (G : FileForm). spells f (length f - 4) (G .letters) ≡ true) e tagged) ∙ sym e) ∙ tail-is
 
 -- the first bytes of the buffer are the file
-file-first : (o f : List ℕ) (a : Answer (List ℕ)) → a ≡ answered f → length f ≤ length o → take (length f) (bufferAfter o a) ≡ f
-file-first o f a e l = ap (λ (w : Answer (List ℕ)). take (length f) (bufferAfter o w)) e ∙ first-of o f l
+file-first : (o f : List ℕ) (a : Answer (List ℕ)) → a ≡ answered f → length f ≤ length o → take (length f) (fileBufferAfter o a) ≡ f
+file-first o f a e l = ap (λ (w : Answer (List ℕ)). take (length f) (fileBufferAfter o w)) e ∙ first-of o f l
 
 pub round-trip : RoundTrip
 unfolding TripOf
@@ -422,16 +422,16 @@ round-trip s o t h σ f oct a pl some e l =
     ∙ again narrow narrow-sound s t h σ f (length o) oct a pl some (omega arith) x l
 
 -- of the form that the places are written in
-trip-by : (F : Form) (s o t : List ℕ) (h : Header) (σ : State) (f : List ℕ) → Sound F → (F ≡ narrow) ⊎ (F ≡ wide) → F .least ≤ σ .finder .held → formFor (σ .finder .held) ≡ F
+trip-by : (F : FileForm) (s o t : List ℕ) (h : Header) (σ : State) (f : List ℕ) → Sound F → (F ≡ narrow) ⊎ (F ≡ wide) → F .least ≤ σ .finder .held → formFor (σ .finder .held) ≡ F
     → Octets s → headerOf s ≡ answered h → Placed s (h .«header_size») σ → (h .«minimum_index» < h .«maximum_index» → 0 < σ .finder .held)
     → saveWideOf s σ (length o) ≡ answered f → σ .finder .held ≤ length t
-    → loadWideOf s (take (length f) (bufferAfter o (saveWideOf s σ (length o)))) t ≡ answered (state (σ .finder) (put t 0 (take (σ .finder .held) (σ .table))))
+    → loadWideOf s (take (length f) (fileBufferAfter o (saveWideOf s σ (length o)))) t ≡ answered (state (σ .finder) (put t 0 (take (σ .finder .held) (σ .table))))
 trip-by F s o t h σ f sound either m g oct a pl some e l =
     let w : saveFor F (length s) σ (length o) h ≡ answered f = sym (save-by F (formFor (σ .finder .held)) s σ (length o) h a (sym g)) ∙ e in
     let x : Kept F s h σ (length o) f = kept F s h σ (length o) f w in
     let n : length f ≡ 4 * σ .finder .held + trailerSize F = length-is F sound s t h σ f (length o) oct a pl some m x l in
     ap (λ (bs : List ℕ). loadWideOf s bs t) (file-first o f _ e (omega (arith, x .room)))
-    ∙ load-trailer (formOf f) s f t h _ a (either-is F sound s t h σ f (length o) oct a pl some m x l either)
+    ∙ load-trailer (fileFormOf f) s f t h _ a (either-is F sound s t h σ f (length o) oct a pl some m x l either)
     ∙ again F sound s t h σ f (length o) oct a pl some m x l
 
 pub wide-trip : WideTrip
@@ -439,7 +439,7 @@ unfolding TripOf
 wide-trip s o t h σ f oct a pl some e l = go (ltb 65535 (σ .finder .held)) refl
   where
     go : (b : Bool) → ltb 65535 (σ .finder .held) ≡ b
-        → loadWideOf s (take (length f) (bufferAfter o (saveWideOf s σ (length o)))) t ≡ answered (state (σ .finder) (put t 0 (take (σ .finder .held) (σ .table))))
+        → loadWideOf s (take (length f) (fileBufferAfter o (saveWideOf s σ (length o)))) t ≡ answered (state (σ .finder) (put t 0 (take (σ .finder .held) (σ .table))))
     go true q =
         let n : 65535 < σ .finder .held = ltb-true _ _ q in
         trip-by wide s o t h σ f wide-sound (inr refl) (omega arith) (form-wide (σ .finder .held) n) oct a pl some e l
@@ -450,7 +450,7 @@ wide-trip s o t h σ f oct a pl some e l = go (ltb 65535 (σ .finder .held)) ref
 -- ---- the two loaders
 pub loaders-agree : LoadersAgree
 loaders-agree = record {
-  on-narrow = λ s f t e. ap (λ (F : Form). loadBy F s f t) (letters-narrow f (one-tag f (length f - 4) e));
+  on-narrow = λ s f t e. ap (λ (F : FileForm). loadBy F s f t) (letters-narrow f (one-tag f (length f - 4) e));
   on-wide = λ s f t e. other s f t (not-narrow f e);
 }
   where

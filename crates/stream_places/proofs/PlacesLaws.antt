@@ -19,8 +19,8 @@ use Rattle.stream_item.specs.Links.{Walk, reached, broke, chain}
 use Rattle.stream_item.proofs.LinkLaws.{link-broken, chain-break, chain-stays, chain-bounds}
 use Rattle.stream_item.proofs.NextLaws.{passed}
 use Rattle.stream_finder.specs.Finder.{State, state, holding}
-use Rattle.stream_places.specs.File.{Form, trailerSize, wordBytes, trailerBytes, wordsAt, trailerBy}
-use Rattle.stream_places.specs.Places.{ends, follows, onChain, Takes, loadFor, loadBy, trailerFor, fileOf, saveFor, saveBy, sizeIn, bufferAfter, saidSave, Saves}
+use Rattle.stream_places.specs.File.{FileForm, trailerSize, wordBytes, trailerBytes, wordsAt, trailerBy}
+use Rattle.stream_places.specs.Places.{ends, follows, onChain, Takes, loadFor, loadBy, trailerFor, fileOf, saveFor, saveBy, fileSize, fileBufferAfter, saidSave, Saves}
 use Rattle.stream_places.specs.declared.trailer.Trailer.{Trailer}
 use Rattle.stream_places.specs.declared.SaveAnswer.{SaveAnswer}
 use Rattle.stream_places.specs.declared.SaveAnswer.the-variants as save
@@ -144,16 +144,16 @@ module _ (s f t : List ℕ) (h : Header) (k : Trailer) where
   unfolding loadFor
   load-done o r e = simp (o .some, eq-eqb _ _ (o .minimum), eq-eqb _ _ (o .maximum), eq-eqb _ _ (o .bytes-are), eq-eqb _ _ (o .start), le-ltb _ _ r, e)
 
-pub load-header : (F : Form) (s f t : List ℕ) (a : Answer Header) → headerOf s ≡ a → loadBy F s f t ≡ then a (λ h. then (trailerBy F f) (loadFor s f t h))
+pub load-header : (F : FileForm) (s f t : List ℕ) (a : Answer Header) → headerOf s ≡ a → loadBy F s f t ≡ then a (λ h. then (trailerBy F f) (loadFor s f t h))
 unfolding loadBy
 load-header F s f t a e = rw e
 
-pub load-trailer : (F : Form) (s f t : List ℕ) (h : Header) (a : Answer Trailer) → headerOf s ≡ answered h → trailerBy F f ≡ a → loadBy F s f t ≡ then a (loadFor s f t h)
+pub load-trailer : (F : FileForm) (s f t : List ℕ) (h : Header) (a : Answer Trailer) → headerOf s ≡ answered h → trailerBy F f ≡ a → loadBy F s f t ≡ then a (loadFor s f t h)
 unfolding loadBy
 load-trailer F s f t h a e g = rw (e, g)
 
 -- ---- the outcomes of saving
-module _ (F : Form) (bytes : ℕ) (σ : State) (room : ℕ) (h : Header) where
+module _ (F : FileForm) (bytes : ℕ) (σ : State) (room : ℕ) (h : Header) where
   pub save-minimum : (σ .finder .«minimum_index» ≡ h .«minimum_index» → ⊥) → saveFor F bytes σ room h ≡ refused 21 []
   unfolding saveFor
   save-minimum e = simp (ne-eqb _ _ e)
@@ -189,12 +189,12 @@ module _ (F : Form) (bytes : ℕ) (σ : State) (room : ℕ) (h : Header) where
   unfolding saveFor
   save-done b a c d e = simp (eq-eqb _ _ (b .minimum), eq-eqb _ _ (b .maximum), le-ltb _ _ a, le-ltb _ _ c, le-ltb _ _ d, le-ltb _ _ e)
 
-pub save-header : (F : Form) (s : List ℕ) (σ : State) (room : ℕ) (a : Answer Header) → headerOf s ≡ a → saveBy F s σ room ≡ then a (saveFor F (length s) σ room)
+pub save-header : (F : FileForm) (s : List ℕ) (σ : State) (room : ℕ) (a : Answer Header) → headerOf s ≡ a → saveBy F s σ room ≡ then a (saveFor F (length s) σ room)
 unfolding saveBy
 save-header F s σ room a e = rw e
 
 -- the file with its trailer as the code has it
-pub file-by : (F : Form) (bytes : ℕ) (σ : State) (h : Header) (d : ℕ) → d ≡ 4 * σ .finder .held + trailerSize F
+pub file-by : (F : FileForm) (bytes : ℕ) (σ : State) (h : Header) (d : ℕ) → d ≡ 4 * σ .finder .held + trailerSize F
     → fileOf F h bytes σ
     ≡ wordBytes (take (σ .finder .held) (σ .table))
     ++ trailerBytes F (record {
@@ -210,12 +210,12 @@ unfolding fileOf
 file-by F bytes σ h d e = rw e
 
 -- by the form as the code has it
-pub save-by : (F G : Form) (s : List ℕ) (σ : State) (room : ℕ) (h : Header) → headerOf s ≡ answered h → F ≡ G → saveBy G s σ room ≡ saveFor F (length s) σ room h
-save-by F G s σ room h e g = ap (λ (H : Form). saveBy H s σ room) (sym g) ∙ save-header F s σ room (answered h) e
+pub save-by : (F G : FileForm) (s : List ℕ) (σ : State) (room : ℕ) (h : Header) → headerOf s ≡ answered h → F ≡ G → saveBy G s σ room ≡ saveFor F (length s) σ room h
+save-by F G s σ room h e g = ap (λ (H : FileForm). saveBy H s σ room) (sym g) ∙ save-header F s σ room (answered h) e
 
 -- the contract from the case that holds
-pub saves : (o : List ℕ) (x : Answer (List ℕ)) (r : SaveAnswer) (o′ : List ℕ) (a : Answer (List ℕ)) → x ≡ a → saidSave r ≡ sizeIn a → o′ ≡ bufferAfter o a → Saves o x r o′
-saves o x r o′ a e p q = record { answer = p ∙ ap sizeIn (sym e); buffer = q ∙ ap (bufferAfter o) (sym e) }
+pub saves : (o : List ℕ) (x : Answer (List ℕ)) (r : SaveAnswer) (o′ : List ℕ) (a : Answer (List ℕ)) → x ≡ a → saidSave r ≡ fileSize a → o′ ≡ fileBufferAfter o a → Saves o x r o′
+saves o x r o′ a e p q = record { answer = p ∙ ap fileSize (sym e); buffer = q ∙ ap (fileBufferAfter o) (sym e) }
 
 pub saves-as : (o : List ℕ) (x : Answer (List ℕ)) (r : SaveAnswer) (o′ : List ℕ) (a : Answer (List ℕ)) → x ≡ a → Saves o a r o′ → Saves o x r o′
 saves-as o x r o′ a e w = saves o x r o′ a e (w .answer) (w .buffer)

@@ -4,7 +4,7 @@
 -- R-10, a second form of it: "Counts become u32 under the tag PTIY, which makes that trailer 30 bytes. [..] PTIY with a count up to 65,535 is 20, so
 -- each table has one encoding." What follows goes by the form; R-3's and R-10's are two values of it.
 use Prim.Native.Nat.{ℕ, zero, suc, _+_, _-_, _*_}
-use mathlib.Core.Bool.{Bool, true, false, not}
+use mathlib.Core.Bool.{Bool, true, not}
 use mathlib.Core.List.{List, [], _∷_, _++_}
 use lib.ListN.{length, getD}
 use lib.Dec.{ltb, eqb}
@@ -21,28 +21,28 @@ use Rattle.stream_places.specs.declared.trailer.TrailerAnswer.the-varian
 -- ---- the two forms
 
 -- how many bytes the count has, the letters, and the least and the most places that a file of this form has
-pub record Form : Type 0 where
+pub record FileForm : Type 0 where
   pub width : ℕ
   pub letters : List ℕ
   pub least : ℕ
   pub most : ℕ
 
 -- R-3's: PTIX
-abbrev pub narrow : Form
+abbrev pub narrow : FileForm
 narrow = record { width = 2; letters = 0x50 ∷ 0x54 ∷ 0x49 ∷ 0x58 ∷ []; least = 0; most = 65535 }
 
 -- R-10's: PTIY; one place more, and the distance would pass 4,294,967,295
-abbrev pub wide : Form
+abbrev pub wide : FileForm
 wide = record { width = 4; letters = 0x50 ∷ 0x54 ∷ 0x49 ∷ 0x59 ∷ []; least = 65536; most = 1073741816 }
 
 -- the bytes of a trailer: 28, and 30
-abbrev pub trailerSize : Form → ℕ
+abbrev pub trailerSize : FileForm → ℕ
 trailerSize form = form .width + 26
 
 -- which of the two the code goes by
-abbrev pub formIn : Width → Form
-formIn width.Narrow = narrow
-formIn width.Wide = wide
+abbrev pub fileFormIn : Width → FileForm
+fileFormIn width.Narrow = narrow
+fileFormIn width.Wide = wide
 
 -- ---- written
 
@@ -51,7 +51,7 @@ unfoldable pub wordBytes : List ℕ → List ℕ
 wordBytes [] = []
 wordBytes (x ∷ xs) = bytes 4 x ++ wordBytes xs
 
-unfoldable pub trailerBytes : Form → Trailer → List ℕ
+unfoldable pub trailerBytes : FileForm → Trailer → List ℕ
 trailerBytes form k =
     bytes (form .width) (k .count)
     ++ (bytes 1 (k .shift)
@@ -66,7 +66,7 @@ unfoldable pub wordsAt : ℕ → List ℕ → ℕ → List ℕ
 wordsAt zero f p = []
 wordsAt (suc n) f p = littleAt 4 f p ∷ wordsAt n f (p + 4)
 
-unfoldable pub trailerAt : Form → List ℕ → ℕ → Trailer
+unfoldable pub trailerAt : FileForm → List ℕ → ℕ → Trailer
 trailerAt form f p = record {
   count = littleAt (form .width) f p;
   shift = littleAt 1 f (p + form .width);
@@ -83,7 +83,7 @@ spells f p [] = true
 spells f p (b ∷ bs) = both (eqb (getD f p 0) b) (spells f (p + 1) bs)
 
 -- a trailer at place p, behind the letters, is 20 if its zero byte, its shift, its distance or its count is wrong
-unfoldable pub checked : Form → List ℕ → ℕ → Trailer → Answer Trailer
+unfoldable pub checked : FileForm → List ℕ → ℕ → Trailer → Answer Trailer
 checked form f p k =
     stop (not (eqb (littleAt 1 f (p + form .width + 1)) 0)) 20
     (stop (ltb 6 (k .shift)) 20
@@ -93,7 +93,7 @@ checked form f p k =
     (answered k)))))
 
 -- 20 if the file is shorter than a trailer or does not end in the letters; nothing of it is believed before
-unfoldable pub trailerBy : Form → List ℕ → Answer Trailer
+unfoldable pub trailerBy : FileForm → List ℕ → Answer Trailer
 trailerBy form f =
     stop (ltb (length f) (trailerSize form)) 20
     (stop (not (spells f (length f - 4) (form .letters))) 20
@@ -104,11 +104,11 @@ abbrev pub trailerOf : List ℕ → Answer Trailer
 trailerOf = trailerBy narrow
 
 -- R-10's takes both: the last four letters say which
-abbrev pub formOf : List ℕ → Form
-formOf f = pick (spells f (length f - 4) (wide .letters)) wide narrow
+abbrev pub fileFormOf : List ℕ → FileForm
+fileFormOf f = pick (spells f (length f - 4) (wide .letters)) wide narrow
 
 abbrev pub trailerOfEither : List ℕ → Answer Trailer
-trailerOfEither f = trailerBy (formOf f) f
+trailerOfEither f = trailerBy (fileFormOf f) f
 
 -- what the answer says
 abbrev pub saidTrailer : TrailerAnswer → Answer Trailer

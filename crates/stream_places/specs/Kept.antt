@@ -19,7 +19,7 @@ use Rattle.stream_finder.specs.Places.{Placed}
 use Rattle.stream_finder.specs.Demand.{looked, numberGiven}
 use Rattle.stream_finder.specs.Shared.{Serves}
 use Rattle.stream_places.specs.File.{narrow, wide, spells}
-use Rattle.stream_places.specs.Places.{loadOf, loadWideOf, saveOf, saveWideOf, bufferAfter}
+use Rattle.stream_places.specs.Places.{loadOf, loadWideOf, saveOf, saveWideOf, fileBufferAfter}
 
 -- ---- lookups of a loaded finder
 
@@ -68,7 +68,7 @@ TripOf save load =
     → (h .«minimum_index» < h .«maximum_index» → 0 < σ .finder .held)
     → save s σ (length o) ≡ answered f
     → σ .finder .held ≤ length t
-    → load s (take (length f) (bufferAfter o (save s σ (length o)))) t
+    → load s (take (length f) (fileBufferAfter o (save s σ (length o)))) t
     ≡ answered (state (σ .finder) (put t 0 (take (σ .finder .held) (σ .table))))
 
 abbrev pub RoundTrip : Type 0

@@ -18,7 +18,7 @@ use Rattle.stream_header.specs.Header.{headerOf}
 use Rattle.stream_header.specs.declared.Header.{Header}
 use Rattle.stream_item.specs.Links.{Walk, reached, broke, chain}
 use Rattle.stream_finder.specs.Finder.{State, state, holding}
-use Rattle.stream_places.specs.File.{Form, narrow, wide, trailerSize, wordBytes, trailerBytes, wordsAt, trailerBy, formOf}
+use Rattle.stream_places.specs.File.{FileForm, narrow, wide, trailerSize, wordBytes, trailerBytes, wordsAt, trailerBy, fileFormOf}
 use Rattle.stream_places.specs.declared.trailer.Trailer.{Trailer}
 use Rattle.stream_places.specs.declared.SaveAnswer.{SaveAnswer}
 use Rattle.stream_places.specs.declared.SaveAnswer.the-variants as save
@@ -61,19 +61,19 @@ loadFor s f t h k =
     (answered (state (holding h (k .shift) (k .count)) (put t 0 (wordsAt (k .count) f 0))))))))))
 
 -- the stream's own, then the file's, then those of both
-unfoldable pub loadBy : Form → List ℕ → List ℕ → List ℕ → Answer State
+unfoldable pub loadBy : FileForm → List ℕ → List ℕ → List ℕ → Answer State
 loadBy form s f t = then (headerOf s) (λ h. then (trailerBy form f) (loadFor s f t h))
 
 abbrev pub loadOf : List ℕ → List ℕ → List ℕ → Answer State
 loadOf = loadBy narrow
 
 abbrev pub loadWideOf : List ℕ → List ℕ → List ℕ → Answer State
-loadWideOf s f t = loadBy (formOf f) s f t
+loadWideOf s f t = loadBy (fileFormOf f) s f t
 
 -- ---- saving
 
 -- the trailer for n places of shift, of a stream of so many bytes with the header h
-abbrev pub trailerFor : Form → Header → ℕ → ℕ → ℕ → Trailer
+abbrev pub trailerFor : FileForm → Header → ℕ → ℕ → ℕ → Trailer
 trailerFor form h bytes shift n = record {
   count = n;
   shift = shift;
@@ -85,13 +85,13 @@ trailerFor form h bytes shift n = record {
 }
 
 -- the file of a finder's places
-unfoldable pub fileOf : Form → Header → ℕ → State → List ℕ
+unfoldable pub fileOf : FileForm → Header → ℕ → State → List ℕ
 fileOf form h bytes σ =
     wordBytes (take (σ .finder .held) (σ .table)) ++ trailerBytes form (trailerFor form h bytes (σ .finder .shift) (σ .finder .held))
 
 -- of a stream of so many bytes with the header h, into a buffer of `room` bytes: 21 (the bounds), 26, 13 (the claim, or more places than the form
 -- has), 19
-unfoldable pub saveFor : Form → ℕ → State → ℕ → Header → Answer (List ℕ)
+unfoldable pub saveFor : FileForm → ℕ → State → ℕ → Header → Answer (List ℕ)
 saveFor form bytes σ room h =
     stop (not (eqb (σ .finder .«minimum_index») (h .«minimum_index»))) 21
     (stop (not (eqb (σ .finder .«maximum_index») (h .«maximum_index»))) 21
@@ -101,14 +101,14 @@ saveFor form bytes σ room h =
     (stop (ltb room (4 * σ .finder .held + trailerSize form)) 19
     (answered (fileOf form h bytes σ)))))))
 
-unfoldable pub saveBy : Form → List ℕ → State → ℕ → Answer (List ℕ)
+unfoldable pub saveBy : FileForm → List ℕ → State → ℕ → Answer (List ℕ)
 saveBy form s σ room = then (headerOf s) (saveFor form (length s) σ room)
 
 abbrev pub saveOf : List ℕ → State → ℕ → Answer (List ℕ)
 saveOf = saveBy narrow
 
 -- "a table that fits the old form is still written in the old form"
-abbrev pub formFor : ℕ → Form
+abbrev pub formFor : ℕ → FileForm
 formFor n = pick (ltb 65535 n) wide narrow
 
 abbrev pub saveWideOf : List ℕ → State → ℕ → Answer (List ℕ)
@@ -117,14 +117,14 @@ saveWideOf s σ room = saveBy (formFor (σ .finder .held)) s σ room
 -- ---- what the answers say
 
 -- how many bytes a file takes
-abbrev pub sizeIn : Answer (List ℕ) → Answer ℕ
-sizeIn (answered bs) = answered (length bs)
-sizeIn (refused n d) = refused n d
+abbrev pub fileSize : Answer (List ℕ) → Answer ℕ
+fileSize (answered bs) = answered (length bs)
+fileSize (refused n d) = refused n d
 
 -- the buffer o after it: the file in its first bytes, all else as before
-abbrev pub bufferAfter : List ℕ → Answer (List ℕ) → List ℕ
-bufferAfter o (answered bs) = put o 0 bs
-bufferAfter o (refused n d) = o
+abbrev pub fileBufferAfter : List ℕ → Answer (List ℕ) → List ℕ
+fileBufferAfter o (answered bs) = put o 0 bs
+fileBufferAfter o (refused n d) = o
 
 abbrev pub saidSave : SaveAnswer → Answer ℕ
 saidSave (save.Answered n) = answered n
@@ -132,5 +132,5 @@ saidSave (save.Refused e) = no e
 
 -- the contract of a function that is lent the buffer o: a is the definition's answer, r the function's, o′ the buffer after it
 pub record Saves (o : List ℕ) (a : Answer (List ℕ)) (r : SaveAnswer) (o′ : List ℕ) : Type 0 where
-  pub answer : saidSave r ≡ sizeIn a
-  pub buffer : o′ ≡ bufferAfter o a
+  pub answer : saidSave r ≡ fileSize a
+  pub buffer : o′ ≡ fileBufferAfter o a

@@ -17,7 +17,7 @@ ghost use Rattle.field.specs.Fields.{littleAt};
 ghost use Rattle.field_put.specs.Bytes.{bytes, put, Room, Puts};
 ghost use Rattle.stream_item.specs.Links.{chain};
 ghost use Rattle.stream_finder.specs.Finder.{state, Fills};
-ghost use Rattle.stream_places.specs.File.{formIn, wordsAt, wordBytes, trailerBytes};
+ghost use Rattle.stream_places.specs.File.{fileFormIn, wordsAt, wordBytes, trailerBytes};
 ghost use Rattle.stream_places.specs.Places.{ends, onChain, Takes, loadFor, loadOf, loadWideOf, formFor, saveFor, saveOf, saveWideOf, Saves};
 use answer::Refusal;
 use field::fixed;
@@ -41,7 +41,7 @@ enum Width {
 
 // How many bytes the count has.
 fn width_of(w: Width) -> usize
-    ensures { λ r. ⌜ (r ≡ formIn w .width) × (r ≤ 4) ⌝ }
+    ensures { λ r. ⌜ (r ≡ fileFormIn w .width) × (r ≤ 4) ⌝ }
 {
     match w {
         Width::Narrow => 2,
@@ -51,7 +51,7 @@ fn width_of(w: Width) -> usize
 
 // The letters at the end.
 fn letters_of(w: Width) -> [u8; 4]
-    ensures { λ r. ⌜ r ≡ formIn w .letters ⌝ }
+    ensures { λ r. ⌜ r ≡ fileFormIn w .letters ⌝ }
 {
     match w {
         Width::Narrow => *b"PTIX",
@@ -61,7 +61,7 @@ fn letters_of(w: Width) -> [u8; 4]
 
 // The fewest places: below them the other form is written.
 fn least_of(w: Width) -> u32
-    ensures { λ r. ⌜ r ≡ formIn w .least ⌝ }
+    ensures { λ r. ⌜ r ≡ fileFormIn w .least ⌝ }
 {
     match w {
         Width::Narrow => 0,
@@ -71,7 +71,7 @@ fn least_of(w: Width) -> u32
 
 // The most places.
 fn most_of(w: Width) -> usize
-    ensures { λ r. ⌜ (r ≡ formIn w .most) × (r ≤ 1073741816) ⌝ }
+    ensures { λ r. ⌜ (r ≡ fileFormIn w .most) × (r ≤ 1073741816) ⌝ }
 {
     match w {
         Width::Narrow => 65535,
@@ -81,7 +81,7 @@ fn most_of(w: Width) -> usize
 
 // The form that n places are written in.
 fn width_for(n: usize) -> Width
-    ensures { λ r. ⌜ formIn r ≡ formFor n ⌝ }
+    ensures { λ r. ⌜ fileFormIn r ≡ formFor n ⌝ }
 {
     if n > 65535 {
         return Width::Wide;
@@ -302,7 +302,7 @@ pub fn save_wide(s: &[u8], f: ItemFinder, t: &[u32], out: &mut [u8]) -> SaveAnsw
 // The file of this form, of a stream of n bytes that has this header.
 fn saved(n: usize, f: ItemFinder, t: &[u32], out: &mut [u8], h: Header, w: Width) -> SaveAnswer
     requires { ⌜ n ≤ 4294967294 ⌝ }
-    ensures { λ r. ⌜ Saves (now (out .entry)) (saveFor (formIn w) n (state f (now (t .entry))) (length (now (out .entry))) h) r (now (out .exit)) ⌝ }
+    ensures { λ r. ⌜ Saves (now (out .entry)) (saveFor (fileFormIn w) n (state f (now (t .entry))) (length (now (out .entry))) h) r (now (out .exit)) ⌝ }
 {
     let minimum = h.minimum_index;
     let maximum = h.maximum_index;
@@ -357,8 +357,8 @@ fn put_words(out: &mut [u8], p: usize, t: &[u32], n: usize) -> usize
 
 // The count at place p of a buffer that has room for it; and the place after it.
 fn put_count(out: &mut [u8], p: usize, n: u32, w: Width) -> usize
-    requires { ⌜ Room (now out) p (bytes (formIn w .width) n) × (n ≤ formIn w .most) ⌝ }
-    ensures { λ r. ⌜ Puts (now (out .entry)) p (bytes (formIn w .width) n) r (now (out .exit)) ⌝ }
+    requires { ⌜ Room (now out) p (bytes (fileFormIn w .width) n) × (n ≤ fileFormIn w .most) ⌝ }
+    ensures { λ r. ⌜ Puts (now (out .entry)) p (bytes (fileFormIn w .width) n) r (now (out .exit)) ⌝ }
 {
     match w {
         Width::Narrow => field_put::put16(out, p, n as u16),
@@ -368,8 +368,8 @@ fn put_count(out: &mut [u8], p: usize, n: u32, w: Width) -> usize
 
 // The trailer at place p of a buffer that has room for it; and the place after it.
 fn put_trailer(out: &mut [u8], p: usize, k: Trailer, w: Width) -> usize
-    requires { ⌜ Room (now out) p (trailerBytes (formIn w) k) × (k .count ≤ formIn w .most) ⌝ }
-    ensures { λ r. ⌜ Puts (now (out .entry)) p (trailerBytes (formIn w) k) r (now (out .exit)) ⌝ }
+    requires { ⌜ Room (now out) p (trailerBytes (fileFormIn w) k) × (k .count ≤ fileFormIn w .most) ⌝ }
+    ensures { λ r. ⌜ Puts (now (out .entry)) p (trailerBytes (fileFormIn w) k) r (now (out .exit)) ⌝ }
 {
     let numbers = [
         k.minimum_index,

@@ -3,7 +3,7 @@ ghost use mathlib.Core.Path.{_≡_};
 ghost use Prim.Native.Nat.{_+_, _≤_};
 ghost use lib.ListN.{length};
 ghost use Rattle.field.specs.Fields.{littleAt};
-ghost use Rattle.stream_places.specs.File.{formIn, trailerSize, spells, trailerAt, trailerBy, trailerOf, trailerOfEither, saidTrailer};
+ghost use Rattle.stream_places.specs.File.{fileFormIn, trailerSize, spells, trailerAt, trailerBy, trailerOf, trailerOfEither, saidTrailer};
 use crate::Width;
 use crate::byte_at;
 use crate::half_at;
@@ -55,7 +55,7 @@ impl Trailer {
 
 // The trailer of a file of this form.
 fn parsed(f: &[u8], w: Width) -> TrailerAnswer
-    ensures { λ r. ⌜ saidTrailer r ≡ trailerBy (formIn w) (now (f .entry)) ⌝ }
+    ensures { λ r. ⌜ saidTrailer r ≡ trailerBy (fileFormIn w) (now (f .entry)) ⌝ }
 {
     let width = width_of(w);
     let size = width + 26;
@@ -103,8 +103,8 @@ fn spelt(f: &[u8], p: usize, text: &[u8]) -> bool
 
 // The count of the trailer that stands at place p.
 fn count_at(f: &[u8], p: usize, w: Width) -> u32
-    requires { ⌜ p + formIn w .width ≤ length (now f) ⌝ }
-    ensures { λ r. ⌜ r ≡ littleAt (formIn w .width) (now (f .entry)) p ⌝ }
+    requires { ⌜ p + fileFormIn w .width ≤ length (now f) ⌝ }
+    ensures { λ r. ⌜ r ≡ littleAt (fileFormIn w .width) (now (f .entry)) p ⌝ }
 {
     match w {
         Width::Narrow => half_at(f, p) as u32,
@@ -114,8 +114,8 @@ fn count_at(f: &[u8], p: usize, w: Width) -> u32
 
 // The fields of the trailer that stands at place p.
 fn trailer_at(f: &[u8], p: usize, w: Width) -> Trailer
-    requires { ⌜ p + trailerSize (formIn w) ≤ length (now f) ⌝ }
-    ensures { λ r. ⌜ r ≡ trailerAt (formIn w) (now (f .entry)) p ⌝ }
+    requires { ⌜ p + trailerSize (fileFormIn w) ≤ length (now f) ⌝ }
+    ensures { λ r. ⌜ r ≡ trailerAt (fileFormIn w) (now (f .entry)) p ⌝ }
 {
     let count = count_at(f, p, w);
     let q = p + width_of(w);

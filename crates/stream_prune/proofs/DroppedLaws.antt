@@ -19,7 +19,7 @@ use Rattle.record_rewrite.specs.Rewrite.{renamed, renamedAll}
 use Rattle.stream_fit.specs.Sentences.{In, Good}
 use Rattle.stream_prune.specs.Links.{AllGood}
 use Rattle.stream_prune.specs.Pruned.{Marked, rank, numbers, newIndex, renumbered, Closes, AllClose, AllOctets}
-use Rattle.stream_prune.specs.Dropped.{IsIn, Reached, root, named, numbersOf, rootsFrom, namesOf, marksOf, Droppable, payloads₂, roots₂, stream₂, header₂, Drops, Dropping}
+use Rattle.stream_prune.specs.Dropped.{IsIn, Reached, root, named, numbersOf, rootsFrom, namesOf, marksOf, Droppable, payloads₂, roots₂, stream₂, header₂, DropHolds, Dropping}
 use Rattle.stream_prune.proofs.Numbers.{rank-first, rank-less, stood, index-kept, index-below, numbers-same}
 use Rattle.stream_prune.proofs.MarkLaws.{Downward, Inside, marks-sound, marks-complete, marks-long}
 use Rattle.stream_prune.proofs.PrunedLaws.{new-kept, kept-at}
@@ -249,7 +249,7 @@ module _ (s : List ℕ) (h : Header) (c : ItemIter) (ps : List (List ℕ)) (root
       let z : length u ≡ length qs = marks-long least qs (roots₂ h ps roots) in
       numbers-same least u k (omega arith) (λ i j. all-again i (omega arith))
 
-  pub drops : Drops s h c ps roots
+  pub drops : DropHolds s h c ps roots
   drops = record {
     only = sound;
     all = λ k r. complete r .1;

@@ -15,7 +15,7 @@ use Rattle.field.specs.Fields.{littleAt}
 use Rattle.field.specs.Bytes.{bytes}
 use Rattle.field_put.specs.Bytes.{put, Octets}
 use Rattle.field_put.proofs.PutLaws.{length-put}
-use Rattle.stream_header.specs.Header.{longest, empty, fieldsOf, headerOf}
+use Rattle.stream_header.specs.Header.{longest, zeroHeader, fieldsOf, headerOf}
 use Rattle.stream_header.specs.declared.Header.{Header}
 use Rattle.stream_header.proofs.HeaderLaws.{Sized, header-whole}
 use Rattle.stream_item.proofs.NextLaws.{passed}
@@ -32,7 +32,7 @@ pub record Opened (s : List ℕ) (h : Header) : Type 0 where
   pub up : littleAt 4 s 8 ≤ littleAt 4 s 12
   pub is : fieldsOf s ≡ h
 
-filled : (b : Bool) (a : Answer Header) (h : Header) → b ≡ false → pick b (answered empty) a ≡ answered h → a ≡ answered h
+filled : (b : Bool) (a : Answer Header) (h : Header) → b ≡ false → pick b (answered zeroHeader) a ≡ answered h → a ≡ answered h
 filled true a h i e = let z : _≡_ {A = ℕ} 0 1 = cc in absurd (omega arith)
 filled false a h i e = e
 

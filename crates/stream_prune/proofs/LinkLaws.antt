@@ -27,7 +27,7 @@ use Rattle.stream_item.proofs.LinkLaws.{whole-is}
 use Rattle.record_reference.proofs.ValueLaws.{no-answer}
 use Rattle.stream_fit.specs.Fit.{payloadOf}
 use Rattle.stream_fit.specs.Sentences.{Good, Visits, stays, goes, Fit}
-use Rattle.stream_prune.specs.Links.{link, links, Linkable, AllLinkable, Walked, ends, past, AllGood}
+use Rattle.stream_prune.specs.Links.{link, links, Linkable, AllLinkable, ComesPast, ends, past, AllGood}
 
 -- a record is not the end
 pub next-apart : {X : Type 0} {i : Item} {d : ItemIter} → _≡_ {A = Answer Next} (answered (yielded i d)) (answered done) → X
@@ -61,7 +61,7 @@ link-reads t c p ys st k l n =
 
 -- A stream of links ----------------------------------------------------------------------------------------------------------------------
 
-pub links-walked : (ps : List (List ℕ)) (t : List ℕ) (c : ItemIter) → Stands t (c .at) (links ps) [] → AllLinkable ps → length t ≤ longest → c .index + length ps ≤ 4294967295 → Walked t c ps
+pub links-walked : (ps : List (List ℕ)) (t : List ℕ) (c : ItemIter) → Stands t (c .at) (links ps) [] → AllLinkable ps → length t ≤ longest → c .index + length ps ≤ 4294967295 → ComesPast t c ps
 unfolding links AllLinkable
 links-walked [] t c st k l n = ends (next-done t c l (st .inside) (omega (arith, length-drop (c .at) t, ap length (st .here))))
 links-walked (p ∷ ps) t c st k l n =
@@ -117,14 +117,14 @@ next-over s c l e =
         let t7 = passed (leb 4294967295 (c .index)) 7 _ _ (t6 .1) in
         next-apart (t7 .1)
 
-pub walked-links : (s : List ℕ) (c : ItemIter) (ps : List (List ℕ)) → Octets s → c .at ≤ length s → Walked s c ps → drop (c .at) s ≡ links ps
+pub walked-links : (s : List ℕ) (c : ItemIter) (ps : List (List ℕ)) → Octets s → c .at ≤ length s → ComesPast s c ps → drop (c .at) s ≡ links ps
 unfolding links
 walked-links s c ps o l (ends e) = drop-of-length-le s (next-over s c l e)
 walked-links s c ps o l (past {d = d} {i = i} {p = p} {ps = qs} e f w) =
     link-stands s c i d o e ∙ rw (f, walked-links s d qs o (record-onward s c i d e .inside) w)
 
 -- a walk comes past one list of payloads
-pub walked-one : (s : List ℕ) (c : ItemIter) (ps qs : List (List ℕ)) → Walked s c ps → Walked s c qs → ps ≡ qs
+pub walked-one : (s : List ℕ) (c : ItemIter) (ps qs : List (List ℕ)) → ComesPast s c ps → ComesPast s c qs → ps ≡ qs
 walked-one s c ps qs (ends e) (ends f) = refl
 walked-one s c ps qs (ends e) (past f g w) = next-apart (sym f ∙ e)
 walked-one s c ps qs (past e g v) (ends f) = next-apart (sym e ∙ f)
@@ -145,21 +145,21 @@ visits-more s c n d i e (goes {d = x} {n = k} g v) f = goes g (visits-more s x k
 
 -- a fit stream's payloads are good, and as many as its header says: from any cursor that the walk comes to
 module _ (s : List ℕ) (h : Header) (c : ItemIter) (f : Fit s h c) where
-  pub walked-good : (n : ℕ) (d : ItemIter) (ps : List (List ℕ)) → Visits s c n d → Walked s d ps → AllGood (h .«minimum_index») (d .index) ps
+  pub walked-good : (n : ℕ) (d : ItemIter) (ps : List (List ℕ)) → Visits s c n d → ComesPast s d ps → AllGood (h .«minimum_index») (d .index) ps
   unfolding AllGood
   walked-good n d ps v (ends e) = tt
   walked-good n d ps v (past {d = x} {i = i} {p = p} {ps = qs} e g w) =
       let y = yields s d i x e in
       (rw (← g) (f .records n d v i x e), rw (← y .index) (walked-good (suc n) x qs (visits-more s c n d i x v e) w))
 
-  pub walked-count : (n : ℕ) (d : ItemIter) (ps : List (List ℕ)) → Visits s c n d → Walked s d ps → n + length ps ≡ h .«maximum_index» - h .«minimum_index»
+  pub walked-count : (n : ℕ) (d : ItemIter) (ps : List (List ℕ)) → Visits s c n d → ComesPast s d ps → n + length ps ≡ h .«maximum_index» - h .«minimum_index»
   walked-count n d ps v (ends e) = omega (arith, f .count n d v e)
   walked-count n d ps v (past {d = x} {i = i} {p = p} {ps = qs} e g w) = omega (arith, walked-count (suc n) x qs (visits-more s c n d i x v e) w)
 
 -- and back: what is left of the payloads where a walk comes to
 record Left (s : List ℕ) (minimum count n : ℕ) (d : ItemIter) : Type 0 where
   payloads : List (List ℕ)
-  walked : Walked s d payloads
+  walked : ComesPast s d payloads
   good : AllGood minimum (d .index) payloads
   left : n + length payloads ≡ count
 
@@ -168,7 +168,7 @@ module _ (s : List ℕ) (minimum count : ℕ) where
   unfolding AllGood
   left-more n c i d e r = go (r .payloads) (r .walked) (r .good) (r .left)
     where
-      go : (ps : List (List ℕ)) → Walked s c ps → AllGood minimum (c .index) ps → n + length ps ≡ count → Left s minimum count (suc n) d
+      go : (ps : List (List ℕ)) → ComesPast s c ps → AllGood minimum (c .index) ps → n + length ps ≡ count → Left s minimum count (suc n) d
       go ps (ends f) g l = next-apart (sym e ∙ f)
       go ps (past {d = x} {i = j} {p = p} {ps = qs} f q w) g l =
           let z : answered (yielded j x) ≡ answered (yielded i d) = sym f ∙ e in
@@ -186,7 +186,7 @@ module _ (s : List ℕ) (minimum count : ℕ) where
     left-walks : (m : ℕ) (es : List ℕ) → nextOf s d ≡ refused m es → ⊥
     left-walks m es e = go (r .payloads) (r .walked)
       where
-        go : (ps : List (List ℕ)) → Walked s d ps → ⊥
+        go : (ps : List (List ℕ)) → ComesPast s d ps → ⊥
         go ps (ends f) = no-answer (sym e ∙ f)
         go ps (past f g w) = no-answer (sym e ∙ f)
 
@@ -194,7 +194,7 @@ module _ (s : List ℕ) (minimum count : ℕ) where
     unfolding AllGood
     left-good i x e = go (r .payloads) (r .walked) (r .good)
       where
-        go : (ps : List (List ℕ)) → Walked s d ps → AllGood minimum (d .index) ps → Good minimum (d .index) (payloadOf s i)
+        go : (ps : List (List ℕ)) → ComesPast s d ps → AllGood minimum (d .index) ps → Good minimum (d .index) (payloadOf s i)
         go ps (ends f) g = next-apart (sym e ∙ f)
         go ps (past {d = y} {i = j} f q w) g =
             let z : answered (yielded i x) ≡ answered (yielded j y) = sym e ∙ f in
@@ -204,11 +204,11 @@ module _ (s : List ℕ) (minimum count : ℕ) where
     left-count : nextOf s d ≡ answered done → n ≡ count
     left-count e = go (r .payloads) (r .walked) (r .left)
       where
-        go : (ps : List (List ℕ)) → Walked s d ps → n + length ps ≡ count → n ≡ count
+        go : (ps : List (List ℕ)) → ComesPast s d ps → n + length ps ≡ count → n ≡ count
         go ps (ends f) l = omega arith
         go ps (past f g w) l = next-apart (sym f ∙ e)
 
-pub walked-fit : (s : List ℕ) (h : Header) (c : ItemIter) (ps : List (List ℕ)) → Walked s c ps → AllGood (h .«minimum_index») (c .index) ps
+pub walked-fit : (s : List ℕ) (h : Header) (c : ItemIter) (ps : List (List ℕ)) → ComesPast s c ps → AllGood (h .«minimum_index») (c .index) ps
     → length ps ≡ h .«maximum_index» - h .«minimum_index» → Fit s h c
 walked-fit s h c ps w g l = record {
   walks = λ n d v. left-walks s (h .«minimum_index») (h .«maximum_index» - h .«minimum_index») n d (at n d v);

@@ -13,7 +13,7 @@ use Rattle.field.specs.declared.index.Stream.the-variants as stream
 use Rattle.field.proofs.FieldLaws.{little-below}
 use Rattle.field.proofs.ByteLaws.{Stands, stands, bytes-small}
 use Rattle.field_put.specs.Bytes.{put, Octets}
-use Rattle.stream_header.specs.Header.{empty, headerOf}
+use Rattle.stream_header.specs.Header.{zeroHeader, headerOf}
 use Rattle.stream_header.specs.declared.Header.{Header}
 use Rattle.stream_item.specs.Iterator.{yielded, iterOf, nextOf}
 use Rattle.stream_item.specs.declared.Item.{Item}
@@ -22,7 +22,7 @@ use Rattle.stream_item.proofs.NextLaws.{iter-is, yields}
 use Rattle.stream_item.proofs.LinkLaws.{whole-is}
 use Rattle.stream_fit.specs.Fit.{fit, fitOf, payloadOf}
 use Rattle.stream_fit.proofs.SentenceLaws.{first-index, first-at, sentences}
-use Rattle.stream_prune.specs.Links.{link, links, AllLinkable, Walked, ends, past, AllGood}
+use Rattle.stream_prune.specs.Links.{link, links, AllLinkable, ComesPast, ends, past, AllGood}
 use Rattle.stream_prune.specs.Pruned.{Marked, rank, keptFrom, linkBytes, newHead, newStream, newHeader, AllClose, AllOctets, Prunes, KeptAlike, Pruning}
 use Rattle.stream_prune.proofs.Numbers.{rank-first, rank-below, rank-all}
 use Rattle.stream_prune.proofs.LinkLaws.{record-onward, links-walked, walked-links, walked-fit}
@@ -78,7 +78,7 @@ record Facts (c : ItemIter) (ps : List (List ℕ)) : Type 0 where
   octets : AllOctets ps
   indices : c .index ≤ 4294967295 → c .index + length ps ≤ 4294967295
 
-walked-facts : (s : List ℕ) (c : ItemIter) (ps : List (List ℕ)) → Octets s → Walked s c ps → Facts c ps
+walked-facts : (s : List ℕ) (c : ItemIter) (ps : List (List ℕ)) → Octets s → ComesPast s c ps → Facts c ps
 unfolding AllLinkable AllOctets
 walked-facts s c ps o (ends e) = record { linkable = tt; octets = tt; indices = λ l. omega arith }
 walked-facts s c ps o (past {d = d} {i = i} {p = p} {ps = qs} e f w) =
@@ -106,7 +106,7 @@ pub record Old (s : List ℕ) (h : Header) (c : ItemIter) (ps : List (List ℕ))
   pub header : headerOf s ≡ answered h
   pub iter : iterOf stream.Types s ≡ answered c
   pub yes : fitOf s ≡ answered fit
-  pub walked : Walked s c ps
+  pub walked : ComesPast s c ps
 
 module _ (s : List ℕ) (h : Header) (c : ItemIter) (ps : List (List ℕ)) (old : Old s h c ps) where
   pub op : Opened s h
@@ -175,7 +175,7 @@ module _ (s : List ℕ) (h : Header) (c : ItemIter) (ps : List (List ℕ)) (old 
     pub new-count : length (keptFrom (h .«minimum_index») t 0 ps) ≡ rank t (length ps)
     new-count = let z : 0 + length ps ≡ length ps = omega arith in omega (arith, rw z at (kept-count (h .«minimum_index») t 0 ps), rank-first t)
 
-    new-walked : Walked (newStream s h t ps) c (keptFrom (h .«minimum_index») t 0 ps)
+    new-walked : ComesPast (newStream s h t ps) c (keptFrom (h .«minimum_index») t 0 ps)
     unfolding newStream
     new-walked =
         let m = h .«minimum_index» + rank t (length ps) in
@@ -218,7 +218,7 @@ module _ (s : List ℕ) (h : Header) (c : ItemIter) (ps : List (List ℕ)) (old 
           let k : keptFrom (h .«minimum_index») t 0 ps ≡ ps = same-payloads (h .«minimum_index») t (length ps) all 0 ps (omega arith) octets goods-from in
           rw (same-maximum, same-head s h op (old .bytes), k, ← old-links) (take-append-drop (h .«header_size») s)
 
-new-empty : (t : List ℕ) → newStream [] empty t [] ≡ []
+new-empty : (t : List ℕ) → newStream [] zeroHeader t [] ≡ []
 unfolding newStream newHead keptFrom links put bytes
 new-empty t = refl
 

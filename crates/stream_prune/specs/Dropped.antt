@@ -17,7 +17,7 @@ use Rattle.stream_item.specs.declared.iter.ItemIter.{ItemIter}
 use Rattle.record_reference.specs.References.{Ref, refsOf}
 use Rattle.stream_fit.specs.Fit.{fit, fitOf}
 use Rattle.stream_fit.specs.Sentences.{In}
-use Rattle.stream_prune.specs.Links.{Walked}
+use Rattle.stream_prune.specs.Links.{ComesPast}
 use Rattle.stream_prune.specs.Pruned.{Marked, rank, numbers, newIndex, orNothing, keptFrom, newStream, newHeader, Prunes, KeptAlike}
 
 -- x is one of them
@@ -93,7 +93,7 @@ abbrev pub header₂ : Header → List (List ℕ) → List ℕ → Header
 header₂ h ps roots = newHeader h (h .«minimum_index» + rank (marksOf (h .«minimum_index») ps roots) (length ps))
 
 -- R-13's promise of a stream s with this header, first cursor and payloads, and of these roots
-pub record Drops (s : List ℕ) (h : Header) (c : ItemIter) (ps : List (List ℕ)) (roots : List ℕ) : Type 0 where
+pub record DropHolds (s : List ℕ) (h : Header) (c : ItemIter) (ps : List (List ℕ)) (roots : List ℕ) : Type 0 where
   -- kept are exactly the records reached
   pub only : (k : ℕ) → Marked (marksOf (h .«minimum_index») ps roots) k → Reached (namesOf (h .«minimum_index») ps) (rootsFrom (h .«minimum_index») roots) k
   pub all : (k : ℕ) → Reached (namesOf (h .«minimum_index») ps) (rootsFrom (h .«minimum_index») roots) k → Marked (marksOf (h .«minimum_index») ps roots) k
@@ -112,4 +112,4 @@ pub record Drops (s : List ℕ) (h : Header) (c : ItemIter) (ps : List (List ℕ
 -- for every fit stream that has a header, and roots that are not refused
 pub record Dropping : Type 0 where
   pub drops : (s : List ℕ) (h : Header) (c : ItemIter) (ps : List (List ℕ)) (roots : List ℕ) → Octets s → 0 < length s → headerOf s ≡ answered h → iterOf stream.Types s ≡ answered c
-      → fitOf s ≡ answered fit → Walked s c ps → Droppable h ps roots → Drops s h c ps roots
+      → fitOf s ≡ answered fit → ComesPast s c ps → Droppable h ps roots → DropHolds s h c ps roots

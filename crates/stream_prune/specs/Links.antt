@@ -31,9 +31,9 @@ AllLinkable [] = Unit
 AllLinkable (p ∷ ps) = Linkable p × AllLinkable ps
 
 -- the walk from the cursor comes past these payloads, in this order, and ends in done
-pub data Walked (s : List ℕ) : ItemIter → List (List ℕ) → Type 0 where
-  ends : {c : ItemIter} → nextOf s c ≡ answered done → Walked s c []
-  past : {c d : ItemIter} {i : Item} {p : List ℕ} {ps : List (List ℕ)} → nextOf s c ≡ answered (yielded i d) → payloadOf s i ≡ p → Walked s d ps → Walked s c (p ∷ ps)
+pub data ComesPast (s : List ℕ) : ItemIter → List (List ℕ) → Type 0 where
+  ends : {c : ItemIter} → nextOf s c ≡ answered done → ComesPast s c []
+  past : {c d : ItemIter} {i : Item} {p : List ℕ} {ps : List (List ℕ)} → nextOf s c ≡ answered (yielded i d) → payloadOf s i ≡ p → ComesPast s d ps → ComesPast s c (p ∷ ps)
 
 -- the same by a definition: the payload that a step yields, then the rest
 abbrev pub payloadsBy : List ℕ → (ItemIter → List (List ℕ)) → Answer Next → List (List ℕ)

@@ -10,7 +10,7 @@ use lib.Dec.{leb, eqb}
 use Rattle.answer.specs.Answer.{Answer, answered, refused, pick}
 use Rattle.field.specs.Bytes.{bytes}
 use Rattle.field_put.specs.Bytes.{put, Octets}
-use Rattle.stream_header.specs.Header.{empty, headerOf}
+use Rattle.stream_header.specs.Header.{zeroHeader, headerOf}
 use Rattle.stream_header.specs.declared.Header.{Header}
 use Rattle.stream_item.specs.Iterator.{iterOf}
 use Rattle.field.specs.declared.index.Stream.the-variants as stream
@@ -20,7 +20,7 @@ use Rattle.record_rewrite.specs.Rewrite.{rewrite}
 use Rattle.record_rewrite.specs.Kept.{Kept}
 use Rattle.stream_fit.specs.Fit.{fit, fitOf}
 use Rattle.stream_fit.specs.Sentences.{In}
-use Rattle.stream_prune.specs.Links.{links, Walked}
+use Rattle.stream_prune.specs.Links.{links, ComesPast}
 
 -- record i is marked, that is, kept
 abbrev pub Marked : List ℕ → ℕ → Type 0
@@ -106,7 +106,7 @@ AllOctets (p ∷ ps) = Octets p × AllOctets ps
 pub record Prunes (s : List ℕ) (h : Header) (c : ItemIter) (t : List ℕ) (ps : List (List ℕ)) : Type 0 where
   pub head : headerOf (newStream s h t ps) ≡ answered (newHeader h (h .«minimum_index» + rank t (length ps)))
   pub begun : iterOf stream.Types (newStream s h t ps) ≡ answered c
-  pub walked : Walked (newStream s h t ps) c (keptFrom (h .«minimum_index») t 0 ps)
+  pub walked : ComesPast (newStream s h t ps) c (keptFrom (h .«minimum_index») t 0 ps)
   pub fit-again : fitOf (newStream s h t ps) ≡ answered fit
 
 -- each kept record is read alike but for its references
@@ -119,12 +119,12 @@ KeptAlike minimum t i (p ∷ ps) =
 pub record Pruning : Type 0 where
   -- the new stream is as promised
   pub new : (s : List ℕ) (h : Header) (c : ItemIter) (t : List ℕ) (ps : List (List ℕ)) → Octets s → 0 < length s → headerOf s ≡ answered h → iterOf stream.Types s ≡ answered c
-      → fitOf s ≡ answered fit → Walked s c ps → AllClose (h .«minimum_index») t 0 ps → Prunes s h c t ps
+      → fitOf s ≡ answered fit → ComesPast s c ps → AllClose (h .«minimum_index») t 0 ps → Prunes s h c t ps
   -- its records read alike
   pub alike : (s : List ℕ) (h : Header) (c : ItemIter) (t : List ℕ) (ps : List (List ℕ)) → Octets s → 0 < length s → headerOf s ≡ answered h → iterOf stream.Types s ≡ answered c
-      → fitOf s ≡ answered fit → Walked s c ps → AllClose (h .«minimum_index») t 0 ps → KeptAlike (h .«minimum_index») t 0 ps
+      → fitOf s ≡ answered fit → ComesPast s c ps → AllClose (h .«minimum_index») t 0 ps → KeptAlike (h .«minimum_index») t 0 ps
   -- where all are kept, the new stream is the old one: dropping twice
   pub same : (s : List ℕ) (h : Header) (c : ItemIter) (t : List ℕ) (ps : List (List ℕ)) → Octets s → 0 < length s → headerOf s ≡ answered h → iterOf stream.Types s ≡ answered c
-      → fitOf s ≡ answered fit → Walked s c ps → ((i : ℕ) → i < length ps → Marked t i) → newStream s h t ps ≡ s
+      → fitOf s ≡ answered fit → ComesPast s c ps → ((i : ℕ) → i < length ps → Marked t i) → newStream s h t ps ≡ s
   -- the empty stream has no header to keep
-  pub empty-stream : (t : List ℕ) → newStream [] empty t [] ≡ []
+  pub empty-stream : (t : List ℕ) → newStream [] zeroHeader t [] ≡ []

@@ -8,7 +8,7 @@ use Rattle.field.specs.Fields.{littleAt}
 use Rattle.stream_header.specs.Header.{headerOf}
 use Rattle.stream_header.specs.Examples.{streamE}
 use Rattle.stream_item.specs.Iterator.{iterOf, nextOf}
-use Rattle.stream_report.specs.Report.{Entry, Report, fresh, tally, has, runBy, runOf, walkOf, most, passes, tooLarge, addOf}
+use Rattle.stream_report.specs.Report.{Entry, Report, fresh, tallied, has, runBy, countRun, countStream, most, passes, tooLarge, addOf}
 
 abbrev cutE : List ℕ
 cutE = take 77 streamE
@@ -23,7 +23,7 @@ pub three : then (addOf fresh streamE) (λ ρ. then (addOf ρ cutE) (λ σ. addO
       largest = record { length = 10; stream = 0; index = 0x1001 };
       entries = record { leaf = 0x1001; records = 2; bytes = 16 } ∷ record { leaf = 0x1002; records = 2; bytes = 20 } ∷ [];
     })
-unfolding addOf walkOf runOf runBy tally has tooLarge passes iterOf headerOf nextOf littleAt
+unfolding addOf countStream countRun runBy tallied has tooLarge passes iterOf headerOf nextOf littleAt
 three = refl
 
 -- so many entries, with leaves from one up
@@ -44,15 +44,15 @@ holding bytes es = record {
 
 -- E has two new leaves where there is room for one; its 18 payload bytes pass 64 bits; and where both are so it is 27
 pub no-room : addOf (holding 0 (entriesFrom 63 0)) streamE ≡ refused 28 []
-unfolding addOf walkOf runOf runBy tally has tooLarge passes iterOf headerOf nextOf littleAt entriesFrom
+unfolding addOf countStream countRun runBy tallied has tooLarge passes iterOf headerOf nextOf littleAt entriesFrom
 no-room = refl
 
 pub too-large : addOf (holding most []) streamE ≡ refused 27 []
-unfolding addOf walkOf runOf runBy tally has tooLarge passes iterOf headerOf nextOf littleAt
+unfolding addOf countStream countRun runBy tallied has tooLarge passes iterOf headerOf nextOf littleAt
 too-large = refl
 
 pub both-so : addOf (holding most (entriesFrom 63 0)) streamE ≡ refused 27 []
-unfolding addOf walkOf runOf runBy tally has tooLarge passes iterOf headerOf nextOf littleAt entriesFrom
+unfolding addOf countStream countRun runBy tallied has tooLarge passes iterOf headerOf nextOf littleAt entriesFrom
 both-so = refl
 
 -- the same stream cut adds to the numbers of streams alone, whatever the table has room for
@@ -65,5 +65,5 @@ pub cut-where-full : addOf (holding most (entriesFrom 64 0)) cutE ≡ answered (
   largest = record { length = 0; stream = 0; index = 0 };
   entries = entriesFrom 64 0;
 })
-unfolding addOf walkOf runOf runBy tally has tooLarge passes iterOf headerOf nextOf littleAt entriesFrom
+unfolding addOf countStream countRun runBy tallied has tooLarge passes iterOf headerOf nextOf littleAt entriesFrom
 cut-where-full = refl

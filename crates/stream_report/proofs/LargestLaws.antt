@@ -17,42 +17,42 @@ use Rattle.stream_item.specs.declared.Item.{Item}
 use Rattle.stream_item.specs.declared.iter.ItemIter.{ItemIter}
 use Rattle.stream_report.specs.declared.Largest.{Largest}
 use Rattle.stream_report.specs.Report.{Counting, counted, larger}
-use Rattle.stream_report.specs.Sums.{Seen, Stream, seeing, seenBy, streamOf, countAll, Among, first, later, RecordIn, in-last, in-earlier, Precedes, NoRecord, FirstLongest}
+use Rattle.stream_report.specs.Sums.{RecordSeen, Stream, seeing, seenBy, streamOf, countAll, Among, first, later, RecordIn, in-last, in-earlier, Precedes, NoRecord, FirstLongest}
 use Rattle.stream_report.proofs.SumLaws.{never, seen-step}
 use Rattle.stream_report.proofs.WalkLaws.{Further, further}
 
 -- ---- the records of a stream: from an index on, each above the one before, none empty
-data Rising : ℕ → List Seen → Type 0 where
+data Rising : ℕ → List RecordSeen → Type 0 where
   over : {n : ℕ} → Rising n []
-  up : {n : ℕ} {y : Seen} {ys : List Seen} → n ≤ y .index → 0 < y .bytes → Rising (suc (y .index)) ys → Rising n (y ∷ ys)
+  up : {n : ℕ} {y : RecordSeen} {ys : List RecordSeen} → n ≤ y .index → 0 < y .bytes → Rising (suc (y .index)) ys → Rising n (y ∷ ys)
 
-from : (n : ℕ) (ys : List Seen) → Rising n ys → (x : Seen) → Among ys x → (n ≤ x .index) × (0 < x .bytes)
+from : (n : ℕ) (ys : List RecordSeen) → Rising n ys → (x : RecordSeen) → Among ys x → (n ≤ x .index) × (0 < x .bytes)
 from n (y ∷ ys) (up a b r) x first = (a, b)
 from n (y ∷ ys) (up a b r) x (later m) = let h = from (suc (y .index)) ys r x m in (omega (arith, h .0, a), h .1)
 
-none-rises : (s : List ℕ) (c : ItemIter) (xs : List Seen) → seenBy zero s c ≡ answered xs → Rising (c .index) xs
+none-rises : (s : List ℕ) (c : ItemIter) (xs : List RecordSeen) → seenBy zero s c ≡ answered xs → Rising (c .index) xs
 unfolding seenBy
-none-rises s c xs e = let w : [] ≡ xs = cc in subst (λ (zs : List Seen). Rising (c .index) zs) w over
+none-rises s c xs e = let w : [] ≡ xs = cc in subst (λ (zs : List RecordSeen). Rising (c .index) zs) w over
 
-seen-rising : (k : ℕ) (s : List ℕ) (c : ItemIter) (xs : List Seen) → seenBy k s c ≡ answered xs → Rising (c .index) xs
+seen-rising : (k : ℕ) (s : List ℕ) (c : ItemIter) (xs : List RecordSeen) → seenBy k s c ≡ answered xs → Rising (c .index) xs
 seen-rising zero s c xs e = none-rises s c xs e
 seen-rising (suc k) s c xs e = go (λ d ys. seen-rising k s d ys) (nextOf s c) refl
   where
-    more : (i : Item) (d : ItemIter) (a : Answer (List Seen)) → nextOf s c ≡ answered (yielded i d)
+    more : (i : Item) (d : ItemIter) (a : Answer (List RecordSeen)) → nextOf s c ≡ answered (yielded i d)
         → then a (λ ys. answered (record { index = c .index; leaf = littleAt 2 s (i .place); bytes = i .length } ∷ ys)) ≡ answered xs
-        → ((ys : List Seen) → a ≡ answered ys → Rising (d .index) ys)
+        → ((ys : List RecordSeen) → a ≡ answered ys → Rising (d .index) ys)
         → Rising (c .index) xs
     more i d (refused n x) h q on = never xs n x q
     more i d (answered ys) h q on =
         let f : Further s c i d = further s c i d h in
         let w : record { index = c .index; leaf = littleAt 2 s (i .place); bytes = i .length } ∷ ys ≡ xs = cc in
         let r : Rising (suc (c .index)) ys = subst (λ (n : ℕ). Rising n ys) (omega (arith, f .index)) (on ys refl) in
-        subst (λ (zs : List Seen). Rising (c .index) zs) w (up (omega arith) (omega (arith, f .two)) r)
+        subst (λ (zs : List RecordSeen). Rising (c .index) zs) w (up (omega arith) (omega (arith, f .two)) r)
 
-    go : ((d : ItemIter) (ys : List Seen) → seenBy k s d ≡ answered ys → Rising (d .index) ys) → (a : Answer Next) → nextOf s c ≡ a → Rising (c .index) xs
+    go : ((d : ItemIter) (ys : List RecordSeen) → seenBy k s d ≡ answered ys → Rising (d .index) ys) → (a : Answer Next) → nextOf s c ≡ a → Rising (c .index) xs
     go on (answered done) h =
         let w : [] ≡ xs = let v = seen-step k s c (answered done) h in cc in
-        subst (λ (zs : List Seen). Rising (c .index) zs) w over
+        subst (λ (zs : List RecordSeen). Rising (c .index) zs) w over
     go on (answered (yielded i d)) h = more i d (seenBy k s d) h (sym (seen-step k s c (answered (yielded i d)) h) ∙ e) (λ ys g. on d ys g)
     go on (refused n x) h = never xs n x (sym (seen-step k s c (refused n x) h) ∙ e)
 
@@ -65,7 +65,7 @@ stream-rises : (s : List ℕ) (z : Stream) → streamOf s ≡ answered z → Ris
 unfolding streamOf
 stream-rises s z e = go (iterOf stream.Types s) e
   where
-    seen : (c : ItemIter) (a : Answer (List Seen)) → seenBy (suc (length s)) s c ≡ a → then a (λ xs. answered (record { header = c .at; records = xs })) ≡ answered z → Rises z
+    seen : (c : ItemIter) (a : Answer (List RecordSeen)) → seenBy (suc (length s)) s c ≡ a → then a (λ xs. answered (record { header = c .at; records = xs })) ≡ answered z → Rises z
     seen c (answered xs) h q =
         let w : record { header = c .at; records = xs } ≡ z = cc in
         subst (λ (y : Stream). Rises y) w (record { start = c .index; is = seen-rising (suc (length s)) s c xs h })
@@ -77,52 +77,52 @@ stream-rises s z e = go (iterOf stream.Types s) e
 
 -- ---- the largest of a list of records
 module _ (number : ℕ) where
-  unfoldable best : Largest → List Seen → Largest
+  unfoldable best : Largest → List RecordSeen → Largest
   best l [] = l
   best l (y ∷ ys) = best (larger l (y .bytes) number (y .index)) ys
 
-  is-best : (ys : List Seen) (x : Counting) → countAll number x ys .report .largest ≡ best (x .report .largest) ys
+  is-best : (ys : List RecordSeen) (x : Counting) → countAll number x ys .report .largest ≡ best (x .report .largest) ys
   unfolding countAll best
   is-best [] x = refl
   is-best (y ∷ ys) x = is-best ys (counted number (y .index) (y .leaf) (y .bytes) x)
 
   -- none was longer
-  record Same (l : Largest) (ys : List Seen) (m : Largest) : Type 0 where
+  record Same (l : Largest) (ys : List RecordSeen) (m : Largest) : Type 0 where
     same : m ≡ l
-    longest : (x : Seen) → Among ys x → x .bytes ≤ l .length
+    longest : (x : RecordSeen) → Among ys x → x .bytes ≤ l .length
 
   -- or the first of the longest has its place
-  record Newer (l : Largest) (ys : List Seen) (m : Largest) : Type 0 where
-    has : Seen
+  record Newer (l : Largest) (ys : List RecordSeen) (m : Largest) : Type 0 where
+    has : RecordSeen
     among : Among ys has
     length : has .bytes ≡ m .length
     index : has .index ≡ m .index
     number-is : m .stream ≡ number
     more : l .length < m .length
-    longest : (x : Seen) → Among ys x → x .bytes ≤ m .length
-    before : (x : Seen) → Among ys x → x .index < m .index → x .bytes < m .length
+    longest : (x : RecordSeen) → Among ys x → x .bytes ≤ m .length
+    before : (x : RecordSeen) → Among ys x → x .index < m .index → x .bytes < m .length
 
-  abbrev Taken : Largest → List Seen → Largest → Type 0
+  abbrev Taken : Largest → List RecordSeen → Largest → Type 0
   Taken l ys m = Same l ys m ⊎ Newer l ys m
 
-  module _ (l : Largest) (y : Seen) (ys : List Seen) (m : Largest) where
+  module _ (l : Largest) (y : RecordSeen) (ys : List RecordSeen) (m : Largest) where
     abbrev placed : Largest
     placed = record { length = y .bytes; stream = number; index = y .index }
 
     passed-by : y .bytes ≤ l .length → Taken l ys m → Taken l (y ∷ ys) m
     passed-by h (inl a) = inl (record { same = a .same; longest = all })
       where
-        all : (x : Seen) → Among (y ∷ ys) x → x .bytes ≤ l .length
+        all : (x : RecordSeen) → Among (y ∷ ys) x → x .bytes ≤ l .length
         all x first = h
         all x (later r) = a .longest x r
     passed-by h (inr a) =
         inr (record { has = a .has; among = later (a .among); length = a .length; index = a .index; number-is = a .number-is; more = a .more; longest = all; before = all-before })
       where
-        all : (x : Seen) → Among (y ∷ ys) x → x .bytes ≤ m .length
+        all : (x : RecordSeen) → Among (y ∷ ys) x → x .bytes ≤ m .length
         all x first = omega (arith, h, a .more)
         all x (later r) = a .longest x r
 
-        all-before : (x : Seen) → Among (y ∷ ys) x → x .index < m .index → x .bytes < m .length
+        all-before : (x : RecordSeen) → Among (y ∷ ys) x → x .index < m .index → x .bytes < m .length
         all-before x first b = omega (arith, h, a .more)
         all-before x (later r) b = a .before x r b
 
@@ -138,29 +138,29 @@ module _ (number : ℕ) where
       before = all-before;
     }))
       where
-        all : (x : Seen) → Among (y ∷ ys) x → x .bytes ≤ y .bytes
+        all : (x : RecordSeen) → Among (y ∷ ys) x → x .bytes ≤ y .bytes
         all x first = omega arith
         all x (later q) = a .longest x q
 
-        all-before : (x : Seen) → Among (y ∷ ys) x → x .index < y .index → x .bytes < y .bytes
+        all-before : (x : RecordSeen) → Among (y ∷ ys) x → x .index < y .index → x .bytes < y .bytes
         all-before x first b = absurd (omega arith)
         all-before x (later q) b = let w = from (suc (y .index)) ys r x q in absurd (omega (arith, w .0))
     taken-by h r (inr a) =
         inr (record { has = a .has; among = later (a .among); length = a .length; index = a .index; number-is = a .number-is; more = omega (arith, h, a .more); longest = all; before = all-before })
       where
-        all : (x : Seen) → Among (y ∷ ys) x → x .bytes ≤ m .length
+        all : (x : RecordSeen) → Among (y ∷ ys) x → x .bytes ≤ m .length
         all x first = omega (arith, a .more)
         all x (later q) = a .longest x q
 
-        all-before : (x : Seen) → Among (y ∷ ys) x → x .index < m .index → x .bytes < m .length
+        all-before : (x : RecordSeen) → Among (y ∷ ys) x → x .index < m .index → x .bytes < m .length
         all-before x first b = a .more
         all-before x (later q) b = a .before x q b
 
-  best-is : (ys : List Seen) (n : ℕ) (l : Largest) → Rising n ys → Taken l ys (best l ys)
+  best-is : (ys : List RecordSeen) (n : ℕ) (l : Largest) → Rising n ys → Taken l ys (best l ys)
   unfolding best
   best-is [] n l r = inl (record { same = refl; longest = λ x. none x })
     where
-      none : (x : Seen) → Among [] x → x .bytes ≤ l .length
+      none : (x : RecordSeen) → Among [] x → x .bytes ≤ l .length
       none x = elim [ ]
   best-is (y ∷ ys) n l (up a b r) = go (ltb (l .length) (y .bytes)) refl (λ k. best-is ys (suc (y .index)) k r)
     where
@@ -169,7 +169,7 @@ module _ (number : ℕ) where
       go false h on = passed-by l y ys (best l ys) (ltb-false _ _ h) (on l)
 
 -- ---- a stream more
-below : (ss : List (List ℕ)) (number : ℕ) (y : Seen) → RecordIn ss number y → number < length ss
+below : (ss : List (List ℕ)) (number : ℕ) (y : RecordSeen) → RecordIn ss number y → number < length ss
 below (s ∷ ss) number y (in-last e a) = omega arith
 below (s ∷ ss) number y (in-earlier c) = let h = below ss number y c in omega (arith, h)
 
@@ -181,7 +181,7 @@ nobody z n d e = never z n d e
 
 -- that was refused
 module _ (l : Largest) (ss : List (List ℕ)) (s : List ℕ) (n : ℕ) (d : List ℕ) (e : streamOf s ≡ refused n d) where
-  earlier : (number : ℕ) (y : Seen) → RecordIn (s ∷ ss) number y → RecordIn ss number y
+  earlier : (number : ℕ) (y : RecordSeen) → RecordIn (s ∷ ss) number y → RecordIn ss number y
   earlier number y (in-last {z = z} h a) = nobody z n d (sym e ∙ h)
   earlier number y (in-earlier c) = c
 
@@ -198,7 +198,7 @@ module _ (l : Largest) (ss : List (List ℕ)) (s : List ℕ) (n : ℕ) (d : List
 
 -- that was counted
 module _ (ss : List (List ℕ)) (s : List ℕ) (z : Stream) (e : streamOf s ≡ answered z) where
-  split : (number : ℕ) (y : Seen) → RecordIn (s ∷ ss) number y → ((number ≡ length ss) × Among (z .records) y) ⊎ RecordIn ss number y
+  split : (number : ℕ) (y : RecordSeen) → RecordIn (s ∷ ss) number y → ((number ≡ length ss) × Among (z .records) y) ⊎ RecordIn ss number y
   split number y (in-last {z = x} h a) =
       let w : x ≡ z = let q : answered x ≡ answered z = sym h ∙ e in cc in
       inl (refl, subst (λ (v : Stream). Among (v .records) y) w a)
@@ -208,7 +208,7 @@ module _ (ss : List (List ℕ)) (s : List ℕ) (z : Stream) (e : streamOf s ≡ 
     stays : Rises z → Same (length ss) l (z .records) m → LargestIs l ss → LargestIs m (s ∷ ss)
     stays r t (inl a) = subst (λ (n : Largest). LargestIs n (s ∷ ss)) (sym (t .same)) (inl (record { length = a .length; stream = a .stream; index = a .index; none = none }))
       where
-        none : (number : ℕ) (y : Seen) → RecordIn (s ∷ ss) number y → ⊥
+        none : (number : ℕ) (y : RecordSeen) → RecordIn (s ∷ ss) number y → ⊥
         none number y c = go (split number y c)
           where
             go : ((number ≡ length ss) × Among (z .records) y) ⊎ RecordIn ss number y → ⊥
@@ -223,14 +223,14 @@ module _ (ss : List (List ℕ)) (s : List ℕ) (z : Stream) (e : streamOf s ≡ 
       before = all-before;
     }))
       where
-        all : (number : ℕ) (y : Seen) → RecordIn (s ∷ ss) number y → y .bytes ≤ l .length
+        all : (number : ℕ) (y : RecordSeen) → RecordIn (s ∷ ss) number y → y .bytes ≤ l .length
         all number y c = go (split number y c)
           where
             go : ((number ≡ length ss) × Among (z .records) y) ⊎ RecordIn ss number y → y .bytes ≤ l .length
             go (inl p) = t .longest y (p .1)
             go (inr q) = a .longest number y q
 
-        all-before : (number : ℕ) (y : Seen) → RecordIn (s ∷ ss) number y → Precedes number (y .index) (l .stream) (l .index) → y .bytes < l .length
+        all-before : (number : ℕ) (y : RecordSeen) → RecordIn (s ∷ ss) number y → Precedes number (y .index) (l .stream) (l .index) → y .bytes < l .length
         all-before number y c b = go (split number y c) b
           where
             h : l .stream < length ss
@@ -251,18 +251,18 @@ module _ (ss : List (List ℕ)) (s : List ℕ) (z : Stream) (e : streamOf s ≡ 
       before = all-before;
     })
       where
-        shorter : (number : ℕ) (y : Seen) → RecordIn ss number y → LargestIs l ss → y .bytes < m .length
+        shorter : (number : ℕ) (y : RecordSeen) → RecordIn ss number y → LargestIs l ss → y .bytes < m .length
         shorter number y c (inl a) = absurd (a .none number y c)
         shorter number y c (inr a) = let h = a .longest number y c in omega (arith, h, t .more)
 
-        all : (number : ℕ) (y : Seen) → RecordIn (s ∷ ss) number y → y .bytes ≤ m .length
+        all : (number : ℕ) (y : RecordSeen) → RecordIn (s ∷ ss) number y → y .bytes ≤ m .length
         all number y c = go (split number y c)
           where
             go : ((number ≡ length ss) × Among (z .records) y) ⊎ RecordIn ss number y → y .bytes ≤ m .length
             go (inl p) = t .longest y (p .1)
             go (inr q) = let h = shorter number y q known in omega (arith, h)
 
-        all-before : (number : ℕ) (y : Seen) → RecordIn (s ∷ ss) number y → Precedes number (y .index) (m .stream) (m .index) → y .bytes < m .length
+        all-before : (number : ℕ) (y : RecordSeen) → RecordIn (s ∷ ss) number y → Precedes number (y .index) (m .stream) (m .index) → y .bytes < m .length
         all-before number y c b = go (split number y c) b
           where
             go : ((number ≡ length ss) × Among (z .records) y) ⊎ RecordIn ss number y → Precedes number (y .index) (m .stream) (m .index) → y .bytes < m .length
@@ -282,5 +282,5 @@ module _ (ss : List (List ℕ)) (s : List ℕ) (z : Stream) (e : streamOf s ≡ 
 pub fresh-largest : LargestIs (record { length = 0; stream = 0; index = 0 }) []
 fresh-largest = inl (record { length = refl; stream = refl; index = refl; none = λ number y. none number y })
   where
-    none : (number : ℕ) (y : Seen) → RecordIn [] number y → ⊥
+    none : (number : ℕ) (y : RecordSeen) → RecordIn [] number y → ⊥
     none number y = elim [ ]

@@ -8,8 +8,8 @@ use lib.ListN.{length}
 use lib.Dec.{ltb}
 use borrow.Author.Tests.{ltb-false}
 use Rattle.answer.specs.Answer.{Answer, answered, refused, stop}
-use Rattle.stream_report.specs.Report.{Entry, Report, fresh, begun, refusing, tooLarge, settled, addOf}
-use Rattle.stream_report.specs.Sums.{Stream, streamOf, bytesIn, recordsWith, bytesWith, AddsUp, countAll, byRecords, tallyAll, Made, new, added, each, sum, lengths, one, refusals, recordsFor, bytesFor, allRecords, allBytes, distinct, Sums, MadeSums}
+use Rattle.stream_report.specs.Report.{Entry, Report, fresh, begun, refusing, tooLarge, settledReport, addOf}
+use Rattle.stream_report.specs.Sums.{Stream, streamOf, seenBytes, recordsWith, bytesWith, AddsUp, countAll, byRecords, tallyAll, Made, new, added, each, sum, lengths, one, refusedStreams, recordsFor, bytesFor, allRecords, allBytes, distinct, Sums, MadeSums}
 use Rattle.stream_report.proofs.SumLaws.{adds-up, exactly, Plain, plain, open-entries, full-leaves, all-tallied, each-tallied, distinct-tallied}
 use Rattle.stream_report.proofs.LargestLaws.{LargestIs, fresh-largest, refused-largest, counted-largest}
 
@@ -23,7 +23,7 @@ module _ (ρ : Report) (ss : List (List ℕ)) (s : List ℕ) (m : Sums ρ ss) wh
   -- of a stream that was counted
   module _ (z : Stream) (e : streamOf s ≡ answered z) (o : countAll (ρ .taken) (begun ρ (z .header)) (z .records) .full ≡ false) where
     counted-sums : Sums (countAll (ρ .taken) (begun ρ (z .header)) (z .records) .report) (s ∷ ss)
-    unfolding sum lengths refusals AddsUp
+    unfolding sum lengths refusedStreams AddsUp
     counted-sums =
         let p : Plain (ρ .taken) (begun ρ (z .header)) (countAll (ρ .taken) (begun ρ (z .header)) (z .records)) (z .records) = plain (ρ .taken) (z .records) (begun ρ (z .header)) in
         let q = open-entries (ρ .taken) (z .records) (begun ρ (z .header)) o in
@@ -49,7 +49,7 @@ module _ (ρ : Report) (ss : List (List ℕ)) (s : List ℕ) (m : Sums ρ ss) wh
   -- and of one that was refused
   module _ (n : ℕ) (d : List ℕ) (e : streamOf s ≡ refused n d) where
     refused-sums : Sums (refusing ρ) (s ∷ ss)
-    unfolding sum lengths refusals AddsUp
+    unfolding sum lengths refusedStreams AddsUp
     refused-sums = record {
       taken = omega (arith, m .taken);
       refused = rw e (omega (arith, m .refused));
@@ -78,7 +78,7 @@ module _ (ρ : Report) (ss : List (List ℕ)) (s : List ℕ) (m : Sums ρ ss) wh
           subst (λ (x : Report). Sums x (s ∷ ss)) (r .1) (refused-sums n d h)
 
 fresh-sums : Sums fresh []
-unfolding sum lengths refusals allRecords allBytes distinct recordsFor bytesFor
+unfolding sum lengths refusedStreams allRecords allBytes distinct recordsFor bytesFor
 fresh-sums = record {
   taken = refl;
   refused = refl;

@@ -13,8 +13,8 @@ use Rattle.answer.specs.Answer.{Answer, answered, refused, pick, stop}
 use Rattle.field.specs.declared.index.Stream.the-variants as stream
 use Rattle.stream_item.specs.Iterator.{iterOf}
 use Rattle.stream_item.specs.declared.iter.ItemIter.{ItemIter}
-use Rattle.stream_report.specs.Report.{Entry, Report, runOf, walkOf, addOf, begun, refusing, most, passes, tooLarge, settled, concluded, rows, atMost64, reportIn, totalsOf, flat, totalsIn, tableAfter, saidReport, Reports}
-use Rattle.stream_report.specs.Held.{Known, Exact, Past, Kept, Finished, Refuses, Sound, Told, Walks, totalsAfter, settledOf, refusedOf, Fits64}
+use Rattle.stream_report.specs.Report.{Entry, Report, countRun, countStream, addOf, begun, refusing, most, passes, tooLarge, settledReport, concluded, rows, atMost64, reportIn, totalsOf, flat, totalsIn, reportTableAfter, saidReport, Reports}
+use Rattle.stream_report.specs.Held.{Known, Exact, Past, KeptTable, Finished, RunRefuses, Sound, Told, WalkCounts, totalsAfter, settledOf, refusedOf, Fits64}
 use Rattle.stream_report.specs.declared.Totals.{Totals}
 use Rattle.stream_report.specs.declared.Count.{Count}
 use Rattle.stream_report.specs.declared.Walked.{Walked}
@@ -98,37 +98,37 @@ two-tests false true ρ v e = refl
 two-tests false false ρ v e = ap answered (sym e)
 
 -- ---- the table after it
-after-answered : (a full : Bool) (ρ : Report) (t t′ : List ℕ) → t′ ≡ tableAfter t (answered ρ) → (v : Totals)
-    → totalsIn (stop a 27 (stop full 28 (answered ρ))) ≡ answered v → t′ ≡ tableAfter t (stop a 27 (stop full 28 (answered ρ)))
+after-answered : (a full : Bool) (ρ : Report) (t t′ : List ℕ) → t′ ≡ reportTableAfter t (answered ρ) → (v : Totals)
+    → totalsIn (stop a 27 (stop full 28 (answered ρ))) ≡ answered v → t′ ≡ reportTableAfter t (stop a 27 (stop full 28 (answered ρ)))
 after-answered true full ρ t t′ h v e = let z : _≡_ {A = ℕ} 0 1 = cc in absurd (omega arith)
 after-answered false true ρ t t′ h v e = let z : _≡_ {A = ℕ} 0 1 = cc in absurd (omega arith)
 after-answered false false ρ t t′ h v e = h
 
-after-refused : (a : Answer Report) (t : List ℕ) (n : ℕ) (d : List ℕ) → totalsIn a ≡ refused n d → t ≡ tableAfter t a
+after-refused : (a : Answer Report) (t : List ℕ) (n : ℕ) (d : List ℕ) → totalsIn a ≡ refused n d → t ≡ reportTableAfter t a
 after-refused (answered ρ) t n d e = let z : _≡_ {A = ℕ} 0 1 = cc in absurd (omega arith)
 after-refused (refused m x) t n d e = refl
 
 -- ---- a refused stream
 module _ (τ : Totals) (t : List ℕ) (kn : Known t) (h : τ .headers ≤ most) (r : τ .records ≤ most) (b : τ .bytes ≤ most) where
-  refused-totals : refusedOf τ ≡ totalsIn (settled (refusing (reportIn τ t)) false)
+  refused-totals : refusedOf τ ≡ totalsIn (settledReport (refusing (reportIn τ t)) false)
   unfolding refusedOf tooLarge reportIn
   refused-totals =
       rw (le-ltb _ _ h, le-ltb _ _ r, le-ltb _ _ b, passes-small t kn (atMost64 (τ .rows)) 0)
       (two-tests (ltb most (τ .taken + 1)) (ltb most (τ .refused + 1)) (refusing (reportIn τ t)) _
       (ap (λ (n : ℕ). record { taken = τ .taken + 1; refused = τ .refused + 1; headers = τ .headers; records = τ .records; bytes = τ .bytes; largest = τ .largest; rows = n }) (rows-length (atMost64 (τ .rows)) 0 t)))
 
-  refused-table : t ≡ tableAfter t (answered (refusing (reportIn τ t)))
+  refused-table : t ≡ reportTableAfter t (answered (refusing (reportIn τ t)))
   unfolding reportIn
   refused-table =
       whole-table t (atMost64 (τ .rows)) (few-rows (τ .rows)) (kn .size)
       ∙ ap (λ (n : ℕ). flat (rows (atMost64 (τ .rows)) t 0) ++ drop (3 * n) t) (sym (rows-length (atMost64 (τ .rows)) 0 t))
 
-  refused-after : (b : Bool) → t ≡ tableAfter t (stop b 27 (stop false 28 (answered (refusing (reportIn τ t)))))
+  refused-after : (b : Bool) → t ≡ reportTableAfter t (stop b 27 (stop false 28 (answered (refusing (reportIn τ t)))))
   refused-after true = refl
   refused-after false = refused-table
 
-  pub refusing-reports : (a : Answer Report) → a ≡ settled (refusing (reportIn τ t)) false → (x : ReportAnswer) → saidReport x ≡ refusedOf τ → Reports t a x t
-  refusing-reports a e x s = record { answer = s ∙ refused-totals ∙ ap totalsIn (sym e); table = refused-after (tooLarge (refusing (reportIn τ t))) ∙ ap (tableAfter t) (sym e) }
+  pub refusing-reports : (a : Answer Report) → a ≡ settledReport (refusing (reportIn τ t)) false → (x : ReportAnswer) → saidReport x ≡ refusedOf τ → Reports t a x t
+  refusing-reports a e x s = record { answer = s ∙ refused-totals ∙ ap totalsIn (sym e); table = refused-after (tooLarge (refusing (reportIn τ t))) ∙ ap (reportTableAfter t) (sym e) }
 
 -- ---- a stream that was counted
 module _ (τ : Totals) (t : List ℕ) (s : List ℕ) (c : ItemIter) (w : Walked) (t′ : List ℕ) (r : τ .refused ≤ most)
@@ -177,48 +177,48 @@ module _ (τ : Totals) (t : List ℕ) (s : List ℕ) (c : ItemIter) (w : Walked)
     own-large = rw (own-small, own-taken, own-refused, own-headers, own-records, own-bytes, le-ltb _ _ r)
 
     exact-totals : settledOf τ (c .at) (w .cursor .index - c .index) (w .cursor .at - c .at - 2 * (w .cursor .index - c .index)) (w .count) (w .largest)
-        ≡ totalsIn (settled (f .counting .report) (f .counting .full))
+        ≡ totalsIn (settledReport (f .counting .report) (f .counting .full))
     unfolding settledOf
     exact-totals =
         rw (x .fine, x .said, own-large)
         (same-tests (ltb most (τ .taken + 1)) (ltb most (τ .headers + c .at)) (ltb most (τ .records + (w .cursor .index - c .index)))
         (ltb most (τ .bytes + (w .cursor .at - c .at - 2 * (w .cursor .index - c .index)))) (f .counting .full) (f .counting .report) _ own-totals)
 
-    exact-table : t′ ≡ tableAfter t (answered (f .counting .report))
+    exact-table : t′ ≡ reportTableAfter t (answered (f .counting .report))
     exact-table =
         whole-table t′ (w .count .rows) (f .few) (f .known .size)
         ∙ ap (λ (l : List ℕ). flat (rows (w .count .rows) t′ 0) ++ l) (x .rest)
         ∙ ap (λ (l : List Entry). flat l ++ drop (3 * w .count .rows) t) (x .entries)
         ∙ ap (λ (n : ℕ). flat (f .counting .report .entries) ++ drop (3 * n) t) (sym own-rows)
 
-  past-totals : Past (w .count) (f .counting .report .entries) → (n b : ℕ) → settledOf τ (c .at) n b (w .count) (w .largest) ≡ totalsIn (settled (f .counting .report) (f .counting .full))
+  past-totals : Past (w .count) (f .counting .report .entries) → (n b : ℕ) → settledOf τ (c .at) n b (w .count) (w .largest) ≡ totalsIn (settledReport (f .counting .report) (f .counting .full))
   unfolding settledOf
   past-totals p n b = rw (p .over, past-large (f .counting .report) (p .past))
 
   pub finished-totals : settledOf τ (c .at) (w .cursor .index - c .index) (w .cursor .at - c .at - 2 * (w .cursor .index - c .index)) (w .count) (w .largest)
-      ≡ totalsIn (settled (f .counting .report) (f .counting .full))
+      ≡ totalsIn (settledReport (f .counting .report) (f .counting .full))
   finished-totals = ⊎-elim exact-totals (λ p. past-totals p _ _) (f .kept)
 
-  finished-table : (v : Totals) → totalsIn (settled (f .counting .report) (f .counting .full)) ≡ answered v → t′ ≡ tableAfter t (settled (f .counting .report) (f .counting .full))
+  finished-table : (v : Totals) → totalsIn (settledReport (f .counting .report) (f .counting .full)) ≡ answered v → t′ ≡ reportTableAfter t (settledReport (f .counting .report) (f .counting .full))
   finished-table v e =
       ⊎-elim (λ x. after-answered (tooLarge (f .counting .report)) (f .counting .full) (f .counting .report) t t′ (exact-table x) v e)
       (λ p. let q : _≡_ {A = Answer Totals} (refused 27 []) (answered v) = sym (rw (past-large (f .counting .report) (p .past))) ∙ e in let z : _≡_ {A = ℕ} 0 1 = cc in absurd (omega arith))
       (f .kept)
 
-  ends-so : concluded (reportIn τ t) (runOf s (τ .taken) c (begun (reportIn τ t) (c .at))) ≡ settled (f .counting .report) (f .counting .full)
+  ends-so : concluded (reportIn τ t) (countRun s (τ .taken) c (begun (reportIn τ t) (c .at))) ≡ settledReport (f .counting .report) (f .counting .full)
   ends-so = ap (concluded (reportIn τ t)) (f .is)
 
   module _ (q : ReportAnswer) (n b : ℕ) (en : n ≡ w .cursor .index - c .index) (eb : b ≡ w .cursor .at - c .at - 2 * n) (said : saidReport q ≡ settledOf τ (c .at) n b (w .count) (w .largest)) where
-    is-settled : saidReport q ≡ totalsIn (settled (f .counting .report) (f .counting .full))
+    is-settled : saidReport q ≡ totalsIn (settledReport (f .counting .report) (f .counting .full))
     is-settled = said ∙ rw (eb, en) finished-totals
 
-    pub added-reports : (v : Totals) → saidReport q ≡ answered v → Reports t (concluded (reportIn τ t) (runOf s (τ .taken) c (begun (reportIn τ t) (c .at)))) q t′
+    pub added-reports : (v : Totals) → saidReport q ≡ answered v → Reports t (concluded (reportIn τ t) (countRun s (τ .taken) c (begun (reportIn τ t) (c .at)))) q t′
     added-reports v h =
         subst (λ (y : Answer Report). Reports t y q t′) (sym ends-so) (record { answer = is-settled; table = finished-table v (sym is-settled ∙ h) })
 
-    pub full-reports : (m : ℕ) (d : List ℕ) → saidReport q ≡ refused m d → Reports t (concluded (reportIn τ t) (runOf s (τ .taken) c (begun (reportIn τ t) (c .at)))) q t
+    pub full-reports : (m : ℕ) (d : List ℕ) → saidReport q ≡ refused m d → Reports t (concluded (reportIn τ t) (countRun s (τ .taken) c (begun (reportIn τ t) (c .at)))) q t
     full-reports m d h =
-        subst (λ (y : Answer Report). Reports t y q t) (sym ends-so) (record { answer = is-settled; table = after-refused (settled (f .counting .report) (f .counting .full)) t m d (sym is-settled ∙ h) })
+        subst (λ (y : Answer Report). Reports t y q t) (sym ends-so) (record { answer = is-settled; table = after-refused (settledReport (f .counting .report) (f .counting .full)) t m d (sym is-settled ∙ h) })
 
 -- ---- from the walk's answer
 abbrev start : ℕ → Count
@@ -227,8 +227,8 @@ start n = record { last = 0; rows = n; full = false; over = false }
 pub start-sound : (t : List ℕ) (n : ℕ) → Known t → n ≤ 64 → Sound t (start n)
 start-sound t n kn h = record { size = kn .size; few = h; foremost = record { is = λ k l e. absurd (omega arith) } }
 
-module _ (τ : Totals) (t : List ℕ) (s : List ℕ) (c : ItemIter) (n : ℕ) (e : n ≡ atMost64 (τ .rows)) (r : WalkAnswer) (t′ : List ℕ) (k : Walks s (τ .taken) c (start n) (τ .largest) t r t′) where
-  start-kept : Kept t t (start n) (begun (reportIn τ t) (c .at) .report .entries) false
+module _ (τ : Totals) (t : List ℕ) (s : List ℕ) (c : ItemIter) (n : ℕ) (e : n ≡ atMost64 (τ .rows)) (r : WalkAnswer) (t′ : List ℕ) (k : WalkCounts s (τ .taken) c (start n) (τ .largest) t r t′) where
+  start-kept : KeptTable t t (start n) (begun (reportIn τ t) (c .at) .report .entries) false
   unfolding reportIn
   start-kept = inl (record { fine = refl; entries = ap (λ (m : ℕ). rows m t 0) e; said = refl; rest = refl })
 
@@ -239,21 +239,21 @@ module _ (τ : Totals) (t : List ℕ) (s : List ℕ) (c : ItemIter) (n : ℕ) (e
   pub walk-done : (w : Walked) → r ≡ walk.Done w → Finished s (τ .taken) c (begun (reportIn τ t) (c .at)) t w t′
   walk-done w q = subst (λ (x : WalkAnswer). Told s (τ .taken) c (begun (reportIn τ t) (c .at)) t x t′) q (k .from (begun (reportIn τ t) (c .at)) t start-kept start-largest)
 
-  walk-refused : r ≡ walk.Refused → Refuses s (τ .taken) c (begun (reportIn τ t) (c .at))
+  walk-refused : r ≡ walk.Refused → RunRefuses s (τ .taken) c (begun (reportIn τ t) (c .at))
   walk-refused q = subst (λ (x : WalkAnswer). Told s (τ .taken) c (begun (reportIn τ t) (c .at)) t x t′) q (k .from (begun (reportIn τ t) (c .at)) t start-kept start-largest)
 
   pub midway-reports : r ≡ walk.Refused → Known t → Fits64 τ → (x : ReportAnswer) → saidReport x ≡ refusedOf τ
-      → Reports t (concluded (reportIn τ t) (runOf s (τ .taken) c (begun (reportIn τ t) (c .at)))) x t
+      → Reports t (concluded (reportIn τ t) (countRun s (τ .taken) c (begun (reportIn τ t) (c .at)))) x t
   midway-reports q kn z x h =
-      refusing-reports τ t kn (z .headers) (z .records) (z .bytes) (concluded (reportIn τ t) (runOf s (τ .taken) c (begun (reportIn τ t) (c .at))))
+      refusing-reports τ t kn (z .headers) (z .records) (z .bytes) (concluded (reportIn τ t) (countRun s (τ .taken) c (begun (reportIn τ t) (c .at))))
       (ap (concluded (reportIn τ t)) (walk-refused q .is)) x h
 
 -- ---- from the header's
 module _ (τ : Totals) (t : List ℕ) (s : List ℕ) where
-  pub begins : (c : ItemIter) → iterOf stream.Types s ≡ answered c → concluded (reportIn τ t) (runOf s (τ .taken) c (begun (reportIn τ t) (c .at))) ≡ addOf (reportIn τ t) s
-  unfolding addOf walkOf reportIn
+  pub begins : (c : ItemIter) → iterOf stream.Types s ≡ answered c → concluded (reportIn τ t) (countRun s (τ .taken) c (begun (reportIn τ t) (c .at))) ≡ addOf (reportIn τ t) s
+  unfolding addOf countStream reportIn
   begins c e = rw e
 
   pub header-reports : (n : ℕ) (d : List ℕ) → iterOf stream.Types s ≡ refused n d → Known t → Fits64 τ → (x : ReportAnswer) → saidReport x ≡ refusedOf τ → Reports t (addOf (reportIn τ t) s) x t
-  unfolding addOf walkOf
+  unfolding addOf countStream
   header-reports n d e kn z x h = refusing-reports τ t kn (z .headers) (z .records) (z .bytes) (addOf (reportIn τ t) s) (rw e) x h

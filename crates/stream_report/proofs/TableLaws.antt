@@ -10,7 +10,7 @@ use lib.Seq.{getD-set-same, getD-set-other, drop-set-lt}
 use lib.Dec.{ltb, eqb}
 use borrow.Author.Tests.{lt-ltb, le-ltb, eq-eqb, ne-eqb, ltb-true, ltb-false}
 use Rattle.answer.specs.Answer.{pick}
-use Rattle.stream_report.specs.Report.{Entry, grown, tally, has, passes, most, rowAt, rows}
+use Rattle.stream_report.specs.Report.{Entry, grown, tallied, has, passes, most, rowAt, rows}
 use Rattle.stream_report.specs.Held.{Known, grownTable, newTable, fitsRow, Grows}
 
 -- ---- a record in its row
@@ -130,25 +130,25 @@ module _ (t : List ℕ) (leaf n r : ℕ) (before : (k : ℕ) → k < r → getD 
   grown-row : grown (rowAt t r) n ≡ rowAt (grownTable t r n) r
   grown-row = rw (grown-other t r n (3 * r) (λ e. omega arith) (λ e. omega arith), grown-records t r n inside, grown-bytes t r n inside)
 
-  tally-here : (k : ℕ) → tally (rows (suc k) t r) leaf n ≡ rows (suc k) (grownTable t r n) r
-  unfolding tally rows
+  tally-here : (k : ℕ) → tallied (rows (suc k) t r) leaf n ≡ rows (suc k) (grownTable t r n) r
+  unfolding tallied rows
   tally-here k =
       rw (eq-eqb _ _ here, grown-row, rows-same k (suc r) t (grownTable t r n) (λ j a b. sym (grown-other t r n j (λ e. omega arith) (λ e. omega arith))))
 
-  pub tally-grown : (k i : ℕ) → i ≤ r → r < i + k → tally (rows k t i) leaf n ≡ rows k (grownTable t r n) i
-  unfolding tally rows
+  pub tally-grown : (k i : ℕ) → i ≤ r → r < i + k → tallied (rows k t i) leaf n ≡ rows k (grownTable t r n) i
+  unfolding tallied rows
   tally-grown zero i a b = absurd (omega arith)
   tally-grown (suc k) i a b = go (ltb i r) refl (λ h. tally-grown k (suc i) h (omega arith))
     where
-      go : (c : Bool) → ltb i r ≡ c → (suc i ≤ r → tally (rows k t (suc i)) leaf n ≡ rows k (grownTable t r n) (suc i))
-          → tally (rows (suc k) t i) leaf n ≡ rows (suc k) (grownTable t r n) i
+      go : (c : Bool) → ltb i r ≡ c → (suc i ≤ r → tallied (rows k t (suc i)) leaf n ≡ rows k (grownTable t r n) (suc i))
+          → tallied (rows (suc k) t i) leaf n ≡ rows (suc k) (grownTable t r n) i
       go true e on =
           let l : i < r = ltb-true _ _ e in
           rw (ne-eqb _ _ (before i l), on l, row-same t (grownTable t r n) i (λ j p q. sym (grown-other t r n j (λ e. omega arith) (λ e. omega arith))))
       go false e on =
           let l : r ≤ i = ltb-false _ _ e in
           let q : r ≡ i = omega arith in
-          subst (λ (x : ℕ). tally (rows (suc k) t x) leaf n ≡ rows (suc k) (grownTable t r n) x) q (tally-here k)
+          subst (λ (x : ℕ). tallied (rows (suc k) t x) leaf n ≡ rows (suc k) (grownTable t r n) x) q (tally-here k)
 
   pub has-row : (k i : ℕ) → i ≤ r → r < i + k → has (rows k t i) leaf ≡ true
   unfolding has rows
@@ -169,8 +169,8 @@ module _ (t : List ℕ) (leaf n r : ℕ) (before : (k : ℕ) → k < r → getD 
   has-none zero i a = refl
   has-none (suc k) i a = rw (ne-eqb _ _ (before i (omega arith)), has-none k (suc i) (omega arith))
 
-  pub tally-new : 3 * r + 2 < length t → (k i : ℕ) → r ≡ i + k → tally (rows k t i) leaf n ≡ rows (suc k) (newTable t r leaf n) i
-  unfolding tally rows
+  pub tally-new : 3 * r + 2 < length t → (k i : ℕ) → r ≡ i + k → tallied (rows k t i) leaf n ≡ rows (suc k) (newTable t r leaf n) i
+  unfolding tallied rows
   tally-new h zero i a =
       let e : r ≡ i = omega arith in
       subst (λ (x : ℕ). record { leaf = leaf; records = 1; bytes = n } ∷ [] ≡ rowAt (newTable t r leaf n) x ∷ []) e (ap (λ (y : Entry). y ∷ []) (new-row t r leaf n h))
@@ -210,13 +210,13 @@ passes-row t r h (suc k) i a b = go (ltb i r) refl (λ l. passes-row t r h k (su
         subst (λ (x : ℕ). passes (rows (suc k) t x) ≡ true) q (here h)
 
 -- a record more does not lower them
-pub passes-tally : (es : List Entry) (leaf n : ℕ) → passes es ≡ true → passes (tally es leaf n) ≡ true
-unfolding passes tally
+pub passes-tally : (es : List Entry) (leaf n : ℕ) → passes es ≡ true → passes (tallied es leaf n) ≡ true
+unfolding passes tallied
 passes-tally [] leaf n h = let z : _≡_ {A = ℕ} 0 1 = cc in absurd (omega arith)
 passes-tally (e ∷ es) leaf n h = go (eqb (e .leaf) leaf) (ltb most (e .records)) refl (ltb most (e .bytes)) refl h (passes-tally es leaf n)
   where
-    go : (c a : Bool) → ltb most (e .records) ≡ a → (b : Bool) → ltb most (e .bytes) ≡ b → pick a true (pick b true (passes es)) ≡ true → (passes es ≡ true → passes (tally es leaf n) ≡ true)
-        → passes (pick c (grown e n ∷ es) (e ∷ tally es leaf n)) ≡ true
+    go : (c a : Bool) → ltb most (e .records) ≡ a → (b : Bool) → ltb most (e .bytes) ≡ b → pick a true (pick b true (passes es)) ≡ true → (passes es ≡ true → passes (tallied es leaf n) ≡ true)
+        → passes (pick c (grown e n ∷ es) (e ∷ tallied es leaf n)) ≡ true
     go true true p b q h on = rw (lt-ltb most (e .records + 1) (let l : most < e .records = ltb-true _ _ p in omega arith))
     go true false p true q h on = byBytes (ltb most (e .records + 1)) (let l : most < e .bytes = ltb-true _ _ q in omega arith)
       where

@@ -15,8 +15,8 @@ use Rattle.stream_item.proofs.LinkLaws.{WholeAt, whole-is}
 use Rattle.stream_item.proofs.NextLaws.{passed, Yields, yields}
 use Rattle.stream_item.specs.declared.Item.{Item}
 use Rattle.stream_item.specs.declared.iter.ItemIter.{ItemIter}
-use Rattle.stream_report.specs.Report.{Counting, counted, larger, onward, runBy, runOf}
-use Rattle.stream_report.specs.Held.{Known, Sound, Kept, Counts, Finished, Refuses, Walks}
+use Rattle.stream_report.specs.Report.{Counting, counted, larger, afterStep, runBy, countRun}
+use Rattle.stream_report.specs.Held.{Known, Sound, KeptTable, Counts, Finished, RunRefuses, WalkCounts}
 use Rattle.stream_report.specs.declared.Largest.{Largest}
 use Rattle.stream_report.specs.declared.Count.{Count}
 use Rattle.stream_report.specs.declared.WalkAnswer.the-variants as walk
@@ -59,7 +59,7 @@ over-end s c e =
 
 -- ---- one step of a walk
 pub run-step : (k : ℕ) (s : List ℕ) (number : ℕ) (c : ItemIter) (x : Counting) (a : Answer Next) → nextOf s c ≡ a
-    → runBy (suc k) s number c x ≡ then a (onward (runBy k s number) s number c x)
+    → runBy (suc k) s number c x ≡ then a (afterStep (runBy k s number) s number c x)
 unfolding runBy
 run-step k s number c x a e = rw e
 
@@ -68,8 +68,8 @@ pub record Onward (s : List ℕ) (number : ℕ) (first : ItemIter) (x : Counting
   pub so : Counting
   pub steps : ℕ
   pub enough : length s - c .at < steps
-  pub is : runOf s number first x ≡ runBy steps s number c so
-  pub kept : Kept t₀ t k (so .report .entries) (so .full)
+  pub is : countRun s number first x ≡ runBy steps s number c so
+  pub kept : KeptTable t₀ t k (so .report .entries) (so .full)
   pub largest : so .report .largest ≡ l
   pub taken : so .report .taken ≡ x .report .taken
   pub refused : so .report .refused ≡ x .report .refused
@@ -82,10 +82,10 @@ pub record Onward (s : List ℕ) (number : ℕ) (first : ItemIter) (x : Counting
 -- the loop's invariant
 pub record Going (s : List ℕ) (number : ℕ) (t₁ : List ℕ) (first : ItemIter) (k₁ : Count) (l₁ : Largest) (t : List ℕ) (c : ItemIter) (k : Count) (l : Largest) : Type 0 where
   pub sound : Sound t k
-  pub from : (x : Counting) (t₀ : List ℕ) → Kept t₀ t₁ k₁ (x .report .entries) (x .full) → x .report .largest ≡ l₁ → Onward s number first x t₀ t c k l
+  pub from : (x : Counting) (t₀ : List ℕ) → KeptTable t₀ t₁ k₁ (x .report .entries) (x .full) → x .report .largest ≡ l₁ → Onward s number first x t₀ t c k l
 
 pub going-first : (s : List ℕ) (number : ℕ) (t : List ℕ) (c : ItemIter) (k : Count) (l : Largest) → Sound t k → Going s number t c k l t c k l
-unfolding runOf
+unfolding countRun
 going-first s number t c k l so = record {
   sound = so;
   from = λ x t₀ h e. record {
@@ -106,10 +106,10 @@ going-first s number t c k l so = record {
 }
 
 module _ (s : List ℕ) (number : ℕ) (first : ItemIter) (x : Counting) (t₀ t : List ℕ) (c : ItemIter) (k : Count) (l : Largest) (o : Onward s number first x t₀ t c k l) where
-  stepped : (a : Answer Next) → nextOf s c ≡ a → (m : ℕ) × (length s - c .at ≤ m) × (runOf s number first x ≡ then a (onward (runBy m s number) s number c (o .so)))
+  stepped : (a : Answer Next) → nextOf s c ≡ a → (m : ℕ) × (length s - c .at ≤ m) × (countRun s number first x ≡ then a (afterStep (runBy m s number) s number c (o .so)))
   stepped a e = go (o .steps) refl
     where
-      go : (m : ℕ) → o .steps ≡ m → (m : ℕ) × (length s - c .at ≤ m) × (runOf s number first x ≡ then a (onward (runBy m s number) s number c (o .so)))
+      go : (m : ℕ) → o .steps ≡ m → (m : ℕ) × (length s - c .at ≤ m) × (countRun s number first x ≡ then a (afterStep (runBy m s number) s number c (o .so)))
       go zero q = absurd (omega (arith, o .enough))
       go (suc m) q = (m, omega (arith, o .enough), o .is ∙ ap (λ (j : ℕ). runBy j s number c (o .so)) q ∙ run-step m s number c (o .so) a e)
 
@@ -155,7 +155,7 @@ module _ (s : List ℕ) (number : ℕ) (first : ItemIter) (x : Counting) (t₀ t
         known = kn;
       }
 
-  onward-refused : (n : ℕ) (d : List ℕ) → nextOf s c ≡ refused n d → Refuses s number first x
+  onward-refused : (n : ℕ) (d : List ℕ) → nextOf s c ≡ refused n d → RunRefuses s number first x
   onward-refused n d h = record { reason = n; details = d; is = stepped (refused n d) h .2 }
 
 module _ (s : List ℕ) (number : ℕ) (t₁ : List ℕ) (first : ItemIter) (k₁ : Count) (l₁ : Largest) (t : List ℕ) (c : ItemIter) (k : Count) (l : Largest) (g : Going s number t₁ first k₁ l₁ t c k l) where
@@ -165,8 +165,8 @@ module _ (s : List ℕ) (number : ℕ) (t₁ : List ℕ) (first : ItemIter) (k�
   going-next i d h leaf n el en r t′ q l′ e =
       record { sound = q .sound; from = λ x t₀ a b. onward-next s number first x t₀ t c k l (g .from x t₀ a b) i d h leaf n el en r t′ q l′ e }
 
-  pub going-done : nextOf s c ≡ answered done → Known t → Walks s number first k₁ l₁ t₁ (walk.Done (record { count = k; largest = l; cursor = c })) t
+  pub going-done : nextOf s c ≡ answered done → Known t → WalkCounts s number first k₁ l₁ t₁ (walk.Done (record { count = k; largest = l; cursor = c })) t
   going-done h kn = record { from = λ x t₀ a b. onward-done s number first x t₀ t c k l (g .from x t₀ a b) h (g .sound .few) kn }
 
-  pub going-refused : (n : ℕ) (d : List ℕ) → nextOf s c ≡ refused n d → Walks s number first k₁ l₁ t₁ walk.Refused t
+  pub going-refused : (n : ℕ) (d : List ℕ) → nextOf s c ≡ refused n d → WalkCounts s number first k₁ l₁ t₁ walk.Refused t
   going-refused n d h = record { from = λ x t₀ a b. onward-refused s number first x t₀ t c k l (g .from x t₀ a b) n d h }

@@ -8,7 +8,7 @@ use lib.ListN.{length, getD, set, drop}
 use lib.Dec.{ltb}
 use Rattle.answer.specs.Answer.{Answer, answered, refused, pick, stop}
 use Rattle.stream_item.specs.declared.iter.ItemIter.{ItemIter}
-use Rattle.stream_report.specs.Report.{Entry, Counting, tally, room, passes, rows, runOf, most, atMost64}
+use Rattle.stream_report.specs.Report.{Entry, Counting, tallied, room, passes, rows, countRun, most, atMost64}
 use Rattle.stream_report.specs.declared.Largest.{Largest}
 use Rattle.stream_header.specs.Header.{longest}
 use Rattle.stream_report.specs.declared.Totals.{Totals}
@@ -67,21 +67,21 @@ pub record Past (k : Count) (es : List Entry) : Type 0 where
   pub over : k .over ≡ true
   pub past : passes es ≡ true
 
-abbrev pub Kept : List ℕ → List ℕ → Count → List Entry → Bool → Type 0
-Kept t₀ t k es full = Exact t₀ t k es full ⊎ Past k es
+abbrev pub KeptTable : List ℕ → List ℕ → Count → List Entry → Bool → Type 0
+KeptTable t₀ t k es full = Exact t₀ t k es full ⊎ Past k es
 
 -- of a function that counts a record in the table
 pub record Counts (t : List ℕ) (k : Count) (leaf n : ℕ) (r : Count) (t′ : List ℕ) : Type 0 where
   pub sound : Sound t′ r
-  pub on : (t₀ : List ℕ) (es : List Entry) (full : Bool) → Kept t₀ t k es full
-      → Kept t₀ t′ r (pick (room es leaf) (tally es leaf n) es) (pick (room es leaf) full true)
+  pub on : (t₀ : List ℕ) (es : List Entry) (full : Bool) → KeptTable t₀ t k es full
+      → KeptTable t₀ t′ r (pick (room es leaf) (tallied es leaf n) es) (pick (room es leaf) full true)
 
 -- a walk that was over: its report, and what the table holds of it; how many records and payload bytes there were follows from the last cursor
 pub record Finished (s : List ℕ) (number : ℕ) (c : ItemIter) (x : Counting) (t₀ : List ℕ) (w : Walked) (t′ : List ℕ) : Type 0 where
   pub counting : Counting
-  pub is : runOf s number c x ≡ answered counting
+  pub is : countRun s number c x ≡ answered counting
   pub few : w .count .rows ≤ 64
-  pub kept : Kept t₀ t′ (w .count) (counting .report .entries) (counting .full)
+  pub kept : KeptTable t₀ t′ (w .count) (counting .report .entries) (counting .full)
   pub largest : counting .report .largest ≡ w .largest
   pub taken : counting .report .taken ≡ x .report .taken
   pub refused : counting .report .refused ≡ x .report .refused
@@ -93,18 +93,18 @@ pub record Finished (s : List ℕ) (number : ℕ) (c : ItemIter) (x : Counting) 
   pub inside : w .cursor .at ≤ longest
   pub known : Known t′
 
-pub record Refuses (s : List ℕ) (number : ℕ) (c : ItemIter) (x : Counting) : Type 0 where
+pub record RunRefuses (s : List ℕ) (number : ℕ) (c : ItemIter) (x : Counting) : Type 0 where
   pub reason : ℕ
   pub details : List ℕ
-  pub is : runOf s number c x ≡ refused reason details
+  pub is : countRun s number c x ≡ refused reason details
 
 -- of a walk that began with a report whose entries the table holds
 abbrev pub Told : List ℕ → ℕ → ItemIter → Counting → List ℕ → WalkAnswer → List ℕ → Type 0
 Told s number c x t₀ (walk.Done w) t′ = Finished s number c x t₀ w t′
-Told s number c x t₀ walk.Refused t′ = Refuses s number c x
+Told s number c x t₀ walk.Refused t′ = RunRefuses s number c x
 
-pub record Walks (s : List ℕ) (number : ℕ) (c : ItemIter) (k : Count) (l : Largest) (t : List ℕ) (r : WalkAnswer) (t′ : List ℕ) : Type 0 where
-  pub from : (x : Counting) (t₀ : List ℕ) → Kept t₀ t k (x .report .entries) (x .full) → x .report .largest ≡ l → Told s number c x t₀ r t′
+pub record WalkCounts (s : List ℕ) (number : ℕ) (c : ItemIter) (k : Count) (l : Largest) (t : List ℕ) (r : WalkAnswer) (t′ : List ℕ) : Type 0 where
+  pub from : (x : Counting) (t₀ : List ℕ) → KeptTable t₀ t k (x .report .entries) (x .full) → x .report .largest ≡ l → Told s number c x t₀ r t′
 
 -- the totals after a stream with so many header bytes, records and payload bytes
 abbrev pub totalsAfter : Totals → ℕ → ℕ → ℕ → Count → Largest → Totals

@@ -56,9 +56,9 @@ abbrev pub grown : Entry → ℕ → Entry
 grown e n = record { leaf = e .leaf; records = e .records + 1; bytes = e .bytes + n }
 
 -- in the first entry with its leaf, and without one in a new entry at the end
-unfoldable pub tally : List Entry → ℕ → ℕ → List Entry
-tally [] leaf n = record { leaf = leaf; records = 1; bytes = n } ∷ []
-tally (e ∷ es) leaf n = pick (eqb (e .leaf) leaf) (grown e n ∷ es) (e ∷ tally es leaf n)
+unfoldable pub tallied : List Entry → ℕ → ℕ → List Entry
+tallied [] leaf n = record { leaf = leaf; records = 1; bytes = n } ∷ []
+tallied (e ∷ es) leaf n = pick (eqb (e .leaf) leaf) (grown e n ∷ es) (e ∷ tallied es leaf n)
 
 unfoldable pub has : List Entry → ℕ → Bool
 has [] leaf = false
@@ -87,7 +87,7 @@ counted number index leaf n x = record {
     records = x .report .records + 1;
     bytes = x .report .bytes + n;
     largest = larger (x .report .largest) n number index;
-    entries = pick (room (x .report .entries) leaf) (tally (x .report .entries) leaf n) (x .report .entries);
+    entries = pick (room (x .report .entries) leaf) (tallied (x .report .entries) leaf n) (x .report .entries);
   };
   full = pick (room (x .report .entries) leaf) (x .full) true;
 }
@@ -95,17 +95,17 @@ counted number index leaf n x = record {
 -- ---- a stream is counted
 
 -- after a step: the stream is counted where no record is left; a record that was yielded is counted, its leaf being its first two bytes
-abbrev pub onward : (ItemIter → Counting → Answer Counting) → List ℕ → ℕ → ItemIter → Counting → Next → Answer Counting
-onward on s number c x done = answered x
-onward on s number c x (yielded i d) = on d (counted number (c .index) (littleAt 2 s (i .place)) (i .length) x)
+abbrev pub afterStep : (ItemIter → Counting → Answer Counting) → List ℕ → ℕ → ItemIter → Counting → Next → Answer Counting
+afterStep on s number c x done = answered x
+afterStep on s number c x (yielded i d) = on d (counted number (c .index) (littleAt 2 s (i .place)) (i .length) x)
 
 -- at most k steps from a cursor; a record takes four bytes, so that a walk is over before it has made as many steps as there are bytes
 unfoldable pub runBy : ℕ → List ℕ → ℕ → ItemIter → Counting → Answer Counting
 runBy zero s number c x = answered x
-runBy (suc k) s number c x = then (nextOf s c) (onward (runBy k s number) s number c x)
+runBy (suc k) s number c x = then (nextOf s c) (afterStep (runBy k s number) s number c x)
 
-unfoldable pub runOf : List ℕ → ℕ → ItemIter → Counting → Answer Counting
-runOf s number c x = runBy (suc (length s)) s number c x
+unfoldable pub countRun : List ℕ → ℕ → ItemIter → Counting → Answer Counting
+countRun s number c x = runBy (suc (length s)) s number c x
 
 -- a stream more, with so many header bytes
 abbrev pub begun : Report → ℕ → Counting
@@ -123,8 +123,8 @@ begun ρ h = record {
 }
 
 -- the whole stream, or what refuses it at the header or midway
-unfoldable pub walkOf : Report → List ℕ → Answer Counting
-walkOf ρ s = then (iterOf stream.Types s) (λ c. runOf s (ρ .taken) c (begun ρ (c .at)))
+unfoldable pub countStream : Report → List ℕ → Answer Counting
+countStream ρ s = then (iterOf stream.Types s) (λ c. countRun s (ρ .taken) c (begun ρ (c .at)))
 
 -- "Streams refused at the header or midway add only to the refused count"
 abbrev pub refusing : Report → Report
@@ -158,16 +158,16 @@ tooLarge ρ =
     (pick (ltb most (ρ .bytes)) true
     (passes (ρ .entries))))))
 
-abbrev pub settled : Report → Bool → Answer Report
-settled ρ full = stop (tooLarge ρ) 27 (stop full 28 (answered ρ))
+abbrev pub settledReport : Report → Bool → Answer Report
+settledReport ρ full = stop (tooLarge ρ) 27 (stop full 28 (answered ρ))
 
 abbrev pub concluded : Report → Answer Counting → Answer Report
-concluded ρ (answered x) = settled (x .report) (x .full)
-concluded ρ (refused n d) = settled (refusing ρ) false
+concluded ρ (answered x) = settledReport (x .report) (x .full)
+concluded ρ (refused n d) = settledReport (refusing ρ) false
 
 -- a stream is added: 27, then 28
 unfoldable pub addOf : Report → List ℕ → Answer Report
-addOf ρ s = concluded ρ (walkOf ρ s)
+addOf ρ s = concluded ρ (countStream ρ s)
 
 -- ---- the report that totals and a lent table of 64 rows hold
 
@@ -217,9 +217,9 @@ totalsIn (answered ρ) = answered (totalsOf ρ)
 totalsIn (refused n d) = refused n d
 
 -- the table t after it: the entries in its first rows, all else as before
-abbrev pub tableAfter : List ℕ → Answer Report → List ℕ
-tableAfter t (answered ρ) = flat (ρ .entries) ++ drop (3 * length (ρ .entries)) t
-tableAfter t (refused n d) = t
+abbrev pub reportTableAfter : List ℕ → Answer Report → List ℕ
+reportTableAfter t (answered ρ) = flat (ρ .entries) ++ drop (3 * length (ρ .entries)) t
+reportTableAfter t (refused n d) = t
 
 abbrev pub saidReport : ReportAnswer → Answer Totals
 saidReport (report.Added τ) = answered τ
@@ -228,4 +228,4 @@ saidReport (report.Refused e) = no e
 -- the contract of a function that is lent the table t: a is the definition's answer, r the function's, t′ the table after it
 pub record Reports (t : List ℕ) (a : Answer Report) (r : ReportAnswer) (t′ : List ℕ) : Type 0 where
   pub answer : saidReport r ≡ totalsIn a
-  pub table : t′ ≡ tableAfter t a
+  pub table : t′ ≡ reportTableAfter t a

@@ -5,8 +5,8 @@ ghost use Prim.Native.Nat.{_+_, _-_, _*_, _≤_, _<_};
 ghost use lib.Dec.{ltb};
 ghost use lib.ListN.{length};
 ghost use Rattle.field.specs.Fields.{littleAt};
-ghost use Rattle.stream_report.specs.Report.{fresh, totalsOf, larger, most, atMost64, runOf, begun, concluded, reportIn, addOf, saidReport, Reports};
-ghost use Rattle.stream_report.specs.Held.{First, Foremost, Known, newTable, Grows, Sound, Counts, Walks, Fits64, refusedOf, settledOf};
+ghost use Rattle.stream_report.specs.Report.{fresh, totalsOf, larger, most, atMost64, countRun, begun, concluded, reportIn, addOf, saidReport, Reports};
+ghost use Rattle.stream_report.specs.Held.{First, Foremost, Known, newTable, Grows, Sound, Counts, WalkCounts, Fits64, refusedOf, settledOf};
 use answer::Refusal;
 use field::index::Stream;
 use stream_item::iter;
@@ -224,7 +224,7 @@ fn walk(
     largest: Largest,
 ) -> WalkAnswer
     requires { ⌜ Sound (now t) begun ⌝ }
-    ensures { λ r. ⌜ Walks (now (s .entry)) number first begun largest (now (t .entry)) r (now (t .exit)) ⌝ }
+    ensures { λ r. ⌜ WalkCounts (now (s .entry)) number first begun largest (now (t .entry)) r (now (t .exit)) ⌝ }
 {
     let mut c = first;
     let mut count = begun;
@@ -354,7 +354,7 @@ fn settle(
 
 // A stream whose header is no refusal: it is counted in a copy of the table, which is stored if all is well.
 fn add_from(totals: Totals, table: &mut [u64; 192], s: &[u8], first: ItemIter) -> ReportAnswer
-    ensures { λ r. ⌜ Reports (now (table .entry)) (concluded (reportIn totals (now (table .entry))) (runOf (now (s .entry)) (totals .taken) first (begun (reportIn totals (now (table .entry))) (first .at)))) r (now (table .exit)) ⌝ }
+    ensures { λ r. ⌜ Reports (now (table .entry)) (concluded (reportIn totals (now (table .entry))) (countRun (now (s .entry)) (totals .taken) first (begun (reportIn totals (now (table .entry))) (first .at)))) r (now (table .exit)) ⌝ }
 {
     known(table);
     sized(totals);

@@ -2,7 +2,7 @@
 --     B, D, L             the struct's type, its declaration and its laws, over a signature of one lifetime
 --     slice-of, entry-of, answer-of, view-of     the machine values of a slice, an entry, an answer and a view
 --     Slice, Ans, Own     what a slice, an answer and a view own
---     is-view, is-answer  the relations of a view's parts give the view's;  and it gives the answer's
+--     is-view             the relations of a view's parts give the view's
 --     Params              what the two streams and the entry own, as parameters
 --     Token, Both, Passed the lifetime's token;  what the two streams own;  the token and the parameters, as each function is passed them
 --     shut                what a slice and an answer own is what the view of the two owns
@@ -75,9 +75,6 @@ Own κ d = B (κ, tt) .own d (view-of κ d ∷ [])
 pub is-view : (κ : Lft) (s : RefT (List ℕ)) (a : ViewAnswer) → Is (ShrSlice (named 0) κ u8) s (slice-of s ∷ []) → Is S.the-row a (answer-of a ∷ [])
     → Is (B (κ, tt)) (record { bytes = s; answer = a }) (view-of κ (record { bytes = s; answer = a }) ∷ [])
 is-view κ s a iss isa = LL.owes (D (κ, tt)) (L (κ, tt)) (record { bytes = s; answer = a }) (iss, (isa, tt))
-
-pub is-answer : (κ : Lft) (d : EntryView) → Is (B (κ, tt)) d (view-of κ d ∷ []) → Is S.the-row (d .answer) (answer-of (d .answer) ∷ [])
-is-answer κ d is = LL.owed (D (κ, tt)) (L (κ, tt)) d _ is .1 .0
 
 -- what the two streams and the entry own together, as parameters of a function
 abbrev pub Params : Lft → RefT (List ℕ) → RefT (List ℕ) → Entry → Fml

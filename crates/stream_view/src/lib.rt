@@ -57,8 +57,8 @@ fn kind_at(s: &[u8], place: usize, length: usize) -> RawKindAnswer
     }
 }
 
-// Where the payload of an entry lies.
-fn answer_of<'a>(tpi: &'a [u8], ipi: &'a [u8], entry: Entry) -> ViewAnswer
+// Where the payload of an entry lies: the answer of `view` alone.
+pub fn view_answer<'a>(tpi: &'a [u8], ipi: &'a [u8], entry: Entry) -> ViewAnswer
     ensures { λ r. ⌜ saidView r ≡ viewOf (now (tpi .entry)) (now (ipi .entry)) entry ⌝ }
 {
     if tpi.len() > LONGEST {
@@ -81,7 +81,7 @@ fn answer_of<'a>(tpi: &'a [u8], ipi: &'a [u8], entry: Entry) -> ViewAnswer
     }
 }
 
-// The bytes of `view` alone, for a caller that has no `EntryView` in a local: no bytes where `why` refuses.
+// The bytes of `view` alone, for a caller that has no `EntryView` in a local: no bytes where `view_answer` refuses.
 pub fn bytes_of<'a>(tpi: &'a [u8], ipi: &'a [u8], entry: Entry) -> &'a [u8]
     ensures { λ r. ⌜ now r ≡ viewBytes (now (tpi .entry)) (now (ipi .entry)) entry ⌝ }
 {
@@ -110,15 +110,8 @@ pub fn view<'a>(tpi: &'a [u8], ipi: &'a [u8], entry: Entry) -> EntryView<'a>
     ensures { λ r. ⌜ (saidView (r .answer) ≡ viewOf (now (tpi .entry)) (now (ipi .entry)) entry) × (now (r .bytes) ≡ viewBytes (now (tpi .entry)) (now (ipi .entry)) entry) ⌝ }
 {
     let bytes = bytes_of(tpi, ipi, entry);
-    let answer = answer_of(tpi, ipi, entry);
+    let answer = view_answer(tpi, ipi, entry);
     EntryView { bytes, answer }
-}
-
-// The answer of `view` alone, for a caller that has no `EntryView` in a local.
-pub fn why<'a>(tpi: &'a [u8], ipi: &'a [u8], entry: Entry) -> ViewAnswer
-    ensures { λ r. ⌜ saidView r ≡ viewOf (now (tpi .entry)) (now (ipi .entry)) entry ⌝ }
-{
-    view(tpi, ipi, entry).answer
 }
 
 // The leaf that an entry starts with: 0xffff, a reserved value, for the marker.

@@ -1,7 +1,7 @@
 -- A contract `said.. r ≡ ..` of this crate admits one outcome: each answer is read back from what it says. Assumes nothing.
 use mathlib.Core.Path.{_≡_, refl}
 use Rattle.answer.proofs.OneOutcome.{heard, heard-no, one-of}
-use Rattle.word_attributes.specs.Said.{saidKind, saidMode, saidFlag, saidSize}
+use Rattle.word_attributes.specs.Said.{saidKind, saidMode, saidFlag, saidPointerSize}
 use Rattle.word_attributes.specs.declared.KindAnswer.{KindAnswer}
 use Rattle.word_attributes.specs.declared.KindAnswer.the-variants as kind
 use Rattle.word_attributes.specs.declared.ModeAnswer.{ModeAnswer}
@@ -32,9 +32,9 @@ flag-back (flag.Refused e) = heard-no flag.Answered flag.Refused e
 pub one-flag : (r q : FlagAnswer) → saidFlag r ≡ saidFlag q → r ≡ q
 one-flag = one-of saidFlag (heard flag.Answered flag.Refused) flag-back
 
-size-back : (r : SizeAnswer) → heard size.Answered size.Refused (saidSize r) ≡ r
+size-back : (r : SizeAnswer) → heard size.Answered size.Refused (saidPointerSize r) ≡ r
 size-back (size.Answered n) = refl
 size-back (size.Refused e) = heard-no size.Answered size.Refused e
 
-pub one-size : (r q : SizeAnswer) → saidSize r ≡ saidSize q → r ≡ q
-one-size = one-of saidSize (heard size.Answered size.Refused) size-back
+pub one-size : (r q : SizeAnswer) → saidPointerSize r ≡ saidPointerSize q → r ≡ q
+one-size = one-of saidPointerSize (heard size.Answered size.Refused) size-back

@@ -40,15 +40,15 @@ pointerModes =
     ∷ []
 
 -- a good kind or mode is in its list; a bad one is 12, "pointer word"
-abbrev pub good : {A : Type 0} → Option A → Answer A
-good (some a) = answered a
-good none = refused 12 []
+abbrev pub goodOr12 : {A : Type 0} → Option A → Answer A
+goodOr12 (some a) = answered a
+goodOr12 none = refused 12 []
 
 unfoldable pub kindOf : ℕ → Answer PointerKind
-kindOf w = good (find (bits 0 4 w) pointerKinds)
+kindOf w = goodOr12 (find (bits 0 4 w) pointerKinds)
 
 unfoldable pub modeOf : ℕ → Answer PointerMode
-modeOf w = good (find (bits 5 7 w) pointerModes)
+modeOf w = goodOr12 (find (bits 5 7 w) pointerModes)
 
 abbrev pub toMember : PointerMode → Bool
 toMember Pointer = false
@@ -71,24 +71,24 @@ unfoldable pub referenceOf : ℕ → Answer Bool
 referenceOf w = then (modeOf w) (λ m. answered (isReference m))
 
 -- "4 for kinds 10 and 11, 8 for kind 12, 0 for the other good kinds"
-abbrev pub kindSize : PointerKind → ℕ
-kindSize Near16 = 0
-kindSize Far16 = 0
-kindSize Huge16 = 0
-kindSize BaseSeg = 0
-kindSize BaseVal = 0
-kindSize BaseSegVal = 0
-kindSize BaseAddr = 0
-kindSize BaseSegAddr = 0
-kindSize BaseType = 0
-kindSize BaseSelf = 0
-kindSize Near32 = 4
-kindSize Far32 = 4
-kindSize Ptr64 = 8
+abbrev pub pointerKindSize : PointerKind → ℕ
+pointerKindSize Near16 = 0
+pointerKindSize Far16 = 0
+pointerKindSize Huge16 = 0
+pointerKindSize BaseSeg = 0
+pointerKindSize BaseVal = 0
+pointerKindSize BaseSegVal = 0
+pointerKindSize BaseAddr = 0
+pointerKindSize BaseSegAddr = 0
+pointerKindSize BaseType = 0
+pointerKindSize BaseSelf = 0
+pointerKindSize Near32 = 4
+pointerKindSize Far32 = 4
+pointerKindSize Ptr64 = 8
 
 -- "`size` of a pointer is bits 13 to 18; if zero, [by the kind]. Only a zero size needs the kind."
 unfoldable pub sizeOf : ℕ → Answer ℕ
 sizeOf w =
     pick (eqb (bits 13 18 w) 0)
-    (then (kindOf w) (λ k. answered (kindSize k)))
+    (then (kindOf w) (λ k. answered (pointerKindSize k)))
     (answered (bits 13 18 w))

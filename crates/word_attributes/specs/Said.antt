@@ -26,6 +26,6 @@ abbrev pub saidFlag : FlagAnswer → Answer Bool
 saidFlag (flag.Answered b) = answered b
 saidFlag (flag.Refused e) = no e
 
-abbrev pub saidSize : SizeAnswer → Answer ℕ
-saidSize (size.Answered n) = answered n
-saidSize (size.Refused e) = no e
+abbrev pub saidPointerSize : SizeAnswer → Answer ℕ
+saidPointerSize (size.Answered n) = answered n
+saidPointerSize (size.Refused e) = no e

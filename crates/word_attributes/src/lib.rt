@@ -6,8 +6,8 @@ ghost use mathlib.Core.Path.{_≡_};
 ghost use lib.Dec.{eqb};
 ghost use Rattle.word_attributes.specs.Bits.{bit, bits};
 ghost use Rattle.word_attributes.specs.Words.{methodProperty, introducing};
-ghost use Rattle.word_attributes.specs.Pointers.{kindOf, modeOf, toMember, isReference, toMemberOf, referenceOf, kindSize, sizeOf};
-ghost use Rattle.word_attributes.specs.Said.{saidKind, saidMode, saidFlag, saidSize};
+ghost use Rattle.word_attributes.specs.Pointers.{kindOf, modeOf, toMember, isReference, toMemberOf, referenceOf, pointerKindSize, sizeOf};
+ghost use Rattle.word_attributes.specs.Said.{saidKind, saidMode, saidFlag, saidPointerSize};
 use answer::Refusal;
 
 // The properties of a class, structure, interface, union or enumeration.
@@ -339,7 +339,7 @@ pub enum PointerKind {
 impl PointerKind {
     // The size in bytes of a pointer of this kind whose word gives none.
     fn size(self) -> u8
-        ensures { λ r. ⌜ r ≡ kindSize self ⌝ }
+        ensures { λ r. ⌜ r ≡ pointerKindSize self ⌝ }
     {
         match self {
             PointerKind::Near16 => 0,
@@ -552,7 +552,7 @@ impl PointerAttributes {
 
     // The size of the pointer in bytes. Only a zero in the word asks for the kind, so only then a bad kind is 12.
     pub fn size(self) -> SizeAnswer
-        ensures { λ r. ⌜ saidSize r ≡ sizeOf (self .0) ⌝ }
+        ensures { λ r. ⌜ saidPointerSize r ≡ sizeOf (self .0) ⌝ }
     {
         let size = self.0 / Self::SIZE_UNIT % Self::SIZE_COUNT;
         if size != 0 {

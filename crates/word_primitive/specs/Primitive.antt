@@ -1,14 +1,12 @@
 -- Document 01, "Indices and primitives": what the primitive reader answers for every index, and what its answer enums say.
 use Prim.Native.Nat.{ℕ, _/_, _%_, _^_}
-use mathlib.Core.List.{List, [], _∷_}
+use mathlib.Core.List.{[], _∷_}
 use mathlib.Core.Option.{Option, none, some}
 use lib.Dec.{leb}
 use Rattle.answer.specs.Answer.{Answer, answered, refused, pick}
 use Rattle.answer.specs.Tables.{find}
 use Rattle.answer.specs.Refusals.{no}
 use Rattle.word_primitive.specs.Kinds.{kinds, indirections}
-use Rattle.word_primitive.specs.declared.PrimitiveKind.{PrimitiveKind}
-use Rattle.word_primitive.specs.declared.Indirection.{Indirection}
 use Rattle.word_primitive.specs.declared.PrimitiveType.{PrimitiveType}
 use Rattle.word_primitive.specs.declared.PrimitiveAnswer.{PrimitiveAnswer}
 use Rattle.word_primitive.specs.declared.PrimitiveAnswer.the-variants as primitive

@@ -16,19 +16,19 @@ use Rattle.field_number.specs.Forms.{Form}
 use Rattle.record_layout.specs.Fields.{number, numeral, absent, many, numberOr}
 use Rattle.word_attributes.specs.Pointers.{kindOf, modeOf, toMemberOf}
 use Rattle.write_layout.specs.Runs.{partAt}
-use Rattle.write_layout.specs.Fields.{ToWrite, given, bytesIn, Encoded, bad, only, ofNumber, ofNumeral, ofAbsent, ofMany, fixedBytes, optionalBytes, sizeBytes}
+use Rattle.write_layout.specs.Fields.{ToWrite, given, bytesIn, Encoded, bad, only, ofNumber, ofNumeral, ofAbsent, ofMany, fixedBytes, optionalBytes, sizeBytes, encodes}
 use Rattle.write_layout.proofs.RunLaws.{part-length}
-use Rattle.write_cells.specs.Cells.{cellIn, good}
+use Rattle.write_cells.specs.Cells.{cellIn}
 
 never : {X : Type 0} → false ≡ true → X
 never h = let z : _≡_ {A = ℕ} 0 1 = cc in absurd (omega arith)
 
 -- a number that is good fits
-good-fits : (k n : ℕ) → good (fixedBytes k n) ≡ true → n < 256 ^ k
+good-fits : (k n : ℕ) → encodes (fixedBytes k n) ≡ true → n < 256 ^ k
 unfolding fixedBytes
 good-fits k n e = go (ltb n (256 ^ k)) refl e
   where
-    go : (b : Bool) → ltb n (256 ^ k) ≡ b → good (only b (bytes k n)) ≡ true → n < 256 ^ k
+    go : (b : Bool) → ltb n (256 ^ k) ≡ b → encodes (only b (bytes k n)) ≡ true → n < 256 ^ k
     go true f g = ltb-true n (256 ^ k) f
     go false f g = never g
 
@@ -100,17 +100,17 @@ module _ (t : List ℕ) (kind value more : ℕ) where
       go false false false false false = refl
 
   -- what a good field says of its cell
-  pub good-number : (k : ℕ) → good (ofNumber Cell (fixedBytes k)) ≡ true → (kind ≡ 2) × (value < 256 ^ k)
+  pub good-number : (k : ℕ) → encodes (ofNumber Cell (fixedBytes k)) ≡ true → (kind ≡ 2) × (value < 256 ^ k)
   good-number k e = go (eqb kind 2) refl
     where
       go : (b : Bool) → eqb kind 2 ≡ b → (kind ≡ 2) × (value < 256 ^ k)
       go true f = (eqb-true kind 2 f, good-fits k value (rw (is-number (eqb-true kind 2 f)) at e))
       go false f = never (rw (not-number (eqb-false kind 2 f) (fixedBytes k)) at e)
 
-  pub good-word : (k : ℕ) (test : ℕ → Bool) → good (ofNumber Cell (λ n. pick (test n) (fixedBytes k n) bad)) ≡ true → (kind ≡ 2) × (test value ≡ true) × (value < 256 ^ k)
+  pub good-word : (k : ℕ) (test : ℕ → Bool) → encodes (ofNumber Cell (λ n. pick (test n) (fixedBytes k n) bad)) ≡ true → (kind ≡ 2) × (test value ≡ true) × (value < 256 ^ k)
   good-word k test e = go (eqb kind 2) refl
     where
-      by : (b : Bool) → test value ≡ b → good (pick b (fixedBytes k value) bad) ≡ true → (test value ≡ true) × (value < 256 ^ k)
+      by : (b : Bool) → test value ≡ b → encodes (pick b (fixedBytes k value) bad) ≡ true → (test value ≡ true) × (value < 256 ^ k)
       by true f g = (f, good-fits k value g)
       by false f g = never g
 
@@ -131,11 +131,11 @@ module _ (t : List ℕ) (kind value more : ℕ) where
       go false false false true = refl
       go false false false false = refl
 
-  pub good-optional : (nones : List ℕ) → (kind ≡ 1 → ⊥) → good (optionalBytes nones Cell) ≡ true → (kind ≡ 2) × (among value nones ≡ false) × (value < 256 ^ 4)
+  pub good-optional : (nones : List ℕ) → (kind ≡ 1 → ⊥) → encodes (optionalBytes nones Cell) ≡ true → (kind ≡ 2) × (among value nones ≡ false) × (value < 256 ^ 4)
   unfolding optionalBytes
   good-optional nones h e = go (eqb kind 2) refl
     where
-      by : (b : Bool) → among value nones ≡ b → good (pick b bad (fixedBytes 4 value)) ≡ true → (among value nones ≡ false) × (value < 256 ^ 4)
+      by : (b : Bool) → among value nones ≡ b → encodes (pick b bad (fixedBytes 4 value)) ≡ true → (among value nones ≡ false) × (value < 256 ^ 4)
       by true f g = never g
       by false f g = (f, good-fits 4 value g)
 

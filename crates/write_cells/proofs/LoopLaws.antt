@@ -13,49 +13,49 @@ use Rattle.field_put.specs.Bytes.{put, Puts}
 use Rattle.record_layout.specs.Fields.{wordAfter}
 use Rattle.record_cells.specs.Codes.{fieldOf, decode}
 use Rattle.record_cells.specs.Cells.{valuesIn}
-use Rattle.write_layout.specs.Fields.{ToWrite, givenAll, Encoded, bad, only, and-also, writeField, writeFields}
+use Rattle.write_layout.specs.Fields.{ToWrite, givenAll, Encoded, bad, only, and-also, writeField, writeFields, encodes, encodedBytes}
 use Rattle.write_pieces.specs.declared.Piece.{Piece}
 use Rattle.write_pieces.specs.Pieces.{fine, raw, pieceOf}
-use Rattle.write_cells.specs.Cells.{cellIn, leftBytes, good, held}
+use Rattle.write_cells.specs.Cells.{cellIn, leftBytes}
 
 never : {X : Type 0} → false ≡ true → X
 never h = let z : _≡_ {A = ℕ} 0 1 = cc in absurd (omega arith)
 
 -- Good and held -----------------------------------------------------------------------------------------------------------------
 
-pub good-is : (b : Encoded) → good b ≡ true → b ≡ answered (held b)
+pub good-is : (b : Encoded) → encodes b ≡ true → b ≡ answered (encodedBytes b)
 good-is (answered bs) e = refl
 good-is (refused n d) e = never e
 
-pub good-first : (a b : Encoded) → good (and-also a b) ≡ true → good a ≡ true
+pub good-first : (a b : Encoded) → encodes (and-also a b) ≡ true → encodes a ≡ true
 good-first (answered x) b e = refl
 good-first (refused n d) b e = never e
 
-pub good-more : (a b : Encoded) → good (and-also a b) ≡ true → good b ≡ true
+pub good-more : (a b : Encoded) → encodes (and-also a b) ≡ true → encodes b ≡ true
 good-more (answered x) (answered y) e = refl
 good-more (answered x) (refused n d) e = never e
 good-more (refused n d) b e = never e
 
-pub held-both : (a b : Encoded) → good (and-also a b) ≡ true → held (and-also a b) ≡ held a ++ held b
+pub held-both : (a b : Encoded) → encodes (and-also a b) ≡ true → encodedBytes (and-also a b) ≡ encodedBytes a ++ encodedBytes b
 held-both (answered x) (answered y) e = refl
 held-both (answered x) (refused n d) e = never e
 held-both (refused n d) b e = never e
 
 -- a piece that is good is fine, and its bytes are held
 module _ (t : List ℕ) (x : Piece) where
-  pub piece-fine : good (pieceOf t x) ≡ true → fine t x ≡ true
+  pub piece-fine : encodes (pieceOf t x) ≡ true → fine t x ≡ true
   unfolding pieceOf
   piece-fine = go (fine t x)
     where
-      go : (b : Bool) → good (only b (raw t x)) ≡ true → b ≡ true
+      go : (b : Bool) → encodes (only b (raw t x)) ≡ true → b ≡ true
       go true e = refl
       go false e = never e
 
-  pub piece-held : good (pieceOf t x) ≡ true → held (pieceOf t x) ≡ raw t x
+  pub piece-held : encodes (pieceOf t x) ≡ true → encodedBytes (pieceOf t x) ≡ raw t x
   unfolding pieceOf
   piece-held = go (fine t x)
     where
-      go : (b : Bool) → good (only b (raw t x)) ≡ true → held (only b (raw t x)) ≡ raw t x
+      go : (b : Bool) → encodes (only b (raw t x)) ≡ true → encodedBytes (only b (raw t x)) ≡ raw t x
       go true e = refl
       go false e = never e
 
@@ -118,12 +118,12 @@ unfolding leftBytes decode valuesIn writeFields
 none-left n w t cells = refl
 
 -- no field is left: whatever values are left are bad
-pub fields-done : (k n w : ℕ) (t cells : List ℕ) → n ≡ 0 → good (leftBytes k n w t cells) ≡ true → held (leftBytes k n w t cells) ≡ []
+pub fields-done : (k n w : ℕ) (t cells : List ℕ) → n ≡ 0 → encodes (leftBytes k n w t cells) ≡ true → encodedBytes (leftBytes k n w t cells) ≡ []
 unfolding leftBytes decode valuesIn writeFields
 fields-done zero n w t cells z e = refl
 fields-done (suc k) n w t cells z e = rw z (go (givenAll t (valuesIn (suc k) cells)) (rw z at e))
   where
-    go : (vs : List ToWrite) → good (writeFields [] w vs) ≡ true → held (writeFields [] w vs) ≡ []
+    go : (vs : List ToWrite) → encodes (writeFields [] w vs) ≡ true → encodedBytes (writeFields [] w vs) ≡ []
     go [] f = refl
     go (v ∷ vs) f = never f
 
@@ -154,7 +154,7 @@ module _ (t row : List ℕ) (i n w : ℕ) (long : length row ≡ 27) where
     no-value g e = rw (one-less, first) (both-end (8 - i) n w t _ _ _ _ g e)
 
     -- where what is left is good there is a value
-    pub value-there : 0 < n → good (leftAt t row i n w) ≡ true → 0 < getD row (3 * i) 0
+    pub value-there : 0 < n → encodes (leftAt t row i n w) ≡ true → 0 < getD row (3 * i) 0
     value-there g e = go (getD row (3 * i) 0) refl
       where
         go : (a : ℕ) → getD row (3 * i) 0 ≡ a → 0 < a
@@ -162,14 +162,14 @@ module _ (t row : List ℕ) (i n w : ℕ) (long : length row ≡ 27) where
         go (suc a) f = omega arith
 
     -- the next field is good where all that is left is
-    pub this-good : 0 < n → 0 < getD row (3 * i) 0 → good (leftAt t row i n w) ≡ true
-        → good (writeField (fieldOf (n % 32)) w (cellIn t (getD row (3 * i) 0) (getD row (3 * i + 1) 0) (getD row (3 * i + 2) 0))) ≡ true
+    pub this-good : 0 < n → 0 < getD row (3 * i) 0 → encodes (leftAt t row i n w) ≡ true
+        → encodes (writeField (fieldOf (n % 32)) w (cellIn t (getD row (3 * i) 0) (getD row (3 * i + 1) 0) (getD row (3 * i + 2) 0))) ≡ true
     this-good g a fit =
         let cell = cellIn t (getD row (3 * i) 0) (getD row (3 * i + 1) 0) (getD row (3 * i + 2) 0) in
         let f = writeField (fieldOf (n % 32)) w cell in
         let b = leftBytes (8 - i) (n / 32) (wordAfter (fieldOf (n % 32)) cell w) t (drop (3 * i + 3) row) in
         let e : leftAt t row i n w ≡ and-also f b = rw (one-less, first) (field-turn (8 - i) n w t _ _ _ _ g a) in
-        good-first f b (sym (ap good e) ∙ fit)
+        good-first f b (sym (ap encodes e) ∙ fit)
 
     -- x is the piece of the next field, and v the word after it
     module _ (g : 0 < n) (a : 0 < getD row (3 * i) 0) (x : Piece)
@@ -194,15 +194,15 @@ module _ (t row : List ℕ) (i n w : ℕ) (long : length row ≡ 27) where
       pub size-stop : (m : ℕ) → then (pieceOf t x) (λ bs. answered (length bs)) ≡ refused 17 [] → measureOf (leftAt t row i n w) m ≡ refused 17 []
       size-stop m f = ap (λ (b : Encoded). measureOf b m) turn ∙ measure-stop (pieceOf t x) after m f
 
-      module _ (fit : good (leftAt t row i n w) ≡ true) where
-        both-good : good (and-also (pieceOf t x) after) ≡ true
-        both-good = sym (ap good turn) ∙ fit
+      module _ (fit : encodes (leftAt t row i n w) ≡ true) where
+        both-good : encodes (and-also (pieceOf t x) after) ≡ true
+        both-good = sym (ap encodes turn) ∙ fit
 
-        pub next-good : good (leftAt t row (i + 1) (n / 32) v) ≡ true
+        pub next-good : encodes (leftAt t row (i + 1) (n / 32) v) ≡ true
         next-good = good-more (pieceOf t x) after both-good
 
         pub this-fine : fine t x ≡ true
         this-fine = piece-fine t x (good-first (pieceOf t x) after both-good)
 
-        pub next-held : held (leftAt t row i n w) ≡ raw t x ++ held (leftAt t row (i + 1) (n / 32) v)
-        next-held = ap held turn ∙ held-both (pieceOf t x) after both-good ∙ ap (λ (l : List ℕ). l ++ held after) (piece-held t x (good-first (pieceOf t x) after both-good))
+        pub next-held : encodedBytes (leftAt t row i n w) ≡ raw t x ++ encodedBytes (leftAt t row (i + 1) (n / 32) v)
+        next-held = ap encodedBytes turn ∙ held-both (pieceOf t x) after both-good ∙ ap (λ (l : List ℕ). l ++ encodedBytes after) (piece-held t x (good-first (pieceOf t x) after both-good))

@@ -10,14 +10,14 @@ use Rattle.answer.specs.Answer.{Answer, answered, refused, then}
 use Rattle.field.specs.Bytes.{bytes}
 use Rattle.field.proofs.ByteLaws.{length-bytes}
 use Rattle.field_put.specs.Bytes.{Puts, Room}
-use Rattle.record_cells.specs.Codes.{layoutIn, fieldsOf}
+use Rattle.record_cells.specs.Codes.{layoutIn, layoutOf}
 use Rattle.write_layout.specs.Runs.{pads}
 use Rattle.write_layout.proofs.RunLaws.{length-pads}
-use Rattle.write_layout.specs.Fields.{Encoded, bad, fixedBytes, and-also}
+use Rattle.write_layout.specs.Fields.{Encoded, bad, fixedBytes, and-also, encodes, encodedBytes}
 use Rattle.write_layout.specs.Records.{missing, filled, recordBytes}
 use Rattle.write_layout.specs.Buffer.{lay, Writes}
 use Rattle.write_pieces.proofs.RecordLaws.{long, short, refuse-bad, refuse-long, refuse-small, laid}
-use Rattle.write_cells.specs.Cells.{leftBytes, cellBytes, good, held}
+use Rattle.write_cells.specs.Cells.{leftBytes, cellBytes}
 use Rattle.write_cells.proofs.LoopLaws.{measureOf, good-is}
 
 -- what measuring has shown
@@ -27,8 +27,8 @@ measured-bad (refused n d) e = let f : n ≡ 17 = cc in let g : d ≡ [] = cc in
 
 -- good, and n is the length of the fields and of the leaf, held at 65,536
 pub record Sized (b : Encoded) (n : ℕ) : Type 0 where
-  pub fine : good b ≡ true
-  pub count : n ≡ min (2 + length (held b)) 65536
+  pub fine : encodes b ≡ true
+  pub count : n ≡ min (2 + length (encodedBytes b)) 65536
 
 pub measured-size : (b : Encoded) (n : ℕ) → measureOf b 2 ≡ answered n → Sized b n
 measured-size (answered bs) n e = record { fine = refl; count = cc }
@@ -47,7 +47,7 @@ module _ (leaf layout : ℕ) (t row : List ℕ) (small-leaf : leaf < 65536) (the
   record-is = cellBytes (layoutIn layout) leaf t row
 
   by-fields : record-is ≡ and-also (fixedBytes 2 leaf) fields
-  unfolding layoutIn fieldsOf leftBytes
+  unfolding layoutIn layoutOf leftBytes
   by-fields = rw (ne-eqb _ _ there)
 
   with-leaf : and-also (fixedBytes 2 leaf) fields ≡ and-also (answered (bytes 2 leaf)) fields
@@ -59,13 +59,13 @@ module _ (leaf layout : ℕ) (t row : List ℕ) (small-leaf : leaf < 65536) (the
 
   module _ (s : List ℕ) (p n pad : ℕ) (z : Sized (leftBytes 9 layout 0 t row) n) (e : pad ≡ missing (n + 2)) where
     abbrev all : List ℕ
-    all = bytes 2 leaf ++ held fields
+    all = bytes 2 leaf ++ encodedBytes fields
 
     are : record-is ≡ answered all
     are = by-fields ∙ with-leaf ∙ ap (and-also (answered (bytes 2 leaf))) (good-is fields (z .fine))
 
-    all-length : length all ≡ 2 + length (held fields)
-    all-length = length-append (bytes 2 leaf) (held fields) ∙ rw (length-bytes 2 leaf)
+    all-length : length all ≡ 2 + length (encodedBytes fields)
+    all-length = length-append (bytes 2 leaf) (encodedBytes fields) ∙ rw (length-bytes 2 leaf)
 
     count-is : n ≡ min (length all) 65536
     count-is = rw all-length (z .count)
@@ -80,21 +80,21 @@ module _ (leaf layout : ℕ) (t row : List ℕ) (small-leaf : leaf < 65536) (the
       same-count : length all ≡ n
       same-count = omega (arith, count-is)
 
-      laid-bytes : bytes 2 (n + pad) ++ (bytes 2 leaf ++ (held fields ++ pads pad)) ≡ bytes 2 (length (filled all)) ++ filled all
+      laid-bytes : bytes 2 (n + pad) ++ (bytes 2 leaf ++ (encodedBytes fields ++ pads pad)) ≡ bytes 2 (length (filled all)) ++ filled all
       unfolding filled
-      laid-bytes = rw (fills, same-count, ← e, append-assoc (bytes 2 leaf) (held fields) (pads pad))
+      laid-bytes = rw (fills, same-count, ← e, append-assoc (bytes 2 leaf) (encodedBytes fields) (pads pad))
 
       pub small : length s < p + (n + pad + 2) → Writes s (lay (recordBytes (cellBytes (layoutIn layout) leaf t row)) s p) (refused 19 []) s
       small k = refuse-small _ s p all are (n + pad) fills h k
 
       module _ (k : p + (n + pad + 2) ≤ length s) where
-        pub roomy : Room s p (bytes 2 (n + pad) ++ (bytes 2 leaf ++ (held (leftBytes 9 layout 0 t row) ++ pads pad)))
+        pub roomy : Room s p (bytes 2 (n + pad) ++ (bytes 2 leaf ++ (encodedBytes (leftBytes 9 layout 0 t row) ++ pads pad)))
         roomy =
-            let a = length-append (bytes 2 (n + pad)) (bytes 2 leaf ++ (held fields ++ pads pad)) in
-            let b = length-append (bytes 2 leaf) (held fields ++ pads pad) in
-            let c = length-append (held fields) (pads pad) in
+            let a = length-append (bytes 2 (n + pad)) (bytes 2 leaf ++ (encodedBytes fields ++ pads pad)) in
+            let b = length-append (bytes 2 leaf) (encodedBytes fields ++ pads pad) in
+            let c = length-append (encodedBytes fields) (pads pad) in
             record { room = omega (arith, a, b, c, length-bytes 2 (n + pad), length-bytes 2 leaf, length-pads pad, same-count, all-length) }
 
-        pub done : (r : ℕ) (s′ : List ℕ) → Puts s p (bytes 2 (n + pad) ++ (bytes 2 leaf ++ (held (leftBytes 9 layout 0 t row) ++ pads pad))) r s′
+        pub done : (r : ℕ) (s′ : List ℕ) → Puts s p (bytes 2 (n + pad) ++ (bytes 2 leaf ++ (encodedBytes (leftBytes 9 layout 0 t row) ++ pads pad))) r s′
             → Writes s (lay (recordBytes (cellBytes (layoutIn layout) leaf t row)) s p) (answered r) s′
         done r s′ w = laid _ s p all are (n + pad) fills h r s′ k (rw laid-bytes at w)

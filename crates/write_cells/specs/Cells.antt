@@ -1,13 +1,11 @@
 -- A cell of a row as a value to write.
 use Prim.Native.Nat.{ℕ}
-use mathlib.Core.Bool.{Bool, true, false}
-use mathlib.Core.List.{List, [], _∷_}
+use mathlib.Core.List.{List, _∷_}
 use mathlib.Core.Option.{Option}
-use Rattle.answer.specs.Answer.{answered, refused}
 use Rattle.record_layout.specs.Fields.{Shown, number}
 use Rattle.record_layout.specs.Layouts.{Layout}
 use Rattle.write_layout.specs.Fields.{ToWrite, given, givenAll, Encoded, fixedBytes, and-also, writeFields}
-use Rattle.write_layout.specs.Records.{byLayout}
+use Rattle.write_layout.specs.Records.{writtenBy}
 use Rattle.record_cells.specs.Codes.{decode}
 use Rattle.record_cells.specs.Cells.{valueIn, valuesIn}
 
@@ -21,17 +19,8 @@ leftBytes k n w t cells = writeFields (decode k n) w (givenAll t (valuesIn k cel
 
 -- the bytes of a record of this leaf, from its row
 abbrev pub cellBytes : Option Layout → ℕ → List ℕ → List ℕ → Encoded
-cellBytes fs leaf t row = and-also (fixedBytes 2 leaf) (byLayout fs (givenAll t (valuesIn 9 row)))
+cellBytes fs leaf t row = and-also (fixedBytes 2 leaf) (writtenBy fs (givenAll t (valuesIn 9 row)))
 
 -- a leaf and its row, as the values that a record is written from
 abbrev pub cellValues : ℕ → List ℕ → List Shown
 cellValues leaf row = number leaf ∷ valuesIn 9 row
-
--- whether bytes are not refused; and they, none where they are
-abbrev pub good : Encoded → Bool
-good (answered bs) = true
-good (refused n d) = false
-
-abbrev pub held : Encoded → List ℕ
-held (answered bs) = bs
-held (refused n d) = []

@@ -14,13 +14,13 @@ ghost use Rattle.field_put.specs.Bytes.{Puts, Room};
 ghost use Rattle.record_layout.specs.Fields.{gap, numeric, size, string, run, types, slots, numberOr, wordAfter};
 ghost use Rattle.record_layout.specs.Layouts.{pointer, S2, memberO, offset, idLeaves};
 ghost use Rattle.write_layout.specs.Runs.{pads};
-ghost use Rattle.write_layout.specs.Fields.{fixedBytes, numericBytes, optionalBytes, ofNumber, ofAbsent, writeField, givenAll};
+ghost use Rattle.write_layout.specs.Fields.{fixedBytes, numericBytes, optionalBytes, ofNumber, ofAbsent, writeField, givenAll, encodes, encodedBytes};
 ghost use Rattle.write_layout.specs.Records.{recordBytes, writeRecord};
 ghost use Rattle.write_layout.specs.Types.{writtenLeaves};
 ghost use Rattle.write_layout.specs.Buffer.{lay, Writes};
 ghost use Rattle.write_pieces.specs.Pieces.{pieceOf, saidMeasure, saidWrite};
 ghost use Rattle.record_cells.specs.Codes.{fieldOf, layoutIn};
-ghost use Rattle.write_cells.specs.Cells.{cellIn, leftBytes, cellBytes, cellValues, good, held};
+ghost use Rattle.write_cells.specs.Cells.{cellIn, leftBytes, cellBytes, cellValues};
 use answer::Refusal;
 use word_attributes::FlagAnswer;
 use word_attributes::KindAnswer;
@@ -182,10 +182,10 @@ fn size_piece(kind: u64, value: u64) -> Piece
     ensures { λ r. ⌜ ((t : List ℕ) (more w : ℕ) → pieceOf t r ≡ writeField size w (cellIn t kind value more)) ⌝ }
 {
     if kind == 3 {
-        return write_fit::natural(value);
+        return write_pieces::fields::natural(value);
     }
     if kind == 4 {
-        return write_fit::natural(value);
+        return write_pieces::fields::natural(value);
     }
     Piece::Bad
 }
@@ -194,10 +194,10 @@ fn numeric_piece(kind: u64, value: u64) -> Piece
     ensures { λ r. ⌜ ((t : List ℕ) (more w : ℕ) → pieceOf t r ≡ writeField numeric w (cellIn t kind value more)) ⌝ }
 {
     if kind == 3 {
-        return write_fit::natural(value);
+        return write_pieces::fields::natural(value);
     }
     if kind == 4 {
-        return write_fit::natural(value);
+        return write_pieces::fields::natural(value);
     }
     if kind == 5 {
         return negative(value);
@@ -318,31 +318,31 @@ fn field_piece(code: u64, kind: u64, value: u64, more: u64, w: u64) -> Piece
 // Of a field that is known to be good, its piece without a test.
 
 fn good8(value: u64) -> Piece
-    ensures { λ r. ⌜ ((t : List ℕ) (kind more : ℕ) → good (ofNumber (cellIn t kind value more) (fixedBytes 1)) ≡ true → pieceOf t r ≡ ofNumber (cellIn t kind value more) (fixedBytes 1)) ⌝ }
+    ensures { λ r. ⌜ ((t : List ℕ) (kind more : ℕ) → encodes (ofNumber (cellIn t kind value more) (fixedBytes 1)) ≡ true → pieceOf t r ≡ ofNumber (cellIn t kind value more) (fixedBytes 1)) ⌝ }
 {
     Piece::Byte((value % 0x100) as u8)
 }
 
 fn good16(value: u64) -> Piece
-    ensures { λ r. ⌜ ((t : List ℕ) (kind more : ℕ) → good (ofNumber (cellIn t kind value more) (fixedBytes 2)) ≡ true → pieceOf t r ≡ ofNumber (cellIn t kind value more) (fixedBytes 2)) ⌝ }
+    ensures { λ r. ⌜ ((t : List ℕ) (kind more : ℕ) → encodes (ofNumber (cellIn t kind value more) (fixedBytes 2)) ≡ true → pieceOf t r ≡ ofNumber (cellIn t kind value more) (fixedBytes 2)) ⌝ }
 {
     Piece::Half((value % 0x1_0000) as u16)
 }
 
 fn good32(value: u64) -> Piece
-    ensures { λ r. ⌜ ((t : List ℕ) (kind more : ℕ) → good (ofNumber (cellIn t kind value more) (fixedBytes 4)) ≡ true → pieceOf t r ≡ ofNumber (cellIn t kind value more) (fixedBytes 4)) ⌝ }
+    ensures { λ r. ⌜ ((t : List ℕ) (kind more : ℕ) → encodes (ofNumber (cellIn t kind value more) (fixedBytes 4)) ≡ true → pieceOf t r ≡ ofNumber (cellIn t kind value more) (fixedBytes 4)) ⌝ }
 {
     Piece::Word((value % 0x1_0000_0000) as u32)
 }
 
 fn good_pointer(value: u64) -> Piece
-    ensures { λ r. ⌜ ((t : List ℕ) (kind more w : ℕ) → good (writeField pointer w (cellIn t kind value more)) ≡ true → pieceOf t r ≡ writeField pointer w (cellIn t kind value more)) ⌝ }
+    ensures { λ r. ⌜ ((t : List ℕ) (kind more w : ℕ) → encodes (writeField pointer w (cellIn t kind value more)) ≡ true → pieceOf t r ≡ writeField pointer w (cellIn t kind value more)) ⌝ }
 {
     Piece::Word((value % 0x1_0000_0000) as u32)
 }
 
 fn good_index(kind: u64, value: u64) -> Piece
-    ensures { λ r. ⌜ ((t nones : List ℕ) (more : ℕ) → good (optionalBytes nones (cellIn t kind value more)) ≡ true → pieceOf t r ≡ optionalBytes nones (cellIn t kind value more)) ⌝ }
+    ensures { λ r. ⌜ ((t nones : List ℕ) (more : ℕ) → encodes (optionalBytes nones (cellIn t kind value more)) ≡ true → pieceOf t r ≡ optionalBytes nones (cellIn t kind value more)) ⌝ }
 {
     if kind == 1 {
         return Piece::Word(0);
@@ -353,7 +353,7 @@ fn good_index(kind: u64, value: u64) -> Piece
 // The piece of the field of this code, where it is good.
 fn good_piece(code: u64, kind: u64, value: u64, more: u64, w: u64) -> Piece
     requires { ⌜ 0 < kind ⌝ }
-    ensures { λ r. ⌜ ((t : List ℕ) → good (writeField (fieldOf code) w (cellIn t kind value more)) ≡ true → pieceOf t r ≡ writeField (fieldOf code) w (cellIn t kind value more)) ⌝ }
+    ensures { λ r. ⌜ ((t : List ℕ) → encodes (writeField (fieldOf code) w (cellIn t kind value more)) ≡ true → pieceOf t r ≡ writeField (fieldOf code) w (cellIn t kind value more)) ⌝ }
 {
     match code {
         1 => good8(value),
@@ -434,7 +434,7 @@ fn measure_fields(text: &[u8], layout: u64, row: &[u64; 27]) -> Measure
     let mut word: u64 = 0;
     while 0 < rest {
         if i == 9 {
-            return Measure::Size(write_pieces::held_sum(n, 0));
+            return Measure::Size(write_pieces::capped_sum(n, 0));
         }
         let k = 3 * i;
         let kind = row[k];
@@ -448,25 +448,25 @@ fn measure_fields(text: &[u8], layout: u64, row: &[u64; 27]) -> Measure
         let Measure::Size(size) = put::size_of(text, x) else {
             return Measure::Bad;
         };
-        n += write_pieces::held_sum(size, 0);
+        n += write_pieces::capped_sum(size, 0);
         word = word_after(code, kind, value, word);
         rest /= 32;
         i += 1;
     }
     if i == 9 {
-        return Measure::Size(write_pieces::held_sum(n, 0));
+        return Measure::Size(write_pieces::capped_sum(n, 0));
     }
     let k = 3 * i;
     if row[k] != 0 {
         return Measure::Bad;
     }
-    Measure::Size(write_pieces::held_sum(n, 0))
+    Measure::Size(write_pieces::capped_sum(n, 0))
 }
 
 // The fields of this layout, where they are good and there is room for them; the place after them.
 fn put_fields(text: &[u8], layout: u64, row: &[u64; 27], out: &mut [u8], p: usize) -> usize
-    requires { ⌜ (length (now row) ≡ 27) × (good (leftBytes 9 layout 0 (now text) (now row)) ≡ true) × (Room (now out) p (held (leftBytes 9 layout 0 (now text) (now row)))) ⌝ }
-    ensures { λ r. ⌜ Puts (now (out .entry)) p (held (leftBytes 9 layout 0 (now (text .entry)) (now (row .entry)))) r (now (out .exit)) ⌝ }
+    requires { ⌜ (length (now row) ≡ 27) × (encodes (leftBytes 9 layout 0 (now text) (now row)) ≡ true) × (Room (now out) p (encodedBytes (leftBytes 9 layout 0 (now text) (now row)))) ⌝ }
+    ensures { λ r. ⌜ Puts (now (out .entry)) p (encodedBytes (leftBytes 9 layout 0 (now (text .entry)) (now (row .entry)))) r (now (out .exit)) ⌝ }
 {
     let mut to = p;
     let mut i: usize = 0;
@@ -501,8 +501,8 @@ fn put_record(
     size: u16,
     pad: u8,
 ) -> usize
-    requires { ⌜ (length (now row) ≡ 27) × (good (leftBytes 9 layout 0 (now text) (now row)) ≡ true) × (pad ≤ 3) × (Room (now out) at (bytes 2 size ++ (bytes 2 leaf ++ (held (leftBytes 9 layout 0 (now text) (now row)) ++ pads pad)))) ⌝ }
-    ensures { λ r. ⌜ Puts (now (out .entry)) at (bytes 2 size ++ (bytes 2 leaf ++ (held (leftBytes 9 layout 0 (now (text .entry)) (now (row .entry))) ++ pads pad))) r (now (out .exit)) ⌝ }
+    requires { ⌜ (length (now row) ≡ 27) × (encodes (leftBytes 9 layout 0 (now text) (now row)) ≡ true) × (pad ≤ 3) × (Room (now out) at (bytes 2 size ++ (bytes 2 leaf ++ (encodedBytes (leftBytes 9 layout 0 (now text) (now row)) ++ pads pad)))) ⌝ }
+    ensures { λ r. ⌜ Puts (now (out .entry)) at (bytes 2 size ++ (bytes 2 leaf ++ (encodedBytes (leftBytes 9 layout 0 (now (text .entry)) (now (row .entry))) ++ pads pad))) r (now (out .exit)) ⌝ }
 {
     let p = put::put16(out, at, size);
     let q = put::put16(out, p, leaf);

@@ -14,15 +14,15 @@ use Rattle.field.specs.Bytes.{bytes}
 use Rattle.stream_header.specs.declared.Header.{Header}
 use Rattle.stream_header.specs.Header.{headerOf, fieldsOf, longest}
 use Rattle.write_layout.specs.Fields.{Encoded}
-use Rattle.write_header.specs.Headers.{bitsOf, headerFields, headerBytes, Fits32, Narrow, HeaderReadsBack}
+use Rattle.write_header.specs.Headers.{offsetBits, headerFields, headerBytes, Fits32, Narrow, HeaderReadsBack}
 use Rattle.write_header.proofs.HeaderLaws.{header-length}
 
 -- an i32's bits are a u32, and read as two's complement they are it
-small-bits : (z : ℤ) → Fits32 z → bitsOf z < 2 ^ 32
+small-bits : (z : ℤ) → Fits32 z → offsetBits z < 2 ^ 32
 small-bits (pos n) h = omega arith
 small-bits (negsuc n) h = omega arith
 
-signed-back : (z : ℤ) → Fits32 z → twos 4 (bitsOf z) ≡ z
+signed-back : (z : ℤ) → Fits32 z → twos 4 (offsetBits z) ≡ z
 signed-back (pos n) h = rw (lt-ltb n (2 ^ 31) h)
 signed-back (negsuc n) h =
     let e : 2 ^ 32 - suc (2 ^ 32 - suc n) ≡ n = omega arith in

@@ -22,11 +22,11 @@ use Rattle.record_layout.specs.Fields.{number, numeral, absent, many}
 use Rattle.record_layout.specs.Layouts.{Table}
 use Rattle.write_layout.specs.Runs.{pads}
 use Rattle.write_layout.specs.Fields.{ToWrite, Encoded, fixedBytes, and-also}
-use Rattle.write_layout.specs.Records.{byLayout, writeLeaf, missing, filled, whole as wholeRecord, recordBytes, writeRecord}
+use Rattle.write_layout.specs.Records.{writtenBy, writeLeaf, missing, filled, whole as wholeRecord, recordBytes, writeRecord}
 use Rattle.write_layout.specs.Lists.{membersBytes, fieldListBytes, methodsBytes, methodListBytes}
 use Rattle.write_layout.proofs.Back.{refusal, passed, written-both}
 use Rattle.write_header.specs.Headers.{headerBytes, Narrow}
-use Rattle.write_header.specs.Streams.{links, Payload, Payloads, onward, Walks, LinksWalk, WrittenAs, by-table, field-list, method-list, AllWritten, inOrder, payloadOf, StreamWalks}
+use Rattle.write_header.specs.Streams.{linksOf, Payload, Payloads, behindRecord, HasPayloads, LinksWalk, WrittenAs, by-table, field-list, method-list, AllWritten, inOrder, behindLength, StreamWalks}
 use Rattle.write_header.proofs.HeaderLaws.{header-length}
 use Rattle.write_header.proofs.HeaderBack.{Checked, checked, header-reads-back}
 
@@ -61,24 +61,24 @@ module _ (s : List ℕ) (l : length s ≤ longest) where
         let e : c .at + length (bytes 2 (length x)) ≡ c .at + 2 = ap (λ (k : ℕ). c .at + k) (length-bytes 2 (length x)) in
         ap (take (length x)) (ap (λ (k : ℕ). drop k s) (sym e) ∙ n .here) ∙ take-append-seam x ys
 
-  walk : (c : ItemIter) (xs : List (List ℕ)) → Payloads xs → Stands s (c .at) (links xs) [] → c .index + length xs ≤ 4294967295 → Walks s c xs
-  unfolding links Payloads Walks
+  walk : (c : ItemIter) (xs : List (List ℕ)) → Payloads xs → Stands s (c .at) (linksOf xs) [] → c .index + length xs ≤ 4294967295 → HasPayloads s c xs
+  unfolding linksOf Payloads HasPayloads
   walk c [] p st i = at-end c st
   walk c (x ∷ xs) p st i =
-      let f = first s (c .at) (bytes 2 (length x) ++ x) (links xs) [] st in
-      let n = next s (c .at) (bytes 2 (length x) ++ x) (links xs) [] st in
+      let f = first s (c .at) (bytes 2 (length x) ++ x) (linksOf xs) [] st in
+      let n = next s (c .at) (bytes 2 (length x) ++ x) (linksOf xs) [] st in
       let e : c .at + length (bytes 2 (length x) ++ x) ≡ c .at + 2 + length x = omega (arith, length-append (bytes 2 (length x)) x, length-bytes 2 (length x)) in
-      let m : Stands s (c .at + 2 + length x) (links xs) [] = rw e at n in
-      (one-item c x (links xs ++ []) (p .0) f (omega arith), its-bytes c x (links xs ++ []) (p .0) f, walk (onward c (length x)) xs (p .1) m (omega arith))
+      let m : Stands s (c .at + 2 + length x) (linksOf xs) [] = rw e at n in
+      (one-item c x (linksOf xs ++ []) (p .0) f (omega arith), its-bytes c x (linksOf xs ++ []) (p .0) f, walk (behindRecord c (length x)) xs (p .1) m (omega arith))
 
 pub links-walk : LinksWalk
 unfolding iterOf
 links-walk tag h hs xs w n p l i =
     let k = checked h hs w in
     let e : length hs ≡ h .«header_size» = sym (ap length (k .are)) ∙ header-length h (k .not-small) in
-    let s = hs ++ links xs in
-    let st : Stands s (length hs) (links xs) [] = record { inside = omega (arith, length-append hs (links xs)); here = drop-append-seam hs (links xs) ∙ sym (append-nil (links xs)) } in
-    (rw (header-reads-back h hs (links xs) w n l), walk s l _ xs p (rw e at st) i)
+    let s = hs ++ linksOf xs in
+    let st : Stands s (length hs) (linksOf xs) [] = record { inside = omega (arith, length-append hs (linksOf xs)); here = drop-append-seam hs (linksOf xs) ∙ sym (append-nil (linksOf xs)) } in
+    (rw (header-reads-back h hs (linksOf xs) w n l), walk s l _ xs p (rw e at st) i)
 
 -- Written records -------------------------------------------------------------------------------------------------------------------
 
@@ -114,7 +114,7 @@ record-link leaf more rs w = go (and-also (fixedBytes 2 leaf) more) refl w
 table-link : (table : Table) (vs : List ToWrite) (rs : List ℕ) → writeRecord table vs ≡ answered rs → Link rs
 unfolding writeRecord writeLeaf recordBytes
 table-link table [] rs w = refusal w
-table-link table (number leaf ∷ vs) rs w = record-link leaf (byLayout (find leaf table) vs) rs w
+table-link table (number leaf ∷ vs) rs w = record-link leaf (writtenBy (find leaf table) vs) rs w
 table-link table (numeral z u ∷ vs) rs w = refusal w
 table-link table (absent ∷ vs) rs w = refusal w
 table-link table (many x ∷ vs) rs w = refusal w
@@ -125,29 +125,29 @@ link-of rs (by-table table vs w) = table-link table vs rs w
 link-of rs (field-list vss w) = record-link 0x1203 (membersBytes false vss) rs w
 link-of rs (method-list vss w) = record-link 0x1206 (methodsBytes vss) rs w
 
-payload-is : (rs : List ℕ) (k : Link rs) → payloadOf rs ≡ k .payload
+payload-is : (rs : List ℕ) (k : Link rs) → behindLength rs ≡ k .payload
 unfolding bytes
 payload-is rs k = ap (drop 2) (k .is-link)
 
-all-links : (rss : List (List ℕ)) → AllWritten rss → links (map payloadOf rss) ≡ inOrder rss
-unfolding AllWritten links inOrder
+all-links : (rss : List (List ℕ)) → AllWritten rss → linksOf (map behindLength rss) ≡ inOrder rss
+unfolding AllWritten linksOf inOrder
 all-links [] w = refl
 all-links (rs ∷ rss) w =
     let k = link-of rs (w .0) in
-    let e : bytes 2 (length (payloadOf rs)) ++ payloadOf rs ≡ rs = rw (payload-is rs k) (sym (k .is-link)) in
+    let e : bytes 2 (length (behindLength rs)) ++ behindLength rs ≡ rs = rw (payload-is rs k) (sym (k .is-link)) in
     rw (e, all-links rss (w .1))
 
-all-payloads : (rss : List (List ℕ)) → AllWritten rss → Payloads (map payloadOf rss)
+all-payloads : (rss : List (List ℕ)) → AllWritten rss → Payloads (map behindLength rss)
 unfolding AllWritten Payloads
 all-payloads [] w = tt
 all-payloads (rs ∷ rss) w = let k = link-of rs (w .0) in (rw (payload-is rs k) (k .right), all-payloads rss (w .1))
 
-as-many : (rss : List (List ℕ)) → length (map payloadOf rss) ≡ length rss
+as-many : (rss : List (List ℕ)) → length (map behindLength rss) ≡ length rss
 as-many [] = refl
 as-many (rs ∷ rss) = ap suc (as-many rss)
 
 pub stream-walks : StreamWalks
 stream-walks tag h hs rss w n a l i =
-    let e : links (map payloadOf rss) ≡ inOrder rss = all-links rss a in
-    let m : h .«minimum_index» + length (map payloadOf rss) ≤ 4294967295 = rw (as-many rss) i in
-    rw (← e) (links-walk tag h hs (map payloadOf rss) w n (all-payloads rss a) (rw e l) m)
+    let e : linksOf (map behindLength rss) ≡ inOrder rss = all-links rss a in
+    let m : h .«minimum_index» + length (map behindLength rss) ≤ 4294967295 = rw (as-many rss) i in
+    rw (← e) (links-walk tag h hs (map behindLength rss) w n (all-payloads rss a) (rw e l) m)

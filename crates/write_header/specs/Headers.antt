@@ -1,31 +1,30 @@
 -- R-1: a header as it is written: 56 bytes by document 01's "Header", and zeros up to header_size.
 use Prim.Native.Nat.{ℕ, suc, _+_, _-_, _^_, _≤_, _<_}
 use mathlib.Core.Path.{_≡_}
-use mathlib.Core.List.{List, [], _∷_, _++_}
+use mathlib.Core.List.{List, _++_}
 use lib.ListN.{length}
 use lib.Dec.{ltb}
 use lib.IntN.{ℤ, pos, negsuc}
-use Rattle.answer.specs.Answer.{Answer, answered, stop}
+use Rattle.answer.specs.Answer.{answered, stop}
 use Rattle.field.specs.Bytes.{bytes}
 use Rattle.stream_header.specs.Header.{headerOf, longest}
-use Rattle.stream_header.specs.declared.Slice.{Slice}
 use Rattle.stream_header.specs.declared.Header.{Header}
 use Rattle.write_layout.specs.Runs.{zeros}
 use Rattle.write_layout.specs.Fields.{Encoded}
 
 -- an i32 as two's complement
-abbrev pub bitsOf : ℤ → ℕ
-bitsOf (pos n) = n
-bitsOf (negsuc n) = 2 ^ 32 - suc n
+abbrev pub offsetBits : ℤ → ℕ
+offsetBits (pos n) = n
+offsetBits (negsuc n) = 2 ^ 32 - suc n
 
 -- the fields in order; a pair of i32 offset and u32 size is two
 unfoldable pub headerFields : Header → List ℕ
 headerFields h =
     bytes 4 (h .version) ++ (bytes 4 (h .«header_size») ++ (bytes 4 (h .«minimum_index») ++ (bytes 4 (h .«maximum_index») ++ (bytes 4 (h .«gprec_size»)
     ++ (bytes 2 (h .«tpi_hash_stream») ++ (bytes 2 (h .«tpi_hash_pad_stream») ++ (bytes 4 (h .«hash_key_size») ++ (bytes 4 (h .«hash_bucket_size»)
-    ++ (bytes 4 (bitsOf (h .«hash_values» .offset)) ++ (bytes 4 (h .«hash_values» .size)
-    ++ (bytes 4 (bitsOf (h .«ti_off» .offset)) ++ (bytes 4 (h .«ti_off» .size)
-    ++ (bytes 4 (bitsOf (h .«hash_adj» .offset)) ++ (bytes 4 (h .«hash_adj» .size)
+    ++ (bytes 4 (offsetBits (h .«hash_values» .offset)) ++ (bytes 4 (h .«hash_values» .size)
+    ++ (bytes 4 (offsetBits (h .«ti_off» .offset)) ++ (bytes 4 (h .«ti_off» .size)
+    ++ (bytes 4 (offsetBits (h .«hash_adj» .offset)) ++ (bytes 4 (h .«hash_adj» .size)
     ++ zeros (h .«header_size» - 56)))))))))))))))
 
 -- 2, 3, 4, 5 in that order

@@ -17,9 +17,9 @@ use Rattle.write_layout.specs.Lists.{fieldListBytes, methodListBytes}
 use Rattle.write_header.specs.Headers.{headerBytes, Narrow}
 
 -- records as they stand in a stream, by their payloads
-unfoldable pub links : List (List ℕ) → List ℕ
-links [] = []
-links (x ∷ xs) = (bytes 2 (length x) ++ x) ++ links xs
+unfoldable pub linksOf : List (List ℕ) → List ℕ
+linksOf [] = []
+linksOf (x ∷ xs) = (bytes 2 (length x) ++ x) ++ linksOf xs
 
 -- a payload has two bytes for its leaf, and a length that a u16 holds
 pub record Payload (x : List ℕ) : Type 0 where
@@ -31,13 +31,13 @@ Payloads [] = Unit {0}
 Payloads (x ∷ xs) = Payload x × Payloads xs
 
 -- the cursor behind a record of n bytes
-abbrev pub onward : ItemIter → ℕ → ItemIter
-onward c n = record { stream = c .stream; at = c .at + 2 + n; index = c .index + 1 }
+abbrev pub behindRecord : ItemIter → ℕ → ItemIter
+behindRecord c n = record { stream = c .stream; at = c .at + 2 + n; index = c .index + 1 }
 
 -- from the cursor c on the stream s has exactly these payloads, one item each, and then is done
-unfoldable pub Walks : List ℕ → ItemIter → List (List ℕ) → Type 0
-Walks s c [] = nextOf s c ≡ answered done
-Walks s c (x ∷ xs) = (nextOf s c ≡ answered (overRecord c (length x))) × (take (length x) (drop (c .at + 2) s) ≡ x) × Walks s (onward c (length x)) xs
+unfoldable pub HasPayloads : List ℕ → ItemIter → List (List ℕ) → Type 0
+HasPayloads s c [] = nextOf s c ≡ answered done
+HasPayloads s c (x ∷ xs) = (nextOf s c ≡ answered (overRecord c (length x))) × (take (length x) (drop (c .at + 2) s) ≡ x) × HasPayloads s (behindRecord c (length x)) xs
 
 -- the cursor with which a stream of this header begins
 abbrev pub start : Stream → Header → ItemIter
@@ -46,9 +46,9 @@ start tag h = record { stream = tag; at = h .«header_size»; index = h .«minim
 -- of payloads behind their lengths, where the stream is not too long and its indices do not pass the last
 abbrev pub LinksWalk : Type 0
 LinksWalk =
-    (tag : Stream) (h : Header) (hs : List ℕ) (xs : List (List ℕ)) → headerBytes h ≡ answered hs → Narrow h → Payloads xs → length (hs ++ links xs) ≤ longest
+    (tag : Stream) (h : Header) (hs : List ℕ) (xs : List (List ℕ)) → headerBytes h ≡ answered hs → Narrow h → Payloads xs → length (hs ++ linksOf xs) ≤ longest
     → h .«minimum_index» + length xs ≤ 4294967295
-    → (iterOf tag (hs ++ links xs) ≡ answered (start tag h)) × Walks (hs ++ links xs) (start tag h) xs
+    → (iterOf tag (hs ++ linksOf xs) ≡ answered (start tag h)) × HasPayloads (hs ++ linksOf xs) (start tag h) xs
 
 -- Written records -------------------------------------------------------------------------------------------------------------------
 
@@ -68,12 +68,12 @@ inOrder [] = []
 inOrder (rs ∷ rss) = rs ++ inOrder rss
 
 -- what stands behind a record's length
-abbrev pub payloadOf : List ℕ → List ℕ
-payloadOf rs = drop 2 rs
+abbrev pub behindLength : List ℕ → List ℕ
+behindLength rs = drop 2 rs
 
 -- R-1: a stream of a written header and written records walks to done, with their payloads as its items
 abbrev pub StreamWalks : Type 0
 StreamWalks =
     (tag : Stream) (h : Header) (hs : List ℕ) (rss : List (List ℕ)) → headerBytes h ≡ answered hs → Narrow h → AllWritten rss → length (hs ++ inOrder rss) ≤ longest
     → h .«minimum_index» + length rss ≤ 4294967295
-    → (iterOf tag (hs ++ inOrder rss) ≡ answered (start tag h)) × Walks (hs ++ inOrder rss) (start tag h) (map payloadOf rss)
+    → (iterOf tag (hs ++ inOrder rss) ≡ answered (start tag h)) × HasPayloads (hs ++ inOrder rss) (start tag h) (map behindLength rss)

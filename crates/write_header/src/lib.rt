@@ -5,7 +5,7 @@ ghost use Prim.Native.Nat.{ℕ, _≤_};
 ghost use Rattle.answer.specs.Answer.{answered};
 ghost use Rattle.write_layout.specs.Buffer.{lay, Writes};
 ghost use Rattle.write_pieces.specs.Pieces.{piecesOf, saidWrite};
-ghost use Rattle.write_header.specs.Headers.{bitsOf, headerFields, headerBytes};
+ghost use Rattle.write_header.specs.Headers.{offsetBits, headerFields, headerBytes};
 use answer::Refusal;
 use stream_header::Header;
 use stream_header::Slice;
@@ -14,7 +14,7 @@ use write_pieces::WriteAnswer;
 
 // An i32 as two's complement.
 fn bits(x: i32) -> u32
-    ensures { λ r. ⌜ r ≡ bitsOf x ⌝ }
+    ensures { λ r. ⌜ r ≡ offsetBits x ⌝ }
 {
     if x < 0 {
         return 0xffff_ffff - ((-1 - x) as u32);
@@ -23,7 +23,7 @@ fn bits(x: i32) -> u32
 }
 
 fn offset_bits(s: Slice) -> u32
-    ensures { λ r. ⌜ r ≡ bitsOf (s .offset) ⌝ }
+    ensures { λ r. ⌜ r ≡ offsetBits (s .offset) ⌝ }
 {
     let x = s.offset;
     bits(x)

@@ -13,12 +13,12 @@ use Rattle.answer.specs.Tables.{find, among}
 use Rattle.field.specs.Bytes.{bytes}
 use Rattle.field.specs.Indices.{noType, noId}
 use Rattle.field.proofs.ByteLaws.{bytes-small}
-use Rattle.field_number.specs.Forms.{wide, shortest, carried, AllBytes}
+use Rattle.field_number.specs.Forms.{prefixed, shortest, carried, AllBytes}
 use Rattle.record_layout.specs.Fields.{number, numeral, absent, many, Field, fixed, type, id, stringReference, optionalType, optionalId, word, gap, numeric, size, string, run, methods, members, when, runBytes, wordAfter}
 use Rattle.record_layout.specs.Layouts.{Layout, Table}
 use Rattle.write_layout.specs.Runs.{noZero, pads}
 use Rattle.write_layout.specs.Fields.{ToWrite, Encoded, bad, only, ofNumber, ofNumeral, ofAbsent, ofMany, fixedBytes, optionalBytes, numericBytes, sizeBytes, stringBytes, writeField, and-also, writeFields}
-use Rattle.write_layout.specs.Records.{byLayout, writeLeaf}
+use Rattle.write_layout.specs.Records.{writtenBy, writeLeaf}
 use Rattle.write_layout.specs.RoundTrip.{InBytes, AllInBytes}
 
 pub both-small : (xs ys : List ℕ) → AllBytes xs → AllBytes ys → AllBytes (xs ++ ys)
@@ -33,7 +33,7 @@ zero-small : AllBytes (0 ∷ [])
 zero-small zero = omega arith
 zero-small (suc i) = omega arith
 
-wide-small : (prefix k n : ℕ) → AllBytes (wide prefix k n)
+wide-small : (prefix k n : ℕ) → AllBytes (prefixed prefix k n)
 wide-small prefix k n = both-small (bytes 2 prefix) (bytes k n) (bytes-small 2 prefix) (bytes-small k n)
 
 four : (a b c : Bool) (w x y z : List ℕ) → AllBytes w → AllBytes x → AllBytes y → AllBytes z → AllBytes (pick a w (pick b x (pick c y z)))
@@ -142,14 +142,14 @@ fields-sound [] w (v ∷ vs) i = refl
 fields-sound (f ∷ fs) w [] i = refl
 fields-sound (f ∷ fs) w (v ∷ vs) i = also-sound (writeField f w v) (writeFields fs (wordAfter f v w) vs) (field-sound f w v (i .0)) (fields-sound fs (wordAfter f v w) vs (i .1))
 
-layout-sound : (l : Option Layout) (vs : List ToWrite) → AllInBytes vs → Sound (byLayout l vs)
+layout-sound : (l : Option Layout) (vs : List ToWrite) → AllInBytes vs → Sound (writtenBy l vs)
 layout-sound none vs i = refl
 layout-sound (some fs) vs i = fields-sound fs 0 vs i
 
 pub leaf-sound : (table : Table) (vs : List ToWrite) → AllInBytes vs → Sound (writeLeaf table vs)
 unfolding writeLeaf AllInBytes
 leaf-sound table [] i = refl
-leaf-sound table (number leaf ∷ vs) i = also-sound (fixedBytes 2 leaf) (byLayout (find leaf table) vs) (fixed-sound 2 leaf) (layout-sound (find leaf table) vs (i .1))
+leaf-sound table (number leaf ∷ vs) i = also-sound (fixedBytes 2 leaf) (writtenBy (find leaf table) vs) (fixed-sound 2 leaf) (layout-sound (find leaf table) vs (i .1))
 leaf-sound table (numeral z u ∷ vs) i = refl
 leaf-sound table (absent ∷ vs) i = refl
 leaf-sound table (many x ∷ vs) i = refl

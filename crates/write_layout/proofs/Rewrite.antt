@@ -25,7 +25,7 @@ use Rattle.record_layout.specs.Layouts.{Layout, Table, readLeaf, leafOf, record
 use Rattle.record_layout.specs.Layouts as reading
 use Rattle.write_layout.specs.Runs.{partAt, noZero}
 use Rattle.write_layout.specs.Fields.{ToWrite, bytesIn, given, givenAll, Encoded, bad, only, ofNumber, ofNumeral, ofAbsent, ofMany, fixedBytes, optionalBytes, numericBytes, sizeBytes, stringBytes, writeField, and-also, writeFields}
-use Rattle.write_layout.specs.Records.{byLayout, writeLeaf, filled, recordBytes, writeRecord}
+use Rattle.write_layout.specs.Records.{writtenBy, writeLeaf, filled, recordBytes, writeRecord}
 use Rattle.write_layout.specs.RoundTrip.{InBytes, AllInBytes, WouldRead, Exactly17}
 use Rattle.write_layout.proofs.RunLaws.{part-length}
 use Rattle.write_layout.proofs.Back.{same-word}

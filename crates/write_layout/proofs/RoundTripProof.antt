@@ -21,7 +21,7 @@ use Rattle.record_layout.specs.Fields.{Value, Shown, number, numeral, absent, m
 use Rattle.record_layout.specs.Layouts.{Layout, Table, readLeaf, leafOf, recordOf}
 use Rattle.write_layout.specs.Runs.{pads}
 use Rattle.write_layout.specs.Fields.{ToWrite, given, givenAll, Encoded, fixedBytes}
-use Rattle.write_layout.specs.Records.{byLayout, writeLeaf, missing, filled, whole, recordBytes, writeRecord}
+use Rattle.write_layout.specs.Records.{writtenBy, writeLeaf, missing, filled, whole, recordBytes, writeRecord}
 use Rattle.write_layout.specs.RoundTrip.{InShortest, AllInShortest, ReadAs, FieldsReadBack, NoneShorter, NoShorter, ReadsBack, RecordReadsBack}
 use Rattle.write_layout.proofs.RunLaws.{length-pads}
 use Rattle.write_layout.proofs.Back.{refusal, passed, written-both, back}
@@ -55,7 +55,7 @@ pub record LeafBack (table : Table) (s : List ℕ) (vs : List ToWrite) : Type 0 
   pub shows : givenAll s values ≡ vs
   pub forms : NoShorter values
 
-by-layout : (table : Table) (l : Option Layout) (leaf : ℕ) (vs : List ToWrite) (s bs ys : List ℕ) → find leaf table ≡ l → byLayout l vs ≡ answered bs
+by-layout : (table : Table) (l : Option Layout) (leaf : ℕ) (vs : List ToWrite) (s bs ys : List ℕ) → find leaf table ≡ l → writtenBy l vs ≡ answered bs
     → (p : ℕ) → fixedAt 2 s 0 ≡ got leaf p → Stands s p bs ys → LeafBack table s (number leaf ∷ vs)
 unfolding recordOf leafOf readLeaf NoShorter
 by-layout table none leaf vs s bs ys f w p r st = refusal w
@@ -70,7 +70,7 @@ leaf-back table (numeral z u ∷ vs) bs ys w = refusal w
 leaf-back table (absent ∷ vs) bs ys w = refusal w
 leaf-back table (many x ∷ vs) bs ys w = refusal w
 leaf-back table (number leaf ∷ vs) bs ys w =
-    let b = written-both (fixedBytes 2 leaf) (byLayout (find leaf table) vs) bs w in
+    let b = written-both (fixedBytes 2 leaf) (writtenBy (find leaf table) vs) bs w in
     let a = passed (ltb leaf (256 ^ 2)) (bytes 2 leaf) (b .first-bytes) (b .first-is) in
     let zs = b .more-bytes in
     let e : bytes 2 leaf ++ zs ≡ bs = ap (λ (l : List ℕ). l ++ zs) (a .bytes-are) ∙ b .all-are in

@@ -13,7 +13,7 @@ use Rattle.field.specs.Bytes.{bytes}
 use Rattle.record_layout.specs.Fields.{number, numeral, absent, many}
 use Rattle.record_layout.specs.Layouts.{Layout, Table, typeLeaves}
 use Rattle.write_layout.specs.Fields.{ToWrite, Encoded, bad, fixedBytes, and-also}
-use Rattle.write_layout.specs.Records.{byLayout, writeLeaf, recordBytes, writeRecord}
+use Rattle.write_layout.specs.Records.{writtenBy, writeLeaf, recordBytes, writeRecord}
 use Rattle.write_layout.specs.Types.{without, elementLeaves, writtenLeaves, TypesWritten}
 
 -- what is found without some leaves

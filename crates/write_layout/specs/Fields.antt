@@ -4,7 +4,7 @@
 -- Strings and the elements of counted lists are given as parts of a lent text. `given` puts the bytes in place of the part; none where the part
 -- passes the end of the text. 17 is for what would not read back.
 use Prim.Native.Nat.{ℕ, _+_, _^_}
-use mathlib.Core.Bool.{Bool}
+use mathlib.Core.Bool.{Bool, true, false}
 use mathlib.Core.List.{List, [], _∷_, _++_}
 use mathlib.Core.Option.{Option, none, some}
 use lib.ListN.{length}
@@ -46,6 +46,15 @@ Encoded = Answer (List ℕ)
 
 abbrev pub bad : Encoded
 bad = refused 17 []
+
+-- whether they are bytes; and the bytes, none where they are refused
+abbrev pub encodes : Encoded → Bool
+encodes (answered bs) = true
+encodes (refused n d) = false
+
+abbrev pub encodedBytes : Encoded → List ℕ
+encodedBytes (answered bs) = bs
+encodedBytes (refused n d) = []
 
 -- the bytes if the test passes
 abbrev pub only : Bool → List ℕ → Encoded

@@ -6,7 +6,7 @@ use mathlib.Core.List.{List, [], _∷_, _++_}
 use lib.ListN.{length}
 use lib.Dec.{eqb}
 use Rattle.answer.specs.Answer.{answered, then}
-use Rattle.record_layout.specs.Fields.{number, numeral, absent, many, numberOr}
+use Rattle.record_layout.specs.Fields.{numberOr}
 use Rattle.record_layout.specs.Layouts.{memberLeaves, method}
 use Rattle.write_layout.specs.Runs.{pads}
 use Rattle.write_layout.specs.Fields.{ToWrite, Encoded, bad, fixedBytes, and-also, writeFields}
@@ -23,15 +23,15 @@ unfoldable pub memberBytes : List ToWrite → Encoded
 memberBytes vs = filledEach (writeLeaf memberLeaves vs)
 
 -- 0x1404 ends the list
-unfoldable pub ends : List ToWrite → Bool
-ends [] = false
-ends (v ∷ vs) = eqb (numberOr v 0) 0x1404
+unfoldable pub endsList : List ToWrite → Bool
+endsList [] = false
+endsList (v ∷ vs) = eqb (numberOr v 0) 0x1404
 
 -- members in order; 17 for one after a continuation
 unfoldable pub membersBytes : Bool → List (List ToWrite) → Encoded
 membersBytes ended [] = answered []
 membersBytes true (vs ∷ vss) = bad
-membersBytes false (vs ∷ vss) = and-also (memberBytes vs) (membersBytes (ends vs) vss)
+membersBytes false (vs ∷ vss) = and-also (memberBytes vs) (membersBytes (endsList vs) vss)
 
 unfoldable pub fieldListBytes : List (List ToWrite) → Encoded
 fieldListBytes vss = recordBytes (and-also (fixedBytes 2 0x1203) (membersBytes false vss))

@@ -13,13 +13,13 @@ use Rattle.write_layout.specs.Runs.{pads}
 use Rattle.write_layout.specs.Fields.{ToWrite, Encoded, bad, fixedBytes, and-also, writeFields}
 
 -- 17 for a leaf that the table does not have
-abbrev pub byLayout : Option Layout → List ToWrite → Encoded
-byLayout none vs = bad
-byLayout (some fs) vs = writeFields fs 0 vs
+abbrev pub writtenBy : Option Layout → List ToWrite → Encoded
+writtenBy none vs = bad
+writtenBy (some fs) vs = writeFields fs 0 vs
 
 -- the leaf, and the fields of its layout
 abbrev pub leafBytes : Table → ToWrite → List ToWrite → Encoded
-leafBytes table (number leaf) vs = and-also (fixedBytes 2 leaf) (byLayout (find leaf table) vs)
+leafBytes table (number leaf) vs = and-also (fixedBytes 2 leaf) (writtenBy (find leaf table) vs)
 leafBytes table (numeral z u) vs = bad
 leafBytes table absent vs = bad
 leafBytes table (many x) vs = bad

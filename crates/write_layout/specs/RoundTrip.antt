@@ -2,12 +2,12 @@
 -- that would not read back. proofs/RoundTripProof.antt has them.
 use Prim.Native.Nat.{ℕ, _+_, _%_, _≤_}
 use mathlib.Core.Path.{_≡_}
-use mathlib.Core.Bool.{true, false}
+use mathlib.Core.Bool.{false}
 use mathlib.Core.List.{List, [], _∷_, _++_}
 use mathlib.Core.Option.{none, some}
 use lib.ListN.{length}
 use lib.IntN.{ℤ}
-use Rattle.answer.specs.Answer.{Answer, answered, Read, got}
+use Rattle.answer.specs.Answer.{answered, Read, got}
 use Rattle.field.specs.Bytes.{bytes}
 use Rattle.field_text.specs.Texts.{Part}
 use Rattle.field_number.specs.Forms.{shortest, AllBytes}

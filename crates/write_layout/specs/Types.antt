@@ -5,7 +5,7 @@ use mathlib.Core.Bool.{true, false}
 use mathlib.Core.Path.{_≡_}
 use mathlib.Core.List.{List, [], _∷_}
 use Rattle.answer.specs.Answer.{answered, pick}
-use Rattle.answer.specs.Tables.{Line, _is_, among}
+use Rattle.answer.specs.Tables.{_is_, among}
 use Rattle.record_layout.specs.Fields.{number}
 use Rattle.record_layout.specs.Layouts.{Table, typeLeaves}
 use Rattle.write_layout.specs.Fields.{ToWrite, bad}

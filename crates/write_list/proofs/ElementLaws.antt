@@ -15,13 +15,13 @@ use Rattle.field.specs.Bytes.{bytes}
 use Rattle.field.proofs.ByteLaws.{length-bytes}
 use Rattle.field_put.specs.Bytes.{put, Puts, Room}
 use Rattle.write_layout.specs.Runs.{pads}
-use Rattle.write_layout.specs.Fields.{Encoded, bad, fixedBytes, and-also}
+use Rattle.write_layout.specs.Fields.{Encoded, bad, fixedBytes, and-also, encodes, encodedBytes}
 use Rattle.write_layout.specs.Records.{missing, limited, filled, recordBytes}
 use Rattle.write_layout.specs.Lists.{filledMember, filledEach}
 use Rattle.write_layout.specs.Buffer.{lay, Writes}
 use Rattle.write_layout.proofs.Padding.{missing-fills}
 use Rattle.write_pieces.proofs.RecordLaws.{member-length, refuse-long, refuse-small, laid}
-use Rattle.write_list.specs.Elements.{elementBytes, endsAfter, elementsBytes, good, held, goodAll, heldAll}
+use Rattle.write_list.specs.Elements.{elementBytes, endsAfter, elementsBytes, goodAll, heldAll}
 
 never : {X : Type 0} → false ≡ true → X
 never h = let z : _≡_ {A = ℕ} 0 1 = cc in absurd (omega arith)
@@ -43,8 +43,8 @@ measureOf leaf t true (row ∷ rows) n = refused 17 []
 measureOf leaf t false (row ∷ rows) n =
     then (then (elementBytes leaf t row) (λ bs. answered (min (length bs) 65536))) (λ k. measureOf leaf t (endsAfter leaf row) rows (min (n + (k + missing k)) 65536))
 
-held-sum : (n : ℕ) (bs : List ℕ) → min (min n 65536 + (min (length bs) 65536 + missing (min (length bs) 65536))) 65536 ≡ min (n + length (filledMember bs)) 65536
-held-sum n bs = go (leb (length bs) 65536) refl
+capped-sum : (n : ℕ) (bs : List ℕ) → min (min n 65536 + (min (length bs) 65536 + missing (min (length bs) 65536))) 65536 ≡ min (n + length (filledMember bs)) 65536
+capped-sum n bs = go (leb (length bs) 65536) refl
   where
     go : (b : Bool) → leb (length bs) 65536 ≡ b
         → min (min n 65536 + (min (length bs) 65536 + missing (min (length bs) 65536))) 65536 ≡ min (n + length (filledMember bs)) 65536
@@ -70,7 +70,7 @@ measure-is leaf t false (row ∷ rows) n = one (elementBytes leaf t row) (λ m. 
     one : (b : Encoded) → ((m : ℕ) → measureOf leaf t (endsAfter leaf row) rows (min m 65536) ≡ then (elementsBytes leaf t (endsAfter leaf row) rows) (λ bs. answered (min (m + length bs) 65536)))
         → then (then b (λ bs. answered (min (length bs) 65536))) (λ k. measureOf leaf t (endsAfter leaf row) rows (min (min n 65536 + (k + missing k)) 65536))
         ≡ then (and-also (then b (λ bs. answered (filledMember bs))) (elementsBytes leaf t (endsAfter leaf row) rows)) (λ bs. answered (min (n + length bs) 65536))
-    one (answered bs) ih = rw (held-sum n bs) (ih (n + length (filledMember bs)) ∙ two (filledMember bs) (elementsBytes leaf t (endsAfter leaf row) rows))
+    one (answered bs) ih = rw (capped-sum n bs) (ih (n + length (filledMember bs)) ∙ two (filledMember bs) (elementsBytes leaf t (endsAfter leaf row) rows))
     one (refused m d) ih = refl
 
 pub measure-all : (leaf : ℕ) (t : List ℕ) (rows : List (List ℕ)) → measureOf leaf t false rows 0 ≡ then (elementsBytes leaf t false rows) (λ bs. answered (min (length bs) 65536))
@@ -113,26 +113,26 @@ elements leaf t false (row ∷ rows) bs e =
   where
     go : (a b : Encoded) → elementsBytes leaf t (endsAfter leaf row) rows ≡ b → and-also (then a (λ xs. answered (filledMember xs))) b ≡ answered bs
         → ((ys : List ℕ) → elementsBytes leaf t (endsAfter leaf row) rows ≡ answered ys → Elements leaf t rows ys)
-        → (both (good a) (goodAll leaf t rows) ≡ true) × (filledMember (held a) ++ heldAll leaf t rows ≡ bs)
+        → (both (encodes a) (goodAll leaf t rows) ≡ true) × (filledMember (encodedBytes a) ++ heldAll leaf t rows ≡ bs)
     go (answered xs) (answered ys) f g ih = let m = ih ys f in (m .fine, rw (m .are) (cc))
     go (answered xs) (refused n d) f g ih = let z : _≡_ {A = ℕ} 0 1 = cc in absurd (omega arith)
     go (refused n d) b f g ih = let z : _≡_ {A = ℕ} 0 1 = cc in absurd (omega arith)
 
 module _ (leaf : ℕ) (t : List ℕ) (rows : List (List ℕ)) (i : ℕ) (d : List ℕ) (h : i < length rows) where
-  pub held-cons : heldAll leaf t (drop i rows) ≡ filledMember (held (elementBytes leaf t (getD rows i d))) ++ heldAll leaf t (drop (i + 1) rows)
+  pub held-cons : heldAll leaf t (drop i rows) ≡ filledMember (encodedBytes (elementBytes leaf t (getD rows i d))) ++ heldAll leaf t (drop (i + 1) rows)
   unfolding heldAll
   held-cons = rw (drop-cons rows i d, add-one)
 
-  pub held-length : length (heldAll leaf t (drop i rows)) ≡ length (filledMember (held (elementBytes leaf t (getD rows i d)))) + length (heldAll leaf t (drop (i + 1) rows))
-  held-length = ap length held-cons ∙ length-append (filledMember (held (elementBytes leaf t (getD rows i d)))) (heldAll leaf t (drop (i + 1) rows))
+  pub held-length : length (heldAll leaf t (drop i rows)) ≡ length (filledMember (encodedBytes (elementBytes leaf t (getD rows i d)))) + length (heldAll leaf t (drop (i + 1) rows))
+  held-length = ap length held-cons ∙ length-append (filledMember (encodedBytes (elementBytes leaf t (getD rows i d)))) (heldAll leaf t (drop (i + 1) rows))
 
-  pub good-head : goodAll leaf t (drop i rows) ≡ true → good (elementBytes leaf t (getD rows i d)) ≡ true
+  pub good-head : goodAll leaf t (drop i rows) ≡ true → encodes (elementBytes leaf t (getD rows i d)) ≡ true
   unfolding goodAll
   good-head e = both-left _ _ (rw (drop-cons rows i d) at e)
 
   pub good-tail : goodAll leaf t (drop i rows) ≡ true → goodAll leaf t (drop (i + 1) rows) ≡ true
   unfolding goodAll
-  good-tail e = rw add-one (both-right (good (elementBytes leaf t (getD rows i d))) _ (rw (drop-cons rows i d) at e))
+  good-tail e = rw add-one (both-right (encodes (elementBytes leaf t (getD rows i d))) _ (rw (drop-cons rows i d) at e))
 
 pub held-done : (leaf : ℕ) (t : List ℕ) (rows : List (List ℕ)) (i : ℕ) → length rows ≤ i → (s : List ℕ) (p : ℕ) → Puts s p (heldAll leaf t (drop i rows)) p s
 unfolding heldAll put
@@ -143,8 +143,8 @@ size-held (answered bs) k e = let f : min (length bs) 65536 ≡ k = cc in omega 
 size-held (refused n d) k e = let z : _≡_ {A = ℕ} 0 1 = cc in absurd (omega arith)
 
 -- an element that is good and has room was written
-pub element-put : (b : Encoded) (s : List ℕ) (p : ℕ) (r : Answer ℕ) (s′ : List ℕ) → good b ≡ true → length (filledMember (held b)) ≤ 65535 → Room s p (filledMember (held b))
-    → Writes s (lay (limited (filledEach b)) s p) r s′ → (r ≡ answered (p + length (filledMember (held b)))) × (s′ ≡ put s p (filledMember (held b)))
+pub element-put : (b : Encoded) (s : List ℕ) (p : ℕ) (r : Answer ℕ) (s′ : List ℕ) → encodes b ≡ true → length (filledMember (encodedBytes b)) ≤ 65535 → Room s p (filledMember (encodedBytes b))
+    → Writes s (lay (limited (filledEach b)) s p) r s′ → (r ≡ answered (p + length (filledMember (encodedBytes b)))) × (s′ ≡ put s p (filledMember (encodedBytes b)))
 unfolding lay limited filledEach
 element-put (refused n d) s p r s′ g l h w = never g
 element-put (answered bs) s p r s′ g l h w =
@@ -164,7 +164,7 @@ pub held-aligned : (leaf : ℕ) (t : List ℕ) (rows : List (List ℕ)) → leng
 unfolding heldAll
 held-aligned leaf t [] = refl
 held-aligned leaf t (row ∷ rows) =
-    let b = held (elementBytes leaf t row) in
+    let b = encodedBytes (elementBytes leaf t row) in
     omega (arith, length-append (filledMember b) (heldAll leaf t rows), member-length b, missing-fills (length b), held-aligned leaf t rows)
 
 nothing-missing : (n : ℕ) → n % 4 ≡ 0 → missing n ≡ 0

@@ -18,7 +18,7 @@ use Rattle.field_number.specs.Forms.{formOf}
 use Rattle.record_layout.specs.Fields.{Shown, number, numeral, absent, many, plain, Field, gap, wordAfter}
 use Rattle.word_attributes.specs.Words.{introducing}
 use Rattle.record_layout.specs.Layouts.{A, T, offset, Layout, Table, memberLeaves, method, readLeaf, readRecord}
-use Rattle.record_member.specs.Said.{leafIn, memberValues, entryValues}
+use Rattle.record_member.specs.Said.{memberLeaf, memberValues, entryValues}
 use Rattle.record_member.specs.declared.Member.{Member}
 use Rattle.record_member.specs.declared.MethodListEntry.{MethodListEntry}
 use Rattle.record_list.specs.Lists.{ElementValues, typeElement, idElement, memberElement, methodElement, Step, stepTo, toTheEnd, afterMember, startTypes, startOf, leftAfter, memberStep, methodStep, nextMember, stepOf, elementBy, elementOf}
@@ -26,16 +26,16 @@ use Rattle.record_list.specs.declared.ListCursor.{ListCursor}
 use Rattle.field.specs.declared.index.Stream.the-variants as stream
 use Rattle.write_layout.specs.Runs.{partAt, pads}
 use Rattle.write_layout.specs.Fields.{ToWrite, bytesIn, givenAll, Encoded, bad, fixedBytes, ofNumber, ofAbsent, and-also, writeField, writeFields}
-use Rattle.write_layout.specs.Records.{byLayout, writeLeaf, missing, filled, whole, recordBytes}
-use Rattle.write_layout.specs.Lists.{filledMember, filledEach, memberBytes, ends, membersBytes, methodsBytes, fieldListBytes, methodListBytes}
+use Rattle.write_layout.specs.Records.{writtenBy, writeLeaf, missing, filled, whole, recordBytes}
+use Rattle.write_layout.specs.Lists.{filledMember, filledEach, memberBytes, endsList, membersBytes, methodsBytes, fieldListBytes, methodListBytes}
 use Rattle.write_layout.specs.RoundTrip.{NoShorter}
 use Rattle.write_layout.proofs.RunLaws.{length-pads}
 use Rattle.write_layout.proofs.Back.{refusal, passed, Both, written-both, BackAll, back}
 use Rattle.write_layout.proofs.Padding.{missing-few, missing-fills, quiet, padding-back}
 use Rattle.write_layout.proofs.RoundTripProof.{no-shorter}
 use Rattle.write_pieces.proofs.RecordLaws.{member-length}
-use Rattle.write_row.specs.Rows.{rowValues, listMethod, memberRows, methodRows, memberRow, methodRow, RowsShow}
-use Rattle.write_row.proofs.RowLaws.{rows-show}
+use Rattle.write_list.specs.Rows.{rowValues, listMethod, memberRows, methodRows, rowOfMember, rowOfMethod, RowsShow}
+use Rattle.write_list.proofs.RowLaws.{rows-show}
 use Rattle.write_list.specs.ListsBack.{Shows, ElementIs, ListBack, MemberAt, InFours, ElementsAre, payloadIn, ListsReadBack}
 use Rattle.write_list.proofs.ListLaws.{fixed-long, gap-long, nothing-long, offset-long}
 
@@ -50,13 +50,13 @@ pub record RecordBack (table : Table) (s : List ℕ) (p : ℕ) (bs : List ℕ) (
   pub more-bytes : List ℕ
   pub leaf : ℕ
   pub begins : bs ≡ leaf % 256 ∷ more-bytes
-  pub leaf-is : leafIn values ≡ leaf
+  pub leaf-is : memberLeaf values ≡ leaf
   pub rest-given : List ToWrite
   pub leads-with : vs ≡ number leaf ∷ rest-given
   pub layout : Layout
   pub found : find leaf table ≡ some layout
 
-by-layout : (table : Table) (l : Option Layout) (leaf : ℕ) (vs : List ToWrite) (s : List ℕ) (p : ℕ) (bs zs ys : List ℕ) → find leaf table ≡ l → byLayout l vs ≡ answered zs
+by-layout : (table : Table) (l : Option Layout) (leaf : ℕ) (vs : List ToWrite) (s : List ℕ) (p : ℕ) (bs zs ys : List ℕ) → find leaf table ≡ l → writtenBy l vs ≡ answered zs
     → fixedAt 2 s p ≡ got leaf (p + length (bytes 2 leaf)) → Stands s (p + length (bytes 2 leaf)) zs ys → bytes 2 leaf ++ zs ≡ bs → RecordBack table s p bs (number leaf ∷ vs)
 unfolding readRecord readLeaf bytes NoShorter
 by-layout table none leaf vs s p bs zs ys f w r st e = refusal w
@@ -85,7 +85,7 @@ record-back table (numeral z u ∷ vs) s p bs ys w st = refusal w
 record-back table (absent ∷ vs) s p bs ys w st = refusal w
 record-back table (many x ∷ vs) s p bs ys w st = refusal w
 record-back table (number leaf ∷ vs) s p bs ys w st =
-    let b = written-both (fixedBytes 2 leaf) (byLayout (find leaf table) vs) bs w in
+    let b = written-both (fixedBytes 2 leaf) (writtenBy (find leaf table) vs) bs w in
     let a = passed (ltb leaf (256 ^ 2)) (bytes 2 leaf) (b .first-bytes) (b .first-is) in
     let zs = b .more-bytes in
     let e : bytes 2 leaf ++ zs ≡ bs = ap (λ (l : List ℕ). l ++ zs) (a .bytes-are) ∙ b .all-are in
@@ -93,9 +93,9 @@ record-back table (number leaf ∷ vs) s p bs ys w st =
     let f = fixed-back 2 leaf s p (zs ++ ys) (ltb-true _ _ (a .test-is)) (first s p (bytes 2 leaf) zs ys st′) in
     by-layout table (find leaf table) leaf vs s p bs zs ys refl (b .more-is) f (next s p (bytes 2 leaf) zs ys st′) e
 
-record-ends : (table : Table) (s : List ℕ) (p : ℕ) (bs : List ℕ) (vs : List ToWrite) (k : RecordBack table s p bs vs) → eqb (leafIn (k .values)) 0x1404 ≡ ends vs
-unfolding ends
-record-ends table s p bs vs k = rw (k .leaf-is) (sym (ap ends (k .leads-with)))
+record-ends : (table : Table) (s : List ℕ) (p : ℕ) (bs : List ℕ) (vs : List ToWrite) (k : RecordBack table s p bs vs) → eqb (memberLeaf (k .values)) 0x1404 ≡ endsList vs
+unfolding endsList
+record-ends table s p bs vs k = rw (k .leaf-is) (sym (ap endsList (k .leads-with)))
 
 -- no member's leaf begins with a byte that reads as padding
 quiet-step : (leaf m : ℕ) (b : Bool) → eqb leaf m ≡ b → m % 256 < 0xf0 → (a : Layout) (rest : Option Layout) (fs : Layout)
@@ -143,7 +143,7 @@ rest-quiet : (vss : List (List ToWrite)) (zs : List ℕ) → membersBytes false 
 unfolding membersBytes quiet filledMember
 rest-quiet [] zs w = let e : [] ≡ zs = cc in rw (← e)
 rest-quiet (vs ∷ vss) zs w =
-    let b = written-both (memberBytes vs) (membersBytes (ends vs) vss) zs w in
+    let b = written-both (memberBytes vs) (membersBytes (endsList vs) vss) zs w in
     let r = plain-of vs (b .first-bytes) (b .first-is) in
     let k = record-back memberLeaves vs (r .plain) 0 (r .plain) [] (r .said) (record { inside = omega arith; here = sym (append-nil (r .plain)) }) in
     let q : k .leaf % 256 < 0xf0 = leaf-quiet (k .leaf) (k .layout) (k .found) in
@@ -171,7 +171,7 @@ leads-first : (s : List ℕ) (p : ℕ) → Leads s (toTheEnd 0x1203 p) false p
 unfolding stepOf nextMember
 leads-first s p = record { step = refl }
 
-leads-on : (s : List ℕ) (p k : ℕ) (ys : List ℕ) (vs : List Shown) (ended : Bool) → eqb (leafIn vs) 0x1404 ≡ ended → k ≤ 3 → Stands s p (pads k) ys
+leads-on : (s : List ℕ) (p k : ℕ) (ys : List ℕ) (vs : List Shown) (ended : Bool) → eqb (memberLeaf vs) 0x1404 ≡ ended → k ≤ 3 → Stands s p (pads k) ys
     → (ended ≡ false → quiet ys ≡ true) → Leads s (afterMember p (leftAfter vs)) ended (p + k)
 unfolding stepOf nextMember
 leads-on s p k ys vs true e h st f = record { step = rw e }
@@ -186,14 +186,14 @@ record Here (vs : List ToWrite) (vss : List (List ToWrite)) (s : List ℕ) (q : 
   step : memberStep s q ≡ stepTo (memberElement values) (afterMember behind (leftAfter values))
   same : givenAll s values ≡ vs
   forms : NoShorter values
-  others : membersBytes (ends vs) vss ≡ answered more
+  others : membersBytes (endsList vs) vss ≡ answered more
   stand : Stands s place more []
-  leads : Leads s (afterMember behind (leftAfter values)) (ends vs) place
+  leads : Leads s (afterMember behind (leftAfter values)) (endsList vs) place
 
 here : (vs : List ToWrite) (vss : List (List ToWrite)) (bs s : List ℕ) (q : ℕ) → membersBytes false (vs ∷ vss) ≡ answered bs → Stands s q bs [] → Here vs vss s q
-unfolding membersBytes filledMember ends
+unfolding membersBytes filledMember endsList
 here vs vss bs s q w st =
-    let b = written-both (memberBytes vs) (membersBytes (ends vs) vss) bs w in
+    let b = written-both (memberBytes vs) (membersBytes (endsList vs) vss) bs w in
     let r = plain-of vs (b .first-bytes) (b .first-is) in
     let xs = r .plain in
     let zs = b .more-bytes in
@@ -204,8 +204,8 @@ here vs vss bs s q w st =
     let stp = next s q xs (pads m ++ zs) [] st1 in
     let stz : Stands s (q + length xs + m) zs [] = rw (length-pads m) at (next s (q + length xs) (pads m) zs [] stp) in
     let k = record-back memberLeaves vs s q xs _ (r .said) stx in
-    let f : eqb (leafIn (k .values)) 0x1404 ≡ ends vs = record-ends memberLeaves s q xs vs k in
-    let still : (ends vs ≡ false → quiet (zs ++ []) ≡ true) = λ g. rw (append-nil zs) (later-quiet (ends vs) g vss zs (b .more-is)) in
+    let f : eqb (memberLeaf (k .values)) 0x1404 ≡ endsList vs = record-ends memberLeaves s q xs vs k in
+    let still : (endsList vs ≡ false → quiet (zs ++ []) ≡ true) = λ g. rw (append-nil zs) (later-quiet (endsList vs) g vss zs (b .more-is)) in
     record {
       values = k .values;
       behind = q + length xs;
@@ -216,7 +216,7 @@ here vs vss bs s q w st =
       forms = k .forms;
       others = b .more-is;
       stand = stz;
-      leads = leads-on s (q + length xs) m (zs ++ []) (k .values) (ends vs) f (missing-few (length xs)) (first s (q + length xs) (pads m) zs [] stp) still;
+      leads = leads-on s (q + length xs) m (zs ++ []) (k .values) (endsList vs) f (missing-few (length xs)) (first s (q + length xs) (pads m) zs [] stp) still;
     }
 
 at-end : (s : List ℕ) (q : ℕ) → length s ≤ q → memberStep s q ≡ refused 15 []
@@ -243,7 +243,7 @@ members-back false (vs ∷ vss) bs s q w st zero c l =
     record { values = h .values; element = rw (l .step, h .step); same = h .same; forms = h .forms }
 members-back false (vs ∷ vss) bs s q w st (suc k) c l =
     let h = here vs vss bs s q w st in
-    rw (l .step, h .step) (members-back (ends vs) vss (h .more) s (h .place) (h .others) (h .stand) k _ (h .leads))
+    rw (l .step, h .step) (members-back (endsList vs) vss (h .more) s (h .place) (h .others) (h .stand) k _ (h .leads))
 
 members-aligned : (ended : Bool) (vss : List (List ToWrite)) (bs : List ℕ) → membersBytes ended vss ≡ answered bs → length bs % 4 ≡ 0
 unfolding membersBytes
@@ -251,10 +251,10 @@ members-aligned true [] bs w = let e : [] ≡ bs = cc in rw (← e)
 members-aligned false [] bs w = let e : [] ≡ bs = cc in rw (← e)
 members-aligned true (vs ∷ vss) bs w = refusal w
 members-aligned false (vs ∷ vss) bs w =
-    let b = written-both (memberBytes vs) (membersBytes (ends vs) vss) bs w in
+    let b = written-both (memberBytes vs) (membersBytes (endsList vs) vss) bs w in
     let r = plain-of vs (b .first-bytes) (b .first-is) in
     let one : length (b .first-bytes) ≡ length (r .plain) + missing (length (r .plain)) = sym (ap length (r .filling)) ∙ member-length (r .plain) in
-    let more = members-aligned (ends vs) vss (b .more-bytes) (b .more-is) in
+    let more = members-aligned (endsList vs) vss (b .more-bytes) (b .more-is) in
     omega (arith, ap length (b .all-are), length-append (b .first-bytes) (b .more-bytes), missing-fills (length (r .plain)), one, more)
 
 -- Methods -------------------------------------------------------------------------------------------------------------------------
@@ -489,7 +489,7 @@ members-fours false [] bs s q w st f =
     omega (arith, length-drop q s, st .inside)
 members-fours true (vs ∷ vss) bs s q w st f = refusal w
 members-fours false (vs ∷ vss) bs s q w st f =
-    let b = written-both (memberBytes vs) (membersBytes (ends vs) vss) bs w in
+    let b = written-both (memberBytes vs) (membersBytes (endsList vs) vss) bs w in
     let r = plain-of vs (b .first-bytes) (b .first-is) in
     let xs = r .plain in
     let zs = b .more-bytes in
@@ -512,7 +512,7 @@ members-fours false (vs ∷ vss) bs s q w st f =
         padded = ap (λ (l : List ℕ). take m l) (first s (q + length xs) (pads m) zs [] stp .here) ∙ take-at (pads m) (zs ++ []) m (length-pads m);
         next = refl;
       },
-      members-fours (ends vs) vss zs s (q + length xs + m) (b .more-is) stz z,
+      members-fours (endsList vs) vss zs s (q + length xs + m) (b .more-is) stz z,
     )
 
 starts : (vss : List (List ToWrite)) (rs : List ℕ) → fieldListBytes vss ≡ answered rs → InFours rs 4 vss
@@ -576,33 +576,33 @@ method-one : (x y : List Shown) → methodElement x ≡ methodElement y → x �
 unfolding values-in
 method-one x y e = ap values-in e
 
-member-rows : (t : List ℕ) (ms : List Member) → memberRows t (map memberRow ms) ≡ map (λ (m : Member). givenAll t (rowValues (memberRow m))) ms
+member-rows : (t : List ℕ) (ms : List Member) → memberRows t (map rowOfMember ms) ≡ map (λ (m : Member). givenAll t (rowValues (rowOfMember m))) ms
 unfolding memberRows
 member-rows t [] = refl
-member-rows t (m ∷ ms) = ap (λ (l : List (List ToWrite)). givenAll t (rowValues (memberRow m)) ∷ l) (member-rows t ms)
+member-rows t (m ∷ ms) = ap (λ (l : List (List ToWrite)). givenAll t (rowValues (rowOfMember m)) ∷ l) (member-rows t ms)
 
-method-rows : (t : List ℕ) (ms : List MethodListEntry) → methodRows t (map methodRow ms) ≡ map (λ (m : MethodListEntry). givenAll t (listMethod (methodRow m))) ms
+method-rows : (t : List ℕ) (ms : List MethodListEntry) → methodRows t (map rowOfMethod ms) ≡ map (λ (m : MethodListEntry). givenAll t (listMethod (rowOfMethod m))) ms
 unfolding methodRows
 method-rows t [] = refl
-method-rows t (m ∷ ms) = ap (λ (l : List (List ToWrite)). givenAll t (listMethod (methodRow m)) ∷ l) (method-rows t ms)
+method-rows t (m ∷ ms) = ap (λ (l : List (List ToWrite)). givenAll t (listMethod (rowOfMethod m)) ∷ l) (method-rows t ms)
 
 payload-is : (rs x : List ℕ) → rs ≡ bytes 2 (length x) ++ x → x ≡ payloadIn rs
 payload-is rs x e = sym (ap (drop 2) e ∙ drop-at (bytes 2 (length x)) x 2 (length-bytes 2 (length x)))
 
 fields-again : (vss : List (List ToWrite)) (rs : List ℕ) (ms : List Member) → ListBack memberElement vss rs → fieldListBytes vss ≡ answered rs
-    → ElementsAre (λ m. memberElement (memberValues m)) (elementOf stream.Types (payloadIn rs)) ms → fieldListBytes (memberRows (payloadIn rs) (map memberRow ms)) ≡ answered rs
+    → ElementsAre (λ m. memberElement (memberValues m)) (elementOf stream.Types (payloadIn rs)) ms → fieldListBytes (memberRows (payloadIn rs) (map rowOfMember ms)) ≡ answered rs
 fields-again vss rs ms b w h =
     let t = payloadIn rs in
     let f = subst (λ (x : List ℕ). (k : ℕ) → ElementIs memberElement x vss k (elementOf stream.Types x k)) (payload-is rs (b .payload) (b .is-link)) (b .element) in
-    let e = elements-same memberElement member-one memberValues (λ m. givenAll t (rowValues (memberRow m))) t (λ m. ap (givenAll t) (rows-show .of-member m) ∙ given-plain t (memberValues m)) vss (elementOf stream.Types t) ms f h in
+    let e = elements-same memberElement member-one memberValues (λ m. givenAll t (rowValues (rowOfMember m))) t (λ m. ap (givenAll t) (rows-show .of-member m) ∙ given-plain t (memberValues m)) vss (elementOf stream.Types t) ms f h in
     ap fieldListBytes (member-rows t ms ∙ e) ∙ w
 
 methods-again : (vss : List (List ToWrite)) (rs : List ℕ) (ms : List MethodListEntry) → ListBack methodElement vss rs → methodListBytes vss ≡ answered rs
-    → ElementsAre (λ m. methodElement (entryValues m)) (elementOf stream.Types (payloadIn rs)) ms → methodListBytes (methodRows (payloadIn rs) (map methodRow ms)) ≡ answered rs
+    → ElementsAre (λ m. methodElement (entryValues m)) (elementOf stream.Types (payloadIn rs)) ms → methodListBytes (methodRows (payloadIn rs) (map rowOfMethod ms)) ≡ answered rs
 methods-again vss rs ms b w h =
     let t = payloadIn rs in
     let f = subst (λ (x : List ℕ). (k : ℕ) → ElementIs methodElement x vss k (elementOf stream.Types x k)) (payload-is rs (b .payload) (b .is-link)) (b .element) in
-    let e = elements-same methodElement method-one entryValues (λ m. givenAll t (listMethod (methodRow m))) t (λ m. ap (givenAll t) (rows-show .of-method m) ∙ given-plain t (entryValues m)) vss (elementOf stream.Types t) ms f h in
+    let e = elements-same methodElement method-one entryValues (λ m. givenAll t (listMethod (rowOfMethod m))) t (λ m. ap (givenAll t) (rows-show .of-method m) ∙ given-plain t (entryValues m)) vss (elementOf stream.Types t) ms f h in
     ap methodListBytes (method-rows t ms ∙ e) ∙ w
 
 fields-back : (vss : List (List ToWrite)) (rs : List ℕ) → fieldListBytes vss ≡ answered rs → ListBack memberElement vss rs

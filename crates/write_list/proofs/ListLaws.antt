@@ -16,40 +16,40 @@ use Rattle.record_layout.specs.Layouts.{T, offset, method}
 use Rattle.write_layout.specs.Runs.{pads}
 use Rattle.write_layout.specs.Fields.{ToWrite, Encoded, bad, only, fixedBytes, given, givenAll, ofAbsent, ofNumber, and-also, writeField, writeFields}
 use Rattle.write_layout.specs.Records.{missing}
-use Rattle.write_layout.specs.Lists.{filledMember, filledEach, memberBytes, ends, membersBytes, methodsBytes}
+use Rattle.write_layout.specs.Lists.{filledMember, filledEach, memberBytes, endsList, membersBytes, methodsBytes}
 use Rattle.write_layout.proofs.Back.{Both, written-both}
-use Rattle.write_row.specs.Rows.{Bare, at, presentOf, baseClass, directBase, indirectBase, continuation, tablePointer, enumerate, dataMember, staticMember, overloads, nested, oneMethod, rowValues, listMethod, memberRows, methodRows}
+use Rattle.write_list.specs.Rows.{Bare, slotAt, presentOf, baseClass, directBase, indirectBase, continuation, tablePointer, enumerate, dataMember, staticMember, overloads, nested, oneMethod, rowValues, listMethod, memberRows, methodRows}
 use Rattle.write_list.specs.Elements.{elementBytes, endsAfter, elementsBytes}
 
 -- Members -------------------------------------------------------------------------------------------------------------------------
 
-pick-ends : (t : List ℕ) (b : Bool) (x y : List Bare) (r : Bool) → (b ≡ true → ends (givenAll t x) ≡ r) → (b ≡ false → ends (givenAll t y) ≡ r)
-    → ends (givenAll t (pick b x y)) ≡ r
+pick-ends : (t : List ℕ) (b : Bool) (x y : List Bare) (r : Bool) → (b ≡ true → endsList (givenAll t x) ≡ r) → (b ≡ false → endsList (givenAll t y) ≡ r)
+    → endsList (givenAll t (pick b x y)) ≡ r
 pick-ends t true x y r f g = f refl
 pick-ends t false x y r f g = g refl
 
 -- the values of a row end the list exactly if its first number is 0x1404
-pub row-ends : (t row : List ℕ) → ends (givenAll t (rowValues row)) ≡ eqb (at 0 row) 0x1404
-unfolding ends rowValues baseClass directBase indirectBase continuation tablePointer enumerate dataMember staticMember overloads nested oneMethod
+pub row-ends : (t row : List ℕ) → endsList (givenAll t (rowValues row)) ≡ eqb (slotAt 0 row) 0x1404
+unfolding endsList rowValues baseClass directBase indirectBase continuation tablePointer enumerate dataMember staticMember overloads nested oneMethod
 row-ends t row =
-    pick-ends t (eqb (at 0 row) 0x1400) (baseClass row) _ _ (λ e. rw (eqb-true (at 0 row) 0x1400 e)) (λ _.
-    pick-ends t (eqb (at 0 row) 0x1401) (directBase row) _ _ (λ e. rw (eqb-true (at 0 row) 0x1401 e)) (λ _.
-    pick-ends t (eqb (at 0 row) 0x1402) (indirectBase row) _ _ (λ e. rw (eqb-true (at 0 row) 0x1402 e)) (λ _.
-    pick-ends t (eqb (at 0 row) 0x1404) (continuation row) _ _ (λ e. sym e) (λ f.
-    pick-ends t (eqb (at 0 row) 0x1409) (tablePointer row) _ _ (λ e. sym f) (λ _.
-    pick-ends t (eqb (at 0 row) 0x1502) (enumerate row) _ _ (λ e. sym f) (λ _.
-    pick-ends t (eqb (at 0 row) 0x150d) (dataMember row) _ _ (λ e. sym f) (λ _.
-    pick-ends t (eqb (at 0 row) 0x150e) (staticMember row) _ _ (λ e. sym f) (λ _.
-    pick-ends t (eqb (at 0 row) 0x150f) (overloads row) _ _ (λ e. sym f) (λ _.
-    pick-ends t (eqb (at 0 row) 0x1510) (nested row) _ _ (λ e. sym f) (λ _.
-    pick-ends t (eqb (at 0 row) 0x1511) (oneMethod row) [] _ (λ e. sym f) (λ _. sym f)))))))))))
+    pick-ends t (eqb (slotAt 0 row) 0x1400) (baseClass row) _ _ (λ e. rw (eqb-true (slotAt 0 row) 0x1400 e)) (λ _.
+    pick-ends t (eqb (slotAt 0 row) 0x1401) (directBase row) _ _ (λ e. rw (eqb-true (slotAt 0 row) 0x1401 e)) (λ _.
+    pick-ends t (eqb (slotAt 0 row) 0x1402) (indirectBase row) _ _ (λ e. rw (eqb-true (slotAt 0 row) 0x1402 e)) (λ _.
+    pick-ends t (eqb (slotAt 0 row) 0x1404) (continuation row) _ _ (λ e. sym e) (λ f.
+    pick-ends t (eqb (slotAt 0 row) 0x1409) (tablePointer row) _ _ (λ e. sym f) (λ _.
+    pick-ends t (eqb (slotAt 0 row) 0x1502) (enumerate row) _ _ (λ e. sym f) (λ _.
+    pick-ends t (eqb (slotAt 0 row) 0x150d) (dataMember row) _ _ (λ e. sym f) (λ _.
+    pick-ends t (eqb (slotAt 0 row) 0x150e) (staticMember row) _ _ (λ e. sym f) (λ _.
+    pick-ends t (eqb (slotAt 0 row) 0x150f) (overloads row) _ _ (λ e. sym f) (λ _.
+    pick-ends t (eqb (slotAt 0 row) 0x1510) (nested row) _ _ (λ e. sym f) (λ _.
+    pick-ends t (eqb (slotAt 0 row) 0x1511) (oneMethod row) [] _ (λ e. sym f) (λ _. sym f)))))))))))
 
 pub members-are : (t : List ℕ) (ended : Bool) (rows : List (List ℕ)) → elementsBytes 0x1203 t ended rows ≡ membersBytes ended (memberRows t rows)
 unfolding elementsBytes elementBytes endsAfter membersBytes memberBytes memberRows
 members-are t true [] = refl
 members-are t false [] = refl
 members-are t true (row ∷ rows) = refl
-members-are t false (row ∷ rows) = rw (row-ends t row, members-are t (eqb (at 0 row) 0x1404) rows)
+members-are t false (row ∷ rows) = rw (row-ends t row, members-are t (eqb (slotAt 0 row) 0x1404) rows)
 
 -- Methods -------------------------------------------------------------------------------------------------------------------------
 
@@ -128,6 +128,6 @@ unfolding elementsBytes elementBytes endsAfter methodsBytes methodRows listMetho
 methods-are t [] = refl
 methods-are t (row ∷ rows) =
     rw (
-      unfilled (writeFields method 0 (givenAll t (listMethod row))) (λ bs e. method-aligned (at 0 row) (at 1 row) (given t (presentOf (at 2 row) (at 3 row))) bs e),
+      unfilled (writeFields method 0 (givenAll t (listMethod row))) (λ bs e. method-aligned (slotAt 0 row) (slotAt 1 row) (given t (presentOf (slotAt 2 row) (slotAt 3 row))) bs e),
       methods-are t rows,
     )

@@ -22,12 +22,12 @@ use Rattle.record_layout.specs.Layouts.{Layout, Table, memberLeaves, method, re
 use Rattle.record_layout.specs.Layouts as reading
 use Rattle.record_list.specs.Lists.{ElementValues, typeElement, idElement, memberElement, methodElement, Step, stepTo, toTheEnd, afterMember, startTypes, startOf, leftAfter, memberStep, methodStep, nextMember, stepOf, elementBy, elementOf}
 use Rattle.record_list.specs.declared.ListCursor.{ListCursor}
-use Rattle.record_member.specs.Said.{leafIn}
+use Rattle.record_member.specs.Said.{memberLeaf}
 use Rattle.field.specs.declared.index.Stream.the-variants as stream
 use Rattle.write_layout.specs.Runs.{pads}
 use Rattle.write_layout.specs.Fields.{ToWrite, givenAll, Encoded, bad, fixedBytes, and-also, writeFields}
 use Rattle.write_layout.specs.Records.{writeLeaf, missing, filled, recordBytes}
-use Rattle.write_layout.specs.Lists.{filledMember, filledEach, memberBytes, ends, membersBytes, methodsBytes, fieldListBytes, methodListBytes}
+use Rattle.write_layout.specs.Lists.{filledMember, filledEach, memberBytes, endsList, membersBytes, methodsBytes, fieldListBytes, methodListBytes}
 use Rattle.write_layout.specs.RoundTrip.{AllInBytes}
 use Rattle.write_layout.proofs.Back.{refusal, written-both}
 use Rattle.write_layout.proofs.Octets.{both-small, Sound, leaf-sound}
@@ -105,8 +105,8 @@ method-read s p x h = go (readFieldsBy formOf method 0 s p) refl (stop-from (leb
     go (refused n d) e k = no-answer k
 
 -- whether a member ends its list is said by its values, as they are read and as they are given
-given-ends : (s : List ℕ) (vs : List Shown) → ends (givenAll s vs) ≡ eqb (leafIn vs) 0x1404
-unfolding ends
+given-ends : (s : List ℕ) (vs : List Shown) → endsList (givenAll s vs) ≡ eqb (memberLeaf vs) 0x1404
+unfolding endsList
 given-ends s [] = refl
 given-ends s (number n ∷ vs) = refl
 given-ends s (numeral z f ∷ vs) = refl
@@ -144,12 +144,12 @@ module _ (s : List ℕ) (small : AllBytes s) where
       let g : givenAll s (r .values) ≡ vs = ap (givenAll s) v ∙ z .same in
       let a = re-at memberLeaves s small (r .place) (r .values) (r .behind) (r .read) in
       let e : writeLeaf memberLeaves vs ≡ answered (a .out) = subst (λ (w : List ToWrite). writeLeaf memberLeaves w ≡ answered (a .out)) g (a .answer) in
-      let l : eqb (leafIn (r .values)) 0x1404 ≡ ends vs = sym (given-ends s (r .values)) ∙ ap ends g in
-      let later : (k : ℕ) → ElementAs memberElement s vss k (elementBy (stepOf s) k (inMembers (r .behind) (ends vs) true)) =
+      let l : eqb (memberLeaf (r .values)) 0x1404 ≡ endsList vs = sym (given-ends s (r .values)) ∙ ap endsList g in
+      let later : (k : ℕ) → ElementAs memberElement s vss k (elementBy (stepOf s) k (inMembers (r .behind) (endsList vs) true)) =
       λ k. subst (λ (b : Bool). ElementAs memberElement s vss k (elementBy (stepOf s) k (inMembers (r .behind) b true))) l
       (subst (λ (x : Answer Step). ElementAs memberElement s vss k (then x (λ y. elementBy (stepOf s) k (y .next)))) (t .1 ∙ ap (λ (x : Step). answered x) (r .made)) (f (suc k))) in
-      both-answer (memberBytes vs) (membersBytes (ends vs) vss) (record { out = filledMember (a .out); answer = rw e })
-      (members-answer vss (ends vs) (r .behind) true later)
+      both-answer (memberBytes vs) (membersBytes (endsList vs) vss) (record { out = filledMember (a .out); answer = rw e })
+      (members-answer vss (endsList vs) (r .behind) true later)
 
   methods-answer : (vss : List (List ToWrite)) (p : ℕ) → ((k : ℕ) → ElementAs methodElement s vss k (elementBy (stepOf s) k (toTheEnd 0x1206 p))) → Answers (methodsBytes vss)
   unfolding methodsBytes ElementAs elementBy stepOf values-of
@@ -239,7 +239,7 @@ members-sound : (ended : Bool) (vss : List (List ToWrite)) → EachInBytes vss �
 unfolding membersBytes memberBytes EachInBytes
 members-sound ended [] i = λ k. omega arith
 members-sound true (vs ∷ vss) i = refl
-members-sound false (vs ∷ vss) i = also-sound (memberBytes vs) (membersBytes (ends vs) vss) (filled-sound (writeLeaf memberLeaves vs) (leaf-sound memberLeaves vs (i .0))) (members-sound (ends vs) vss (i .1))
+members-sound false (vs ∷ vss) i = also-sound (memberBytes vs) (membersBytes (endsList vs) vss) (filled-sound (writeLeaf memberLeaves vs) (leaf-sound memberLeaves vs (i .0))) (members-sound (endsList vs) vss (i .1))
 
 -- a method is the record of a table of one layout, but for its leaf
 abbrev alone : Table

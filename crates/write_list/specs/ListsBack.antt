@@ -19,7 +19,7 @@ use Rattle.write_layout.specs.Runs.{partAt, pads}
 use Rattle.write_layout.specs.Fields.{ToWrite, givenAll, bad}
 use Rattle.write_layout.specs.Lists.{fieldListBytes, methodListBytes}
 use Rattle.write_layout.specs.RoundTrip.{NoShorter, AllInBytes}
-use Rattle.write_row.specs.Rows.{memberRows, methodRows, memberRow, methodRow}
+use Rattle.write_list.specs.Rows.{memberRows, methodRows, rowOfMember, rowOfMethod}
 
 -- an element of this kind, read from s, that shows vs
 pub record Shows (kind : List Shown → ElementValues) (s : List ℕ) (vs : List ToWrite) (a : Answer ElementValues) : Type 0 where
@@ -78,10 +78,10 @@ pub record ListsReadBack : Type 0 where
   -- for the text
   pub fields-again : (vss : List (List ToWrite)) (rs : List ℕ) (ms : List Member) → fieldListBytes vss ≡ answered rs
       → ElementsAre (λ m. memberElement (memberValues m)) (elementOf stream.Types (payloadIn rs)) ms
-      → fieldListBytes (memberRows (payloadIn rs) (map memberRow ms)) ≡ answered rs
+      → fieldListBytes (memberRows (payloadIn rs) (map rowOfMember ms)) ≡ answered rs
   pub methods-again : (vss : List (List ToWrite)) (rs : List ℕ) (ms : List MethodListEntry) → methodListBytes vss ≡ answered rs
       → ElementsAre (λ m. methodElement (entryValues m)) (elementOf stream.Types (payloadIn rs)) ms
-      → methodListBytes (methodRows (payloadIn rs) (map methodRow ms)) ≡ answered rs
+      → methodListBytes (methodRows (payloadIn rs) (map rowOfMethod ms)) ≡ answered rs
 
 -- 17 ------------------------------------------------------------------------------------------------------------------------------
 

@@ -1,6 +1,8 @@
 // A field list, 0x1203, and a method list, 0x1206, with all their elements in one call, into a lent buffer. The elements are rows of numbers
-// (crates/write_row), their strings parts of a lent text. Every row is looked at before the first byte is written, so that 17 of any element comes
+// (rows.rt), their strings parts of a lent text. Every row is looked at before the first byte is written, so that 17 of any element comes
 // before 18 and 19 of the whole.
+pub mod rows;
+
 ghost use mathlib.Core.Bool.{true, false};
 ghost use mathlib.Core.Path.{_≡_};
 ghost use mathlib.Core.List.{List, _++_};
@@ -11,13 +13,13 @@ ghost use Rattle.answer.specs.Answer.{answered, then};
 ghost use Rattle.field.specs.Bytes.{bytes};
 ghost use Rattle.field_put.specs.Bytes.{Puts, Room};
 ghost use Rattle.record_layout.specs.Layouts.{memberLeaves, method, S, offset};
-ghost use Rattle.write_layout.specs.Fields.{givenAll, bad, fixedBytes, numericBytes, ofNumber, writeField, writeFields, and-also};
+ghost use Rattle.write_layout.specs.Fields.{givenAll, bad, fixedBytes, numericBytes, ofNumber, writeField, writeFields, and-also, encodes, encodedBytes};
 ghost use Rattle.write_layout.specs.Records.{writeLeaf, missing, recordBytes};
 ghost use Rattle.write_layout.specs.Lists.{filledMember, fieldListBytes, methodListBytes};
 ghost use Rattle.write_layout.specs.Buffer.{lay, Writes};
 ghost use Rattle.write_pieces.specs.Pieces.{pieceOf, piecesOf, saidMeasure, saidWrite};
-ghost use Rattle.write_row.specs.Rows.{partOf, signedOf, presentOf, baseClass, directBase, indirectBase, continuation, tablePointer, enumerate, dataMember, staticMember, overloads, nested, oneMethod, listMethod, memberRows, methodRows};
-ghost use Rattle.write_list.specs.Elements.{givenBare, elementBytes, endsAfter, elementsBytes, good, held, goodAll, heldAll};
+ghost use Rattle.write_list.specs.Rows.{textToWrite, signedOf, presentOf, baseClass, directBase, indirectBase, continuation, tablePointer, enumerate, dataMember, staticMember, overloads, nested, oneMethod, listMethod, memberRows, methodRows};
+ghost use Rattle.write_list.specs.Elements.{givenBare, elementBytes, endsAfter, elementsBytes, goodAll, heldAll};
 use answer::Refusal;
 use write_pieces::Measure;
 use write_pieces::Piece;
@@ -67,13 +69,13 @@ fn signed(sign: u64, n: u64) -> Piece
     ensures { λ r. ⌜ ((t : List ℕ) → pieceOf t r ≡ numericBytes (signedOf sign n)) ⌝ }
 {
     if sign == 0 {
-        return write_fit::natural(n);
+        return write_pieces::fields::natural(n);
     }
     negative(n)
 }
 
 fn part_text(place: u64, length: u64) -> Piece
-    ensures { λ r. ⌜ ((t : List ℕ) (w : ℕ) → pieceOf t r ≡ writeField S w (givenBare t (partOf place length))) ⌝ }
+    ensures { λ r. ⌜ ((t : List ℕ) (w : ℕ) → pieceOf t r ≡ writeField S w (givenBare t (textToWrite place length))) ⌝ }
 {
     Piece::Text(place as usize, length as usize)
 }
@@ -110,10 +112,10 @@ fn base_class(row: [u64; 8]) -> [Piece; 16]
     ensures { λ xs. ⌜ ((t : List ℕ) → piecesOf t xs ≡ writeLeaf memberLeaves (givenAll t (baseClass row))) ⌝ }
 {
     let mut xs = [Piece::Nothing; 16];
-    xs[0] = write_fit::half(0x1400);
+    xs[0] = write_pieces::fields::two_bytes(0x1400);
     xs[1] = narrow16(row[1]);
     xs[2] = narrow32(row[2]);
-    xs[3] = write_fit::natural(row[3]);
+    xs[3] = write_pieces::fields::natural(row[3]);
     xs
 }
 
@@ -121,12 +123,12 @@ fn direct_base(row: [u64; 8]) -> [Piece; 16]
     ensures { λ xs. ⌜ ((t : List ℕ) → piecesOf t xs ≡ writeLeaf memberLeaves (givenAll t (directBase row))) ⌝ }
 {
     let mut xs = [Piece::Nothing; 16];
-    xs[0] = write_fit::half(0x1401);
+    xs[0] = write_pieces::fields::two_bytes(0x1401);
     xs[1] = narrow16(row[1]);
     xs[2] = narrow32(row[2]);
     xs[3] = narrow32(row[3]);
-    xs[4] = write_fit::natural(row[4]);
-    xs[5] = write_fit::natural(row[5]);
+    xs[4] = write_pieces::fields::natural(row[4]);
+    xs[5] = write_pieces::fields::natural(row[5]);
     xs
 }
 
@@ -134,12 +136,12 @@ fn indirect_base(row: [u64; 8]) -> [Piece; 16]
     ensures { λ xs. ⌜ ((t : List ℕ) → piecesOf t xs ≡ writeLeaf memberLeaves (givenAll t (indirectBase row))) ⌝ }
 {
     let mut xs = [Piece::Nothing; 16];
-    xs[0] = write_fit::half(0x1402);
+    xs[0] = write_pieces::fields::two_bytes(0x1402);
     xs[1] = narrow16(row[1]);
     xs[2] = narrow32(row[2]);
     xs[3] = narrow32(row[3]);
-    xs[4] = write_fit::natural(row[4]);
-    xs[5] = write_fit::natural(row[5]);
+    xs[4] = write_pieces::fields::natural(row[4]);
+    xs[5] = write_pieces::fields::natural(row[5]);
     xs
 }
 
@@ -147,8 +149,8 @@ fn list_end(row: [u64; 8]) -> [Piece; 16]
     ensures { λ xs. ⌜ ((t : List ℕ) → piecesOf t xs ≡ writeLeaf memberLeaves (givenAll t (continuation row))) ⌝ }
 {
     let mut xs = [Piece::Nothing; 16];
-    xs[0] = write_fit::half(0x1404);
-    xs[1] = write_fit::gap();
+    xs[0] = write_pieces::fields::two_bytes(0x1404);
+    xs[1] = write_pieces::fields::unnamed();
     xs[2] = narrow32(row[1]);
     xs
 }
@@ -157,8 +159,8 @@ fn table_pointer(row: [u64; 8]) -> [Piece; 16]
     ensures { λ xs. ⌜ ((t : List ℕ) → piecesOf t xs ≡ writeLeaf memberLeaves (givenAll t (tablePointer row))) ⌝ }
 {
     let mut xs = [Piece::Nothing; 16];
-    xs[0] = write_fit::half(0x1409);
-    xs[1] = write_fit::gap();
+    xs[0] = write_pieces::fields::two_bytes(0x1409);
+    xs[1] = write_pieces::fields::unnamed();
     xs[2] = narrow32(row[1]);
     xs
 }
@@ -167,7 +169,7 @@ fn enumerate_value(row: [u64; 8]) -> [Piece; 16]
     ensures { λ xs. ⌜ ((t : List ℕ) → piecesOf t xs ≡ writeLeaf memberLeaves (givenAll t (enumerate row))) ⌝ }
 {
     let mut xs = [Piece::Nothing; 16];
-    xs[0] = write_fit::half(0x1502);
+    xs[0] = write_pieces::fields::two_bytes(0x1502);
     xs[1] = narrow16(row[1]);
     xs[2] = signed(row[2], row[3]);
     xs[3] = part_text(row[4], row[5]);
@@ -178,10 +180,10 @@ fn data_member(row: [u64; 8]) -> [Piece; 16]
     ensures { λ xs. ⌜ ((t : List ℕ) → piecesOf t xs ≡ writeLeaf memberLeaves (givenAll t (dataMember row))) ⌝ }
 {
     let mut xs = [Piece::Nothing; 16];
-    xs[0] = write_fit::half(0x150d);
+    xs[0] = write_pieces::fields::two_bytes(0x150d);
     xs[1] = narrow16(row[1]);
     xs[2] = narrow32(row[2]);
-    xs[3] = write_fit::natural(row[3]);
+    xs[3] = write_pieces::fields::natural(row[3]);
     xs[4] = part_text(row[4], row[5]);
     xs
 }
@@ -190,7 +192,7 @@ fn static_member(row: [u64; 8]) -> [Piece; 16]
     ensures { λ xs. ⌜ ((t : List ℕ) → piecesOf t xs ≡ writeLeaf memberLeaves (givenAll t (staticMember row))) ⌝ }
 {
     let mut xs = [Piece::Nothing; 16];
-    xs[0] = write_fit::half(0x150e);
+    xs[0] = write_pieces::fields::two_bytes(0x150e);
     xs[1] = narrow16(row[1]);
     xs[2] = narrow32(row[2]);
     xs[3] = part_text(row[3], row[4]);
@@ -201,7 +203,7 @@ fn overloaded(row: [u64; 8]) -> [Piece; 16]
     ensures { λ xs. ⌜ ((t : List ℕ) → piecesOf t xs ≡ writeLeaf memberLeaves (givenAll t (overloads row))) ⌝ }
 {
     let mut xs = [Piece::Nothing; 16];
-    xs[0] = write_fit::half(0x150f);
+    xs[0] = write_pieces::fields::two_bytes(0x150f);
     xs[1] = narrow16(row[1]);
     xs[2] = narrow32(row[2]);
     xs[3] = part_text(row[3], row[4]);
@@ -212,7 +214,7 @@ fn nested_type(row: [u64; 8]) -> [Piece; 16]
     ensures { λ xs. ⌜ ((t : List ℕ) → piecesOf t xs ≡ writeLeaf memberLeaves (givenAll t (nested row))) ⌝ }
 {
     let mut xs = [Piece::Nothing; 16];
-    xs[0] = write_fit::half(0x1510);
+    xs[0] = write_pieces::fields::two_bytes(0x1510);
     xs[1] = narrow16(row[1]);
     xs[2] = narrow32(row[2]);
     xs[3] = part_text(row[3], row[4]);
@@ -223,7 +225,7 @@ fn one_method(row: [u64; 8]) -> [Piece; 16]
     ensures { λ xs. ⌜ ((t : List ℕ) → piecesOf t xs ≡ writeLeaf memberLeaves (givenAll t (oneMethod row))) ⌝ }
 {
     let mut xs = [Piece::Nothing; 16];
-    xs[0] = write_fit::half(0x1511);
+    xs[0] = write_pieces::fields::two_bytes(0x1511);
     xs[1] = narrow16(row[1]);
     xs[2] = narrow32(row[2]);
     xs[3] = offset(row[1], row[3], row[4]);
@@ -284,7 +286,7 @@ fn method_pieces(row: [u64; 8]) -> [Piece; 16]
 {
     let mut xs = [Piece::Nothing; 16];
     xs[0] = narrow16(row[0]);
-    xs[1] = write_fit::gap();
+    xs[1] = write_pieces::fields::unnamed();
     xs[2] = narrow32(row[1]);
     xs[3] = offset(row[0], row[2], row[3]);
     xs
@@ -341,7 +343,7 @@ fn measure_elements(leaf: u16, text: &[u8], rows: &[[u64; 8]]) -> Measure
         let Measure::Size(k) = measure_row(leaf, text, row) else {
             return Measure::Bad;
         };
-        n = write_pieces::held_sum(n, filled_size(k));
+        n = write_pieces::capped_sum(n, filled_size(k));
         ended = ends_after(leaf, row);
         i += 1;
     }
@@ -350,8 +352,8 @@ fn measure_elements(leaf: u16, text: &[u8], rows: &[[u64; 8]]) -> Measure
 
 // One element, where it is good and there is room for it; the place after its pad bytes.
 fn put_element(leaf: u16, text: &[u8], row: [u64; 8], out: &mut [u8], p: usize) -> usize
-    requires { ⌜ (good (elementBytes leaf (now text) row) ≡ true) × (length (filledMember (held (elementBytes leaf (now text) row))) ≤ 65535) × (Room (now out) p (filledMember (held (elementBytes leaf (now text) row)))) ⌝ }
-    ensures { λ r. ⌜ Puts (now (out .entry)) p (filledMember (held (elementBytes leaf (now (text .entry)) row))) r (now (out .exit)) ⌝ }
+    requires { ⌜ (encodes (elementBytes leaf (now text) row) ≡ true) × (length (filledMember (encodedBytes (elementBytes leaf (now text) row))) ≤ 65535) × (Room (now out) p (filledMember (encodedBytes (elementBytes leaf (now text) row)))) ⌝ }
+    ensures { λ r. ⌜ Puts (now (out .entry)) p (filledMember (encodedBytes (elementBytes leaf (now (text .entry)) row))) r (now (out .exit)) ⌝ }
 {
     let xs = element_pieces(leaf, row);
     match write_pieces::write_filled(text, xs, out, p) {

@@ -1,3 +1,4 @@
 pub mod PieceLaws
 pub mod RecordLaws
 pub mod OneOutcome
+pub mod FitLaws

@@ -1,20 +1,20 @@
 -- Laws of a record made of pieces: what each way out of `write_record` has shown. Assumes nothing.
-use Prim.Native.Nat.{ℕ, zero, suc, _+_, _-_, _%_, _≤_, _<_, min}
+use Prim.Native.Nat.{ℕ, _+_, _-_, _≤_, _<_, min}
 use native.Mathlib.Omega.{arith}
 use mathlib.Core.Bool.{Bool, true, false}
-use mathlib.Core.Path.{_≡_, refl, ap, sym, _∙_}
-use mathlib.Core.List.{List, [], _∷_, _++_}
+use mathlib.Core.Path.{_≡_, refl, ap, _∙_}
+use mathlib.Core.List.{List, [], _++_}
 use lib.ListN.{length, length-append}
-use lib.Dec.{ltb, leb}
+use lib.Dec.{leb}
 use borrow.Author.Tests.{lt-ltb, le-ltb, leb-true, leb-false}
-use Rattle.answer.specs.Answer.{Answer, answered, refused, stop, then, pick}
+use Rattle.answer.specs.Answer.{Answer, answered, refused, then}
 use Rattle.field.specs.Bytes.{bytes}
 use Rattle.field.proofs.ByteLaws.{length-bytes}
-use Rattle.field_put.specs.Bytes.{put, Puts, Room}
+use Rattle.field_put.specs.Bytes.{Puts, Room}
 use Rattle.write_layout.specs.Runs.{pads}
 use Rattle.write_layout.proofs.RunLaws.{length-pads}
 use Rattle.write_layout.specs.Fields.{Encoded, bad, only}
-use Rattle.write_layout.specs.Records.{missing, filled, whole, limited, recordBytes}
+use Rattle.write_layout.specs.Records.{missing, filled, limited, recordBytes}
 use Rattle.write_layout.specs.Lists.{filledMember, filledEach}
 use Rattle.write_layout.specs.Buffer.{lay, Writes}
 use Rattle.write_pieces.specs.declared.Piece.{Piece}
@@ -95,34 +95,6 @@ module _ (b : Encoded) (s : List ℕ) (p : ℕ) where
           let f : length (filled bs) ≤ 65535 = omega arith in
           let g : p + length (bytes 2 (length (filled bs)) ++ filled bs) ≤ length s = omega (arith, whole-length) in
           rw (e, le-ltb _ _ f, le-ltb _ _ g) (record { answer = ap answered (w .next); left = w .left })
-
--- the same of pieces that were measured as n, and are filled by pad bytes
-module _ (t : List ℕ) (xs : List Piece) (s : List ℕ) (p n pad : ℕ) (z : Sized t xs n) (e : pad ≡ missing (n + 2)) where
-  pub over : 65535 < n + pad → Writes s (lay (recordBytes (piecesOf t xs)) s p) (refused 18 []) s
-  over h = refuse-long _ s p (rawAll t xs) (pieces-are t xs (z .fine)) (long (rawAll t xs) n (z .held) (rw e at h))
-
-  module _ (h : n + pad ≤ 65535) where
-    fills : length (filled (rawAll t xs)) ≡ n + pad
-    fills = short (rawAll t xs) n (z .held) (rw e at h) ∙ rw e
-
-    laid-bytes : bytes 2 (n + pad) ++ (rawAll t xs ++ pads pad) ≡ bytes 2 (length (filled (rawAll t xs))) ++ filled (rawAll t xs)
-    unfolding filled
-    laid-bytes =
-        let g : length (rawAll t xs) ≡ n = omega (arith, z .held) in
-        rw (fills, g, ← e)
-
-    pub small : length s < p + (n + pad + 2) → Writes s (lay (recordBytes (piecesOf t xs)) s p) (refused 19 []) s
-    small k = refuse-small _ s p (rawAll t xs) (pieces-are t xs (z .fine)) (n + pad) fills h k
-
-    module _ (k : p + (n + pad + 2) ≤ length s) where
-      pub roomy : Room s p (bytes 2 (n + pad) ++ (rawAll t xs ++ pads pad))
-      roomy =
-          let a = length-append (bytes 2 (n + pad)) (rawAll t xs ++ pads pad) in
-          let b = length-append (rawAll t xs) (pads pad) in
-          record { room = omega (arith, a, b, length-bytes 2 (n + pad), length-pads pad, z .held) }
-
-      pub done : (r : ℕ) (s′ : List ℕ) → Puts s p (bytes 2 (n + pad) ++ (rawAll t xs ++ pads pad)) r s′ → Writes s (lay (recordBytes (piecesOf t xs)) s p) (answered r) s′
-      done r s′ w = laid _ s p (rawAll t xs) (pieces-are t xs (z .fine)) (n + pad) fills h r s′ k (rw laid-bytes at w)
 
 -- Without a length field ----------------------------------------------------------------------------------------------------------
 

@@ -7,7 +7,7 @@ use lib.Dec.{leb}
 use Rattle.answer.specs.Answer.{Answer, answered, refused, both}
 use Rattle.answer.specs.Refusals.{no}
 use Rattle.field.specs.Bytes.{bytes}
-use Rattle.field_number.specs.Forms.{wide}
+use Rattle.field_number.specs.Forms.{prefixed}
 use Rattle.write_layout.specs.Runs.{partAt, noZero, zeros}
 use Rattle.write_layout.specs.Fields.{Encoded, only, and-also}
 use Rattle.write_pieces.specs.declared.Piece.{Piece}
@@ -24,10 +24,10 @@ raw t piece.Bad = []
 raw t (piece.Byte x) = bytes 1 x
 raw t (piece.Half x) = bytes 2 x
 raw t (piece.Word x) = bytes 4 x
-raw t (piece.Wide8 prefix x) = wide prefix 1 x
-raw t (piece.Wide16 prefix x) = wide prefix 2 x
-raw t (piece.Wide32 prefix x) = wide prefix 4 x
-raw t (piece.Wide64 prefix x) = wide prefix 8 x
+raw t (piece.Wide8 prefix x) = prefixed prefix 1 x
+raw t (piece.Wide16 prefix x) = prefixed prefix 2 x
+raw t (piece.Wide32 prefix x) = prefixed prefix 4 x
+raw t (piece.Wide64 prefix x) = prefixed prefix 8 x
 raw t (piece.Text p n) = partAt t p n ++ (0 ∷ [])
 raw t (piece.Run p n) = partAt t p n
 raw t (piece.Zeros n) = zeros n

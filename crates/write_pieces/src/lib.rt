@@ -1,6 +1,8 @@
 // The pieces that a record is made of, measured before the first byte is written, and then written one after the other. This is the only code
 // of the writers that touches the lent buffer, but for the length and the leaf of a list. What a piece stands for is in specs/Pieces.antt, what
 // the writers mean in crates/write_layout.
+pub mod fields;
+
 ghost use mathlib.Core.Path.{_≡_};
 ghost use mathlib.Core.Bool.{true};
 ghost use mathlib.Core.List.{[], _∷_, _++_};
@@ -10,7 +12,7 @@ ghost use Rattle.answer.specs.Answer.{answered, then};
 ghost use Rattle.field.specs.Bytes.{bytes};
 ghost use Rattle.field_put.specs.Bytes.{Puts, Room};
 ghost use Rattle.write_layout.specs.Runs.{partAt, noZero, pads, zeros};
-ghost use Rattle.write_layout.specs.Records.{missing, limited, recordBytes};
+ghost use Rattle.write_layout.specs.Records.{missing, limited};
 ghost use Rattle.write_layout.specs.Lists.{filledEach};
 ghost use Rattle.write_layout.specs.Buffer.{lay, Writes};
 ghost use Rattle.write_pieces.specs.Pieces.{raw, fine, rawAll, fineAll, pieceOf, piecesOf, saidMeasure, saidWrite};
@@ -247,7 +249,7 @@ fn put_piece(text: &[u8], x: Piece, out: &mut [u8], p: usize) -> usize
 }
 
 // n + k, held at 65,536: a payload is refused from there on.
-pub fn held_sum(n: usize, k: usize) -> usize
+pub fn capped_sum(n: usize, k: usize) -> usize
     ensures { λ r. ⌜ r ≡ min (n + k) 65536 ⌝ }
 {
     if 65536 < n {
@@ -270,7 +272,7 @@ pub fn measured(text: &[u8], xs: [Piece; 16]) -> Measure
         let Measure::Size(k) = size_of(text, x) else {
             return Measure::Bad;
         };
-        n = held_sum(n, k);
+        n = capped_sum(n, k);
         i += 1;
     }
     Measure::Size(n)
@@ -306,22 +308,6 @@ fn put_filled(text: &[u8], xs: [Piece; 16], out: &mut [u8], p: usize, pad: u8) -
 {
     let q = put_pieces(text, xs, out, p);
     put_pads(out, q, pad)
-}
-
-// A length, the pieces and pad bytes, where there is room for them.
-fn put_record(
-    text: &[u8],
-    xs: [Piece; 16],
-    out: &mut [u8],
-    at: usize,
-    length: u16,
-    pad: u8,
-) -> usize
-    requires { ⌜ (fineAll (now text) xs ≡ true) × (pad ≤ 3) × (Room (now out) at (bytes 2 length ++ (rawAll (now text) xs ++ pads pad))) ⌝ }
-    ensures { λ r. ⌜ Puts (now (out .entry)) at (bytes 2 length ++ (rawAll (now (text .entry)) xs ++ pads pad)) r (now (out .exit)) ⌝ }
-{
-    let p = put16(out, at, length);
-    put_filled(text, xs, out, p, pad)
 }
 
 // The pieces as they are, without a length and pad bytes. 17, 18 and 19 before the first byte is written.
@@ -363,27 +349,5 @@ pub fn write_filled(text: &[u8], xs: [Piece; 16], out: &mut [u8], at: usize) -> 
         return WriteAnswer::Refused(Refusal::NoRoom);
     }
     let e = put_filled(text, xs, out, at, pad);
-    WriteAnswer::Written(e)
-}
-
-// The pieces as a record: its length, the pieces, pad bytes. 17, 18 and 19 before the first byte is written.
-pub fn write_record(text: &[u8], xs: [Piece; 16], out: &mut [u8], at: usize) -> WriteAnswer
-    ensures { λ r. ⌜ Writes (now (out .entry)) (lay (recordBytes (piecesOf (now (text .entry)) xs)) (now (out .entry)) at) (saidWrite r) (now (out .exit)) ⌝ }
-{
-    let Measure::Size(n) = measured(text, xs) else {
-        return WriteAnswer::Refused(Refusal::WouldNotReadBack);
-    };
-    let pad = pad_count(n + 2);
-    let length = n + (pad as usize);
-    if 65535 < length {
-        return WriteAnswer::Refused(Refusal::RecordTooLong);
-    }
-    if out.len() < at {
-        return WriteAnswer::Refused(Refusal::NoRoom);
-    }
-    if out.len() - at < length + 2 {
-        return WriteAnswer::Refused(Refusal::NoRoom);
-    }
-    let e = put_record(text, xs, out, at, length as u16, pad);
     WriteAnswer::Written(e)
 }

@@ -6,7 +6,7 @@ use Rattle.declare_node.proofs.size_in.Statement.{statement}
 use Rattle.declare_node.proofs.size_in.Tie as tie
 use Rattle.declare_node.proofs.size_in.Reads as reads
 use Rattle.declare_node.proofs.size_in.Lts as lts
-use Rattle.declare_kind.proofs.size.Reads as size-reads
+use Rattle.declare_word.proofs.kind.size.Reads as size-reads
 use Rattle.declare_node.proofs.sized_record.Reads as sized-record-reads
 
 enum-known-l : tie.Need-enum-known-l

@@ -1,6 +1,6 @@
 -- `declare_node::sized_record` meets its contract. Assumes nothing.
 use Rattle.answer.proofs.Told.{told}
-use Rattle.word_attributes.specs.Said.{saidSize}
+use Rattle.word_attributes.specs.Said.{saidPointerSize}
 use Rattle.answer.specs.Tables.{among}
 use Rattle.declare_node.specs.Nodes.{sizedIn, classes}
 use Rattle.declare_node.proofs.NodeLaws.{class-size}
@@ -59,14 +59,14 @@ cast-t16 c = search needs
 
 returns-6 : tie.Need-returns-6
 unfolding sizedIn among classes
-returns-6 c = rw ((c .before .before .before .before .before .before .d6 .given .1), told saidSize (c .before .before .before .size .ensures) (c .before .n .given .1))
+returns-6 c = rw ((c .before .before .before .before .before .before .d6 .given .1), told saidPointerSize (c .before .before .before .size .ensures) (c .before .n .given .1))
 
 enum-told : tie.Need-enum-told
 enum-told c = search needs
 
 returns-7 : tie.Need-returns-7
 unfolding sizedIn among classes
-returns-7 c = rw ((c .before .before .before .before .before .d6 .given .1), told saidSize (c .before .before .size .ensures) (c .enum-told .given .1))
+returns-7 c = rw ((c .before .before .before .before .before .d6 .given .1), told saidPointerSize (c .before .before .size .ensures) (c .enum-told .given .1))
 
 enum-told-2 : tie.Need-enum-told-2
 enum-told-2 c = search needs

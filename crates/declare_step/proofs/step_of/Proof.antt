@@ -11,7 +11,7 @@ use Rattle.declare_node.proofs.node_of.Reads as node-of-reads
 use Rattle.declare_step.proofs.no_quals.Reads as no-quals-reads
 use Rattle.declare_step.proofs.open.Reads as open-reads
 use Rattle.declare_step.proofs.primitive_piece.Reads as primitive-piece-reads
-use Rattle.declare_step.proofs.with.Reads as with-reads
+use Rattle.declare_step.proofs.union_of.Reads as union-of-reads
 
 node-of-requires : tie.Need-node-of-requires
 node-of-requires c κs = search needs
@@ -34,23 +34,23 @@ returns-2 c = step-is _ _ _ _ _ _ _ (c .before .before .before .node-of .ensures
 enum-known-j : tie.Need-enum-known-j
 enum-known-j c = search needs
 
-with-requires : tie.Need-with-requires
-with-requires c κs = search needs
+union-of-requires : tie.Need-union-of-requires
+union-of-requires c κs = search needs
 
 no-quals-requires : tie.Need-no-quals-requires
 no-quals-requires c κs = search needs
 
 returns-3 : tie.Need-returns-3
-returns-3 c = step-is _ _ _ _ _ _ _ (c .before .before .before .before .before .node-of .ensures) (c .before .before .before .j .given .1) (rw (c .no-quals .ensures, c .before .with .ensures))
+returns-3 c = step-is _ _ _ _ _ _ _ (c .before .before .before .before .before .node-of .ensures) (c .before .before .before .j .given .1) (rw (c .no-quals .ensures, c .before .union-of .ensures))
 
 enum-known-j-2 : tie.Need-enum-known-j-2
 enum-known-j-2 c = search needs
 
-with-requires-2 : tie.Need-with-requires-2
-with-requires-2 c κs = search needs
+union-of-requires-2 : tie.Need-union-of-requires-2
+union-of-requires-2 c κs = search needs
 
 returns-4 : tie.Need-returns-4
-returns-4 c = step-is _ _ _ _ _ _ _ (c .before .before .before .before .node-of .ensures) (c .before .before .j2 .given .1) (rw (c .with2 .ensures))
+returns-4 c = step-is _ _ _ _ _ _ _ (c .before .before .before .before .node-of .ensures) (c .before .before .j2 .given .1) (rw (c .union-of2 .ensures))
 
 enum-known-j-3 : tie.Need-enum-known-j-3
 enum-known-j-3 c = search needs
@@ -90,11 +90,11 @@ step-of-spec =
     enum-known-p
     returns-2
     enum-known-j
-    with-requires
+    union-of-requires
     no-quals-requires
     returns-3
     enum-known-j-2
-    with-requires-2
+    union-of-requires-2
     returns-4
     enum-known-j-3
     open-requires

@@ -8,8 +8,8 @@ use Rattle.declare_type.proofs.declare.Statement.{statement}
 use Rattle.declare_type.proofs.declare.Tie as tie
 use Rattle.declare_type.proofs.declare.Reads as reads
 use Rattle.declare_type.proofs.declare.Lts as lts
-use Rattle.declare_type.proofs.declarator.Reads as declarator-reads
-use Rattle.declare_walk.proofs.declarator.Reads as declarator-reads′
+use Rattle.declare_type.proofs.write_declarator.Reads as declarator-reads
+use Rattle.declare_walk.proofs.measure_declarator.Reads as declarator-reads′
 use Rattle.declare_step.proofs.start.Reads as start-reads
 
 returns : tie.Need-returns
@@ -18,29 +18,29 @@ returns c = declares-long _ _ _ (c .before .before .before .before .args .out .n
 start-requires : tie.Need-start-requires
 start-requires c κs = search needs
 
-declarator-requires : tie.Need-declarator-requires
+declarator-requires : tie.Need-measure-declarator-requires
 declarator-requires c κs = search needs
 
 enum-known-l : tie.Need-enum-known-l
 enum-known-l c = search needs
 
 add-n : tie.Need-add-n
-add-n c = omega (arith, fits-within _ _ _ _ (rw (c .before .before .before .before .start .ensures) at (sym (c .before .l .given .1) ∙ c .before .before .before .declarator .ensures)), c .before .before .before .before .before .before .before .before .before .good .1 .1 .1 .1 .0 .0)
+add-n c = omega (arith, fits-within _ _ _ _ (rw (c .before .before .before .before .start .ensures) at (sym (c .before .l .given .1) ∙ c .before .before .before .measure-declarator .ensures)), c .before .before .before .before .before .before .before .before .before .good .1 .1 .1 .1 .0 .0)
 
-declarator-requires-2 : tie.Need-declarator-requires-2
-declarator-requires-2 c κs = rw (c .before .before .before .before .before .start .ensures) (whole-room _ (c .before .before .before .before .before .before .before .before .before .before .args .out .now) _ _ (rw (c .before .before .before .before .before .start .ensures) at (sym (c .before .before .l .given .1) ∙ c .before .before .before .before .declarator .ensures)))
+declarator-requires-2 : tie.Need-write-declarator-requires
+declarator-requires-2 c κs = rw (c .before .before .before .before .before .start .ensures) (whole-room _ (c .before .before .before .before .before .before .before .before .before .before .args .out .now) _ _ (rw (c .before .before .before .before .before .start .ensures) at (sym (c .before .before .l .given .1) ∙ c .before .before .before .before .measure-declarator .ensures)))
 
 same-length : tie.Need-same-length
 same-length c = search needs
 
 returns-2 : tie.Need-returns-2
-returns-2 c = declares-fits _ _ _ (c .before .before .before .before .before .before .before .before .before .before .before .before .before .args .out .now) (omega arith) _ _ _ _ (rw (c .before .before .before .before .before .before .before .before .start .ensures) at (sym (c .before .before .before .before .before .l .given .1) ∙ c .before .before .before .before .before .before .before .declarator .ensures)) (rw (c .before .before .before .before .before .before .before .before .start .ensures) at (c .before .before .declarator2 .ensures))
+returns-2 c = declares-fits _ _ _ (c .before .before .before .before .before .before .before .before .before .before .before .before .before .args .out .now) (omega arith) _ _ _ _ (rw (c .before .before .before .before .before .before .before .before .start .ensures) at (sym (c .before .before .before .before .before .l .given .1) ∙ c .before .before .before .before .before .before .before .measure-declarator .ensures)) (rw (c .before .before .before .before .before .before .before .before .start .ensures) at (c .before .before .write-declarator .ensures))
 
 enum-known-e : tie.Need-enum-known-e
 enum-known-e c = search needs
 
 returns-3 : tie.Need-returns-3
-returns-3 c = declares-refused _ _ _ (c .before .before .before .before .before .before .before .before .before .args .out .now) (omega arith) _ (rw (c .before .before .before .before .start .ensures) at (sym (c .before .e .given .1) ∙ c .before .before .before .declarator .ensures))
+returns-3 c = declares-refused _ _ _ (c .before .before .before .before .before .before .before .before .before .args .out .now) (omega arith) _ (rw (c .before .before .before .before .start .ensures) at (sym (c .before .e .given .1) ∙ c .before .before .before .measure-declarator .ensures))
 
 pub declare-spec : {M : Type 1} → statement M
 declare-spec =

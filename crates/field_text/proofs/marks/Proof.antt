@@ -4,12 +4,12 @@ use native.Mathlib.Omega.{arith}
 use Prim.Native.Nat.{ℕ, _+_, _-_, _%_, _^_}
 use mathlib.Core.Path.{_≡_, ap}
 use lib.Bits.{bitAnd}
-use Rattle.field_text.specs.Zeros.{marksOf}
+use Rattle.field_text.specs.Zeros.{zeroMarks}
 use Rattle.field_text.proofs.marks.Statement.{statement}
 use Rattle.field_text.proofs.marks.Tie as tie
 
 returns : tie.Need-returns
-unfolding marksOf
+unfolding zeroMarks
 returns c =
     let x = c .before .args .x in
     let e : c .wrapping-sub-u64 .result ≡ (x + (2 ^ 64 - 0x0101010101010101)) % 2 ^ 64 = omega arith in

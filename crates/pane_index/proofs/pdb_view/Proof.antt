@@ -6,10 +6,10 @@ use Rattle.pane_index.proofs.pdb_view.Statement.{statement}
 use Rattle.pane_index.proofs.pdb_view.Tie as tie
 
 returns : tie.Need-returns
-returns c = rw (← c .before .before .before .before .before .entry-of .ensures, told saidView (c .before .before .before .before .why .ensures) (c .before .before .p .given .1))
+returns c = rw (← c .before .before .before .before .before .entry-of .ensures, told saidView (c .before .before .before .before .view-answer .ensures) (c .before .before .p .given .1))
 
 returns-2 : tie.Need-returns-2
-returns-2 c = rw (← c .before .before .before .before .before .before .before .before .entry-of .ensures, told saidView (c .before .before .before .before .before .before .before .why .ensures) (c .before .before .before .before .before .e .given .1), c .number .ensures, c .before .before .before .first .ensures, c .before .before .second .ensures)
+returns-2 c = rw (← c .before .before .before .before .before .before .before .before .entry-of .ensures, told saidView (c .before .before .before .before .before .before .before .view-answer .ensures) (c .before .before .before .before .before .e .given .1), c .number .ensures, c .before .before .before .first .ensures, c .before .before .second .ensures)
 
 pub pdb-view-spec : {M : Type 1} → statement M
 pdb-view-spec =

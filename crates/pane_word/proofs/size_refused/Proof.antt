@@ -1,15 +1,15 @@
 -- `pane_word::size_refused` meets its contract. Assumes nothing.
 use borrow.Author.Needs.{needs}
 use Rattle.answer.proofs.Told.{told}
-use Rattle.word_attributes.specs.Said.{saidSize}
+use Rattle.word_attributes.specs.Said.{saidPointerSize}
 use Rattle.pane_word.proofs.size_refused.Statement.{statement}
 use Rattle.pane_word.proofs.size_refused.Tie as tie
 
 returns : tie.Need-returns
-returns c = rw (told saidSize (c .before .before .size .ensures) (c .enum-told .given .1))
+returns c = rw (told saidPointerSize (c .before .before .size .ensures) (c .enum-told .given .1))
 
 returns-2 : tie.Need-returns-2
-returns-2 c = rw (told saidSize (c .before .before .before .before .size .ensures) (c .before .before .e .given .1), c .number .ensures)
+returns-2 c = rw (told saidPointerSize (c .before .before .before .before .size .ensures) (c .before .before .e .given .1), c .number .ensures)
 
 pub size-refused-spec : {M : Type 1} → statement M
 size-refused-spec =

@@ -5,7 +5,7 @@ use Rattle.answer.specs.Tables.{find}
 use Rattle.answer.proofs.TableLaws.{missed}
 use Rattle.record_layout.specs.Fields.{readFieldBy}
 use Rattle.record_cells.specs.Codes.{codes, fieldOf}
-use Rattle.record_cells.specs.Filled.{stepBy}
+use Rattle.record_cells.specs.Filled.{cellStepBy}
 use Rattle.record_cells.proofs.field_at.Statement.{statement}
 use Rattle.record_cells.proofs.field_at.Tie as tie
 
@@ -22,7 +22,7 @@ unfolding find codes fieldOf
 returns-3 c = rw (c .before .match .keys3) (c .whole-field .ensures)
 
 returns-4 : tie.Need-returns-4
-unfolding find codes fieldOf readFieldBy stepBy
+unfolding find codes fieldOf readFieldBy cellStepBy
 returns-4 c = rw (c .before .match .keys4) (c .whole-field2 .ensures)
 
 returns-5 : tie.Need-returns-5
@@ -30,7 +30,7 @@ unfolding find codes fieldOf
 returns-5 c = rw (c .before .match .keys5) (c .optional-type-field .ensures)
 
 returns-6 : tie.Need-returns-6
-unfolding find codes fieldOf readFieldBy stepBy
+unfolding find codes fieldOf readFieldBy cellStepBy
 returns-6 c = rw (c .before .match .keys6) (c .whole-field3 .ensures)
 
 returns-7 : tie.Need-returns-7
@@ -38,7 +38,7 @@ unfolding find codes fieldOf
 returns-7 c = rw (c .before .match .keys7) (c .optional-id-field .ensures)
 
 returns-8 : tie.Need-returns-8
-unfolding find codes fieldOf readFieldBy stepBy
+unfolding find codes fieldOf readFieldBy cellStepBy
 returns-8 c = rw (c .before .match .keys8) (c .whole-field4 .ensures)
 
 returns-9 : tie.Need-returns-9
@@ -74,7 +74,7 @@ unfolding find codes fieldOf
 returns-16 c = rw (c .before .match .keys16) (c .indices-field .ensures)
 
 returns-17 : tie.Need-returns-17
-unfolding find codes fieldOf readFieldBy stepBy
+unfolding find codes fieldOf readFieldBy cellStepBy
 returns-17 c = rw (c .before .match .keys17) (c .indices-field2 .ensures)
 
 returns-18 : tie.Need-returns-18
@@ -82,7 +82,7 @@ unfolding find codes fieldOf
 returns-18 c = rw (c .before .match .keys18) (c .slots-field .ensures)
 
 returns-19 : tie.Need-returns-19
-unfolding find codes fieldOf readFieldBy stepBy
+unfolding find codes fieldOf readFieldBy cellStepBy
 returns-19 c = rw (c .before .match .keys19) (c .no-field .ensures)
 
 returns-20 : tie.Need-returns-20
@@ -98,7 +98,7 @@ unfolding find codes fieldOf
 returns-22 c = rw (c .before .match .keys22) (c .offset-field .ensures)
 
 returns-23 : tie.Need-returns-23
-unfolding codes fieldOf readFieldBy stepBy
+unfolding codes fieldOf readFieldBy cellStepBy
 returns-23 c = rw (sym (missed codes _ (c .before .match .rest))) (c .no-field2 .ensures)
 
 pub field-at-spec : {M : Type 1} → statement M

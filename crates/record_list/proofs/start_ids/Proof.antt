@@ -2,7 +2,7 @@
 use borrow.Author.Needs.{needs}
 use Rattle.answer.specs.Tables.{find}
 use Rattle.record_layout.specs.Layouts.{idLeaves}
-use Rattle.record_list.specs.Lists.{startIds, counted}
+use Rattle.record_list.specs.Lists.{startIds, countedList}
 use Rattle.field.specs.Fields.{said16}
 use Rattle.answer.proofs.Told.{told}
 use borrow.Author.Tests.{eq-eqb, ne-eqb}
@@ -14,14 +14,14 @@ unfolding startIds
 returns c = rw (told said16 (c .before .before .u16-at .ensures) (c .enum-told .given .1))
 
 returns-2 : tie.Need-returns-2
-unfolding startIds counted find idLeaves
+unfolding startIds countedList find idLeaves
 returns-2 c = rw (
   told said16 (c .before .before .before .before .before .u16-at .ensures) (c .before .before .before .leaf .given .1),
   eq-eqb _ _ (c .before .if1 .taken),
 ) (c .counted16-at .ensures)
 
 returns-3 : tie.Need-returns-3
-unfolding startIds counted find idLeaves
+unfolding startIds countedList find idLeaves
 returns-3 c = rw (
   told said16 (c .before .before .before .before .before .before .u16-at .ensures) (c .before .before .before .before .leaf .given .1),
   ne-eqb _ _ (c .before .before .if1 .left),

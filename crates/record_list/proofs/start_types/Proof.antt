@@ -2,7 +2,7 @@
 use borrow.Author.Needs.{needs}
 use Rattle.answer.specs.Tables.{find}
 use Rattle.record_layout.specs.Layouts.{typeLeaves}
-use Rattle.record_list.specs.Lists.{startTypes, counted}
+use Rattle.record_list.specs.Lists.{startTypes, countedList}
 use Rattle.field.specs.Fields.{said16}
 use Rattle.answer.proofs.Told.{told}
 use borrow.Author.Tests.{eq-eqb, ne-eqb}
@@ -14,7 +14,7 @@ unfolding startTypes
 returns c = rw (told said16 (c .before .before .u16-at .ensures) (c .enum-told .given .1))
 
 returns-2 : tie.Need-returns-2
-unfolding startTypes counted find typeLeaves
+unfolding startTypes countedList find typeLeaves
 returns-2 c = rw (
   told said16 (c .before .before .before .before .before .u16-at .ensures) (c .before .before .before .leaf .given .1),
   eq-eqb _ _ (c .before .if1 .taken),

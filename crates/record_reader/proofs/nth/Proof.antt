@@ -1,4 +1,4 @@
--- `record_reader::nth` meets its contract: the refusal of the list's start, or the element through the reader made there. Assumes nothing.
+-- `record_reader::nth` meets its contract: the refusal of the list's start, or the element read from there. Assumes nothing.
 use borrow.Author.Needs.{needs}
 use Rattle.record_list.specs.Lists.{elementOf}
 use Rattle.record_list.specs.Said.{saidStart}
@@ -12,7 +12,7 @@ returns c = rw (told saidStart (c .before .before .before .start .ensures) (c .b
 
 returns-2 : tie.Need-returns-2
 unfolding elementOf
-returns-2 c = rw (told saidStart (c .before .before .before .before .start .ensures) (c .before .before .c .given .1)) (c .element-of .ensures)
+returns-2 c = rw (told saidStart (c .before .before .before .before .start .ensures) (c .before .before .c .given .1)) (c .element-from .ensures)
 
 pub nth-spec : {M : Type 1} → statement M
 nth-spec =

@@ -22,24 +22,24 @@ loop-holds c = (refl, (0, none))
 
 loop-less : tie.Need-loop-less Inv-loop μ-loop
 loop-less c =
-    let m = turn-further _ _ _ _ _ (leads-moved _ _ _ _ _ _ (c .before .before .before .before .before .turn .ensures) (c .before .g .given .1)) in
+    let m = turn-further _ _ _ _ _ (leads-moved _ _ _ _ _ _ (c .before .before .before .before .before .next-and-update .ensures) (c .before .g .given .1)) in
     omega arith
 
 loop-again : tie.Need-loop-again Inv-loop μ-loop
 loop-again c =
     let l = c .before .before .before .before .before .before .before .loop in
-    (omega arith, (_, turns-more _ _ _ _ _ _ _ _ (l .inv .1 .1) (leads-moved _ _ _ _ _ _ (c .before .before .before .before .before .turn .ensures) (c .before .g .given .1))))
+    (omega arith, (_, turns-more _ _ _ _ _ _ _ _ (l .inv .1 .1) (leads-moved _ _ _ _ _ _ (c .before .before .before .before .before .next-and-update .ensures) (c .before .g .given .1))))
 
 returns : tie.Need-returns Inv-loop μ-loop
 returns c =
     let l = c .before .before .before .before .before .before .loop in
-    let u = leads-over _ _ _ _ (c .before .before .before .before .turn .ensures) (c .enum-told .given .1) in
+    let u = leads-over _ _ _ _ (c .before .before .before .before .next-and-update .ensures) (c .enum-told .given .1) in
     walks-to _ _ _ _ _ _ _ _ _ (l .inv .1 .1) (u .0) (u .1)
 
 returns-2 : tie.Need-returns-2 Inv-loop μ-loop
 returns-2 c =
     let l = c .before .before .before .before .before .before .before .loop in
-    let u = leads-refused _ _ _ _ _ (c .before .before .before .before .before .turn .ensures) (c .before .e .given .1) in
+    let u = leads-refused _ _ _ _ _ (c .before .before .before .before .before .next-and-update .ensures) (c .before .e .given .1) in
     walks-to _ _ _ _ _ _ _ _ _ (l .inv .1 .1) (u .0) (u .1)
 
 pub index-on-spec : {M : Type 1} → statement M

@@ -10,7 +10,7 @@ use denote.Ref.{now}
 use lib.ListN.{length, take, length-take}
 use Rattle.answer.specs.Answer.{answered}
 use Rattle.field_put.proofs.PutLaws.{room-for, puts-both, puts-length}
-use Rattle.stream_places.specs.File.{formIn, trailerSize}
+use Rattle.stream_places.specs.File.{fileFormIn, trailerSize}
 use Rattle.stream_places.proofs.FileLaws.{four-letters, length-trailer, length-word-bytes, room-words}
 use Rattle.stream_places.proofs.PlacesLaws.{save-minimum, save-maximum, save-shift, save-claims, save-many, save-room, save-done, file-by, saves, saves-file}
 use Rattle.stream_places.proofs.saved.Statement.{statement}
@@ -46,7 +46,7 @@ put-trailer-requires c κs =
     let a = c .before .before .before .before .before .before .before .before .before .before .before .before .before .before .before .before .before .args in
     let w = c .before .before .before .put-words .ensures in
     let e : length (take (a .f .held) (now (a .t))) ≡ a .f .held = length-take (a .f .held) (now (a .t)) ∙ min-eq-left (omega arith) in
-    (room-for _ _ _ (trailerSize (formIn (a .w))) (length-trailer _ _ (four-letters (a .w))) (omega (arith, w .next, length-word-bytes (take (a .f .held) (now (a .t))), puts-length _ _ _ _ _ w)), omega arith)
+    (room-for _ _ _ (trailerSize (fileFormIn (a .w))) (length-trailer _ _ (four-letters (a .w))) (omega (arith, w .next, length-word-bytes (take (a .f .held) (now (a .t))), puts-length _ _ _ _ _ w)), omega arith)
 
 returns-7 : tie.Need-returns-7
 returns-7 c =

@@ -1,6 +1,6 @@
--- `stream_view::view` meets its contract: a walk of its MIR, by hand. `bytes_of` and `answer_of` are called on the two streams, which are Copy, and the view is put together from what they give.
+-- `stream_view::view` meets its contract: a walk of its MIR, by hand. `bytes_of` and `view_answer` are called on the two streams, which are Copy, and the view is put together from what they give.
 -- Assumes nothing.
-use Rattle.byhand.proofs.Walk.{_≡_, refl, ap, _∙_, ℕ, _<_, _^_, [], _∷_, List, length, URA, fullShare, named, w32, erased, Val, vptr, WT, hasTy, vint, SProp, ent, emp, via, fst∗, id⊢, sep, snd∗, exE, Lft, Share, GName, ftrue, fat, flft, fobs, fbor, fsep, flent, fres, fshr-bor, Memory, Routine, Heap, Calls, Loops, WpFn, Tables, Atoms, sem, Fun, fact, givenOf, tables, tablesOf, Given, ‵, raw, some, later, _⊛_, ⋆, _$_, _∵_, !, qed, by, move, keep, drop, use1, use2, split, join, pick, rewrite, fsplit, fsplit3, fjoin, fjoin3, feqL, feqI, suffices, frame, await, done, use3, fpick, fpack, look, look-raw, init, store-raw, forget, stop, hop, fld, from, load, addr, of-opd, and-then, no-more, assigns, land, returns, enter, alloc1, alloc0, params1, pass1, pass0, free1, free0, agg, whole, sub, look-in, Body, FmC, fmOf, WpFn-mono, RattleType, owns, mem, cellAt, partAt, partOf, Is, shows, u32, u8, RefT, MutRef, ptr-vals, mut-tells, ShrRef, shr-tells, now, NamedLft, sliceVal, MutSlice, Room, finally, slice-vals, mut-slice-tells, ShrSlice, shr-slice-tells, shr-slice-lawful, shr-slice-copy, only, opens, closes, owned, peeks, heard, nothing, looks, shuts, spelt, Vals, onEntry, Meets, tripleOf, Contract, Triple, calls-at, ensured, lasts, entered, cited, says, Stays, stay-ref, stay-none, gave-slice, walkOf, goes-ref, goes-none, goes-gave-slice, Walks, ends-at, walked, walk-meets, stay-none-ref, goes-none-ref, stay-none-slice, goes-none-slice, yes, plain, lft-new, lft-end, lends-ref, ref-back, uint-lawful, uint-vals, uint-tells, uint-makes, Holds, AllOutlive, Slot, namedLft, store-in}
+use Rattle.proof_walk.proofs.Walk.{_≡_, refl, ap, _∙_, ℕ, _<_, _^_, [], _∷_, List, length, URA, fullShare, named, w32, erased, Val, vptr, WT, hasTy, vint, SProp, ent, emp, via, fst∗, id⊢, sep, snd∗, exE, Lft, Share, GName, ftrue, fat, flft, fobs, fbor, fsep, flent, fres, fshr-bor, Memory, Routine, Heap, Calls, Loops, WpFn, Tables, Atoms, sem, Fun, fact, givenOf, tables, tablesOf, Given, ‵, raw, some, later, _⊛_, ⋆, _$_, _∵_, !, qed, by, move, keep, drop, use1, use2, split, join, pick, rewrite, fsplit, fsplit3, fjoin, fjoin3, feqL, feqI, suffices, frame, await, done, use3, fpick, fpack, look, look-raw, init, store-raw, forget, stop, hop, fld, from, load, addr, of-opd, and-then, no-more, assigns, land, returns, enter, alloc1, alloc0, params1, pass1, pass0, free1, free0, agg, whole, sub, look-in, Body, FmC, fmOf, WpFn-mono, RattleType, owns, mem, cellAt, partAt, partOf, Is, shows, u32, u8, RefT, MutRef, ptr-vals, mut-tells, ShrRef, shr-tells, now, NamedLft, sliceVal, MutSlice, Room, finally, slice-vals, mut-slice-tells, ShrSlice, shr-slice-tells, shr-slice-lawful, shr-slice-copy, only, opens, closes, owned, peeks, heard, nothing, looks, shuts, spelt, Vals, onEntry, Meets, tripleOf, Contract, Triple, calls-at, ensured, lasts, entered, cited, says, Stays, stay-ref, stay-none, gave-slice, walkOf, goes-ref, goes-none, goes-gave-slice, Walks, ends-at, walked, walk-meets, stay-none-ref, goes-none-ref, stay-none-slice, goes-none-slice, yes, plain, lft-new, lft-end, lends-ref, ref-back, uint-lawful, uint-vals, uint-tells, uint-makes, Holds, AllOutlive, Slot, namedLft, store-in}
 use mir.Syntax.{tyRef, tyInt, imm, w8}
 use types.Kit.{mean}
 use denote.Slice.{sliceTy}
@@ -20,10 +20,10 @@ use Rattle.stream_view.proofs.bytes_of as bytes
 use Rattle.stream_view.proofs.bytes_of.Symbol as bytes-def
 use Rattle.stream_view.proofs.bytes_of.Symbol.{name as #bytes}
 use Rattle.stream_view.proofs.bytes_of.Met as bytes-thm
-use Rattle.stream_view.proofs.answer_of as answer
-use Rattle.stream_view.proofs.answer_of.Symbol as answer-def
-use Rattle.stream_view.proofs.answer_of.Symbol.{name as #answer}
-use Rattle.stream_view.proofs.answer_of.Met as answer-thm
+use Rattle.stream_view.proofs.view_answer as answer
+use Rattle.stream_view.proofs.view_answer.Symbol as answer-def
+use Rattle.stream_view.proofs.view_answer.Symbol.{name as #answer}
+use Rattle.stream_view.proofs.view_answer.Met as answer-thm
 use Rattle.stream_view.proofs.view.Key.{name as #view}
 use Rattle.stream_view.proofs.view as view
 use Rattle.stream_view.proofs.view.Statement as stated
@@ -64,7 +64,7 @@ module _ {M : Type 1} (𝓤 : URA M) (H : Heap 𝓤) (A : Atoms 𝓤) (W : Given
   bytes-said : (r : RefT (List ℕ)) → ent 𝓤 (ensured 𝓤 H A bytes.ended (bytes.clauses 𝓤 H A mem run) (κ, tt) (t, (p, (e, tt))) tt r) (fact 𝓤 (Gives t p e r))
   bytes-said r = exE 𝓤 _ (λ ws. snd∗ 𝓤 (sem 𝓤 H A (lasts bytes.ended (κ, tt) (t, (p, (e, tt))) ws)) (fact 𝓤 (Gives t p e r)))
 
-  -- the call of `answer_of`
+  -- the call of `view_answer`
   abbrev to-answer : Answers 𝓤 H A mem run .Ghost
   to-answer = (((κ, tt), (q, tt), tt, (t, (p, (e, tt))), at), tt)
 
@@ -105,7 +105,7 @@ module _ {M : Type 1} (𝓤 : URA M) (H : Heap 𝓤) (A : Atoms 𝓤) (W : Given
         rewrite ! 0 (λ (vs : List Val). ‵ (ShrSlice (named 0) κ u8 .own r vs)) (shr-slice-tells (named 0) κ u8 r _ isu) refl $
         peeks ! (ShrSlice (named 0) κ u8) (Is (ShrSlice (named 0) κ u8)) (shows 𝓤 H A (ShrSlice (named 0) κ u8)) r (slice-of r ∷ []) (λ isr.
         move ! (1 ∷ 2 ∷ []) $ use2 W (Passed 𝓤 κ q t p e ⊛ Both 𝓤 κ t p) (lends 𝓤 H A W κ q t p e ise) $ split ! $ use1 W (raw (Answers 𝓤 H A mem run .pre to-answer)) asks-answer $
-        -- [what `answer_of` asks; what t and p own; what r owns; room for _5; …; _4; …; _3; …; _2; …; _1; …; room for _0; …]
+        -- [what `view_answer` asks; what t and p own; what r owns; room for _5; …; _4; …; _3; …; _2; …; _1; …; room for _0; …]
         calls-at ! fm (Answers 𝓤 H A mem run) known-answer to-answer (and-then ! (load ! (from ! (stop !)) (look ! 11 refl)) (and-then ! (load ! (from ! (stop !)) (look ! 9 refl)) (and-then ! (load ! (from ! (stop !)) (look ! 7 refl)) (no-more !)))) (λ u′.
         use1 W (later (some (λ (a : ViewAnswer). (Token 𝓤 κ q ⊛ ‵ (S.the-row .own a (u′ ∷ []))) ⊛ raw (ensured 𝓤 H A answer.ended (answer.clauses 𝓤 H A mem run) (κ, tt) (t, (p, (e, tt))) tt a)))) (id⊢ 𝓤 _) $ await ! tt $ pick ! (λ a.
         split ! $ move ! (1 ∷ []) $ use1 W (raw (fact 𝓤 (Says t p e a))) (answer-said a) $ heard ! (Says t p e a) (λ s. split ! $ move ! (1 ∷ []) $
@@ -131,5 +131,5 @@ view-spec 𝓤 H 𝓜 𝓖 𝓡 =
     (walked 𝓤 H (𝓖 .A) view.ended stayed (view.clauses 𝓤 H (𝓖 .A) (𝓜 .mem) (𝓡 .run)) (WpFn 𝓤 H (𝓣 .C) (𝓣 .Λ) code.function) (λ κs. (slice-vals, (slice-vals, (EL.vals E.the-type E′.the-laws, tt)))) (λ κs. (shr-slice-tells (named 0) (κs .0) u8, (shr-slice-tells (named 0) (κs .0) u8, (EL.tells E.the-type E′.the-laws, tt))))
     (λ κs qs bounds a g are. via 𝓤 _ (fst∗ 𝓤 _ (emp 𝓤)) (walk 𝓤 H (𝓖 .A) W (𝓜 .mem) (𝓡 .run) (κs .0) (qs .0) (a .0) (a .1 .0) (a .1 .1 .0) (are .1 .1 .0) (𝓣 .C) (𝓣 .Λ) (fmOf 𝓤 H (W .laws) 𝓣)
     (cited 𝓤 H (Bytes 𝓤 H (𝓖 .A) (𝓜 .mem) (𝓡 .run)) 𝓜 𝓡 code.env #bytes bytes-def.routine code.calls-stream-view·bytes-of (bytes-thm.met 𝓤 H 𝓜 𝓖 𝓡))
-    (cited 𝓤 H (Answers 𝓤 H (𝓖 .A) (𝓜 .mem) (𝓡 .run)) 𝓜 𝓡 code.env #answer answer-def.routine code.calls-stream-view·answer-of (answer-thm.met 𝓤 H 𝓜 𝓖 𝓡))
+    (cited 𝓤 H (Answers 𝓤 H (𝓖 .A) (𝓜 .mem) (𝓡 .run)) 𝓜 𝓡 code.env #answer answer-def.routine code.calls-stream-view·view-answer (answer-thm.met 𝓤 H 𝓜 𝓖 𝓡))
     (are .0) (are .1 .0)))))

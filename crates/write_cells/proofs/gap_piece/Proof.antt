@@ -1,7 +1,7 @@
 -- `write_cells::gap_piece` meets its contract. Assumes nothing.
 use Rattle.write_layout.specs.Fields.{writeField}
 use Rattle.write_pieces.specs.Pieces.{pieceOf, fine, raw}
-use Rattle.write_fit.proofs.FitLaws.{bad-piece}
+use Rattle.write_pieces.proofs.FitLaws.{bad-piece}
 use Rattle.write_cells.proofs.CellLaws.{is-absent, not-absent}
 use Rattle.write_cells.proofs.gap_piece.Statement.{statement}
 use Rattle.write_cells.proofs.gap_piece.Tie as tie

@@ -3,7 +3,7 @@ use Prim.Native.Nat.{_%_}
 use native.Mathlib.Omega.{arith}
 use borrow.Author.Needs.{needs}
 use mathlib.Core.Path.{_≡_}
-use Rattle.write_fit.proofs.FitLaws.{word-piece}
+use Rattle.write_pieces.proofs.FitLaws.{word-piece}
 use Rattle.write_cells.proofs.CellLaws.{is-number, good-number}
 use Rattle.write_cells.proofs.good32.Statement.{statement}
 use Rattle.write_cells.proofs.good32.Tie as tie

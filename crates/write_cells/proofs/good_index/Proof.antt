@@ -5,7 +5,7 @@ use borrow.Author.Needs.{needs}
 use mathlib.Core.Path.{_≡_}
 use Rattle.write_layout.specs.Fields.{optionalBytes}
 use Rattle.write_pieces.specs.Pieces.{pieceOf, fine, raw}
-use Rattle.write_fit.proofs.FitLaws.{word-piece}
+use Rattle.write_pieces.proofs.FitLaws.{word-piece}
 use Rattle.write_cells.proofs.CellLaws.{is-absent, is-number, good-optional}
 use Rattle.write_cells.proofs.good_index.Statement.{statement}
 use Rattle.write_cells.proofs.good_index.Tie as tie

@@ -7,7 +7,7 @@ use Rattle.answer.specs.Answer.{both}
 use Rattle.record_layout.specs.Layouts.{isAnswered}
 use Rattle.word_attributes.specs.Pointers.{kindOf, modeOf}
 use Rattle.write_layout.specs.Fields.{writeField}
-use Rattle.write_fit.proofs.FitLaws.{word-piece}
+use Rattle.write_pieces.proofs.FitLaws.{word-piece}
 use Rattle.write_cells.proofs.CellLaws.{is-number, good-word}
 use Rattle.write_cells.proofs.good_pointer.Statement.{statement}
 use Rattle.write_cells.proofs.good_pointer.Tie as tie

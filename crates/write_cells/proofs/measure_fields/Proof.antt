@@ -24,7 +24,7 @@ returns : tie.Need-returns Inv-loop μ-loop
 returns c =
     let a = c .before .before .before .before .before .args in
     let l = c .before .before .before .loop in
-    rw (c .held-sum .ensures) (sym (l .inv .3 ∙ measure-none _ (l .n) (over-nine (a .text .now) (a .row .now) (l .i) (l .rest) (l .word) (l .inv .1) (c .before .if1 .taken))))
+    rw (c .capped-sum .ensures) (sym (l .inv .3 ∙ measure-none _ (l .n) (over-nine (a .text .now) (a .row .now) (l .i) (l .rest) (l .word) (l .inv .1) (c .before .if1 .taken))))
 
 returns-2 : tie.Need-returns-2 Inv-loop μ-loop
 returns-2 c =
@@ -47,15 +47,15 @@ loop-again c =
     let h : l .i < 9 = omega (arith, l .inv .0, c .before .before .before .before .before .before .before .before .before .before .before .if1 .left) in (
       omega arith,
       l .inv .1,
-      rw (c .before .held-sum2 .ensures) (omega arith),
-      rw (c .before .held-sum2 .ensures) (l .inv .3 ∙ size-next (a .text .now) (a .row .now) (l .i) (l .rest) (l .word) (l .inv .1) h (c .before .before .before .before .before .before .before .before .before .before .before .before .loop-test .taken) (omega (arith, c .before .before .before .before .before .before .before .before .before .if2 .left)) _ (c .before .before .before .before .before .before .field-piece .ensures (a .text .now)) _ (c .word-after .ensures (a .text .now) _) (l .n) _ (sym (c .before .before .before .before .before .size-of .ensures) ∙ ap saidMeasure (c .before .before .before .size .given .1))),
+      rw (c .before .capped-sum2 .ensures) (omega arith),
+      rw (c .before .capped-sum2 .ensures) (l .inv .3 ∙ size-next (a .text .now) (a .row .now) (l .i) (l .rest) (l .word) (l .inv .1) h (c .before .before .before .before .before .before .before .before .before .before .before .before .loop-test .taken) (omega (arith, c .before .before .before .before .before .before .before .before .before .if2 .left)) _ (c .before .before .before .before .before .before .field-piece .ensures (a .text .now)) _ (c .word-after .ensures (a .text .now) _) (l .n) _ (sym (c .before .before .before .before .before .size-of .ensures) ∙ ap saidMeasure (c .before .before .before .size .given .1))),
     )
 
 returns-4 : tie.Need-returns-4 Inv-loop μ-loop
 returns-4 c =
     let a = c .before .before .before .before .before .args in
     let l = c .before .before .before .loop in
-    rw (c .held-sum3 .ensures) (sym (l .inv .3 ∙ measure-none _ (l .n) (over-nine (a .text .now) (a .row .now) (l .i) (l .rest) (l .word) (l .inv .1) (c .before .if3 .taken))))
+    rw (c .capped-sum3 .ensures) (sym (l .inv .3 ∙ measure-none _ (l .n) (over-nine (a .text .now) (a .row .now) (l .i) (l .rest) (l .word) (l .inv .1) (c .before .if3 .taken))))
 
 returns-5 : tie.Need-returns-5 Inv-loop μ-loop
 returns-5 c =
@@ -71,11 +71,11 @@ returns-6 c =
     let l = c .before .before .before .before .before .loop in
     let h : l .i < 9 = omega (arith, l .inv .0, c .before .before .before .if3 .left) in
     let z : l .rest ≡ 0 = omega (arith, c .before .before .before .before .loop-test .left) in
-    rw (c .held-sum4 .ensures) (sym (l .inv .3 ∙ measure-none _ (l .n) (no-value (a .text .now) (a .row .now) (l .i) (l .rest) (l .word) (l .inv .1) h z (c .before .if4 .left))))
+    rw (c .capped-sum4 .ensures) (sym (l .inv .3 ∙ measure-none _ (l .n) (no-value (a .text .now) (a .row .now) (l .i) (l .rest) (l .word) (l .inv .1) h z (c .before .if4 .left))))
 
 pub measure-fields-spec : {M : Type 1} → statement M
 measure-fields-spec =
     tie.close (tie.spec
     Inv-loop μ-loop loop-holds (λ c κs. search needs) returns (λ c. omega arith) (λ c. omega arith) (λ c. omega arith) returns-2 (λ c. omega arith) (λ c. omega arith) (λ c. omega arith) (λ c. omega arith) (λ c. omega arith) (λ c. omega arith)
-    (λ c κs. omega (arith, c .before .before .if2 .left)) (λ c κs. search needs) (λ c. search needs) (λ c. search needs) returns-3 (λ c κs. search needs) (λ c. omega (arith, c .held-sum2 .ensures)) (λ c κs. search needs)
+    (λ c κs. omega (arith, c .before .before .if2 .left)) (λ c κs. search needs) (λ c. search needs) (λ c. search needs) returns-3 (λ c κs. search needs) (λ c. omega (arith, c .capped-sum2 .ensures)) (λ c κs. search needs)
     (λ c. omega arith) (λ c. omega arith) loop-again (λ c κs. search needs) returns-4 (λ c. omega arith) (λ c. omega arith) (λ c. omega arith) returns-5 (λ c κs. search needs) returns-6)

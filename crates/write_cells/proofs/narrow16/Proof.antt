@@ -1,7 +1,7 @@
 -- `write_cells::narrow16` meets its contract. Assumes nothing.
 use native.Mathlib.Omega.{arith}
 use borrow.Author.Needs.{needs}
-use Rattle.write_fit.proofs.FitLaws.{half-piece, too-large}
+use Rattle.write_pieces.proofs.FitLaws.{half-piece, too-large}
 use Rattle.write_cells.proofs.narrow16.Statement.{statement}
 use Rattle.write_cells.proofs.narrow16.Tie as tie
 

@@ -1,7 +1,7 @@
 -- `write_cells::narrow32` meets its contract. Assumes nothing.
 use native.Mathlib.Omega.{arith}
 use borrow.Author.Needs.{needs}
-use Rattle.write_fit.proofs.FitLaws.{word-piece, too-large}
+use Rattle.write_pieces.proofs.FitLaws.{word-piece, too-large}
 use Rattle.write_cells.proofs.narrow32.Statement.{statement}
 use Rattle.write_cells.proofs.narrow32.Tie as tie
 

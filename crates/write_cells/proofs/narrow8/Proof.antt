@@ -1,7 +1,7 @@
 -- `write_cells::narrow8` meets its contract. Assumes nothing.
 use native.Mathlib.Omega.{arith}
 use borrow.Author.Needs.{needs}
-use Rattle.write_fit.proofs.FitLaws.{byte-piece, too-large}
+use Rattle.write_pieces.proofs.FitLaws.{byte-piece, too-large}
 use Rattle.write_cells.proofs.narrow8.Statement.{statement}
 use Rattle.write_cells.proofs.narrow8.Tie as tie
 

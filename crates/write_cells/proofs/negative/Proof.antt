@@ -1,7 +1,7 @@
 -- `write_cells::negative` meets its contract. Assumes nothing.
 use native.Mathlib.Omega.{arith}
 use mathlib.Core.Path.{refl}
-use Rattle.write_fit.proofs.FitLaws.{negative-3, negative-4, negative-6, negative-10, negative-bad}
+use Rattle.write_pieces.proofs.FitLaws.{negative-3, negative-4, negative-6, negative-10, negative-bad}
 use borrow.Author.Needs.{needs}
 use Rattle.write_cells.proofs.negative.Statement.{statement}
 use Rattle.write_cells.proofs.negative.Tie as tie

@@ -1,5 +1,5 @@
 -- `write_cells::no_piece` meets its contract. Assumes nothing.
-use Rattle.write_fit.proofs.FitLaws.{bad-piece, no-piece}
+use Rattle.write_pieces.proofs.FitLaws.{bad-piece, no-piece}
 use Rattle.write_cells.proofs.CellLaws.{is-absent, not-absent}
 use Rattle.write_cells.proofs.no_piece.Statement.{statement}
 use Rattle.write_cells.proofs.no_piece.Tie as tie

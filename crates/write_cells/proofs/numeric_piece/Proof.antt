@@ -1,7 +1,7 @@
 -- `write_cells::numeric_piece` meets its contract. Assumes nothing.
 use borrow.Author.Needs.{needs}
 use Rattle.write_layout.specs.Fields.{writeField}
-use Rattle.write_fit.proofs.FitLaws.{bad-piece}
+use Rattle.write_pieces.proofs.FitLaws.{bad-piece}
 use Rattle.write_cells.proofs.CellLaws.{is-3, is-4, is-5, is-6, not-numeral}
 use Rattle.write_cells.proofs.numeric_piece.Statement.{statement}
 use Rattle.write_cells.proofs.numeric_piece.Tie as tie

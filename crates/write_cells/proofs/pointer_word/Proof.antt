@@ -4,7 +4,7 @@ use mathlib.Core.Path.{sym, _∙_}
 use Rattle.answer.proofs.Told.{told}
 use Rattle.word_attributes.specs.Said.{saidKind, saidMode}
 use Rattle.write_layout.specs.Fields.{writeField}
-use Rattle.write_fit.proofs.FitLaws.{bad-piece}
+use Rattle.write_pieces.proofs.FitLaws.{bad-piece}
 use Rattle.write_cells.proofs.CellLaws.{is-number, not-number, low-kind, low-mode}
 use Rattle.write_cells.proofs.pointer_word.Statement.{statement}
 use Rattle.write_cells.proofs.pointer_word.Tie as tie

@@ -8,15 +8,16 @@ use mathlib.Core.Path.{_≡_, _∙_, ap, refl}
 use lib.ListN.{length}
 use Rattle.field_put.specs.Bytes.{Room, Puts}
 use Rattle.field_put.proofs.PutLaws.{room-first, room-after, puts-both, puts-length}
-use Rattle.write_cells.specs.Cells.{leftBytes, good, held}
+use Rattle.write_layout.specs.Fields.{encodes, encodedBytes}
+use Rattle.write_cells.specs.Cells.{leftBytes}
 use Rattle.write_cells.proofs.LoopLaws.{leftAt, value-there, this-good, over-nine, fields-done, next-good, this-fine, next-held, puts-none}
 use Rattle.write_cells.proofs.put_fields.Statement.{statement}
 use Rattle.write_cells.proofs.put_fields.Tie as tie
 
 abbrev Inv-loop : tie.InvT-loop
 Inv-loop text layout row out₀ p to₀ i₀ rest₀ w₀ out to i rest w =
-    (i ≤ 9) × (length row ≡ 27) × (good (leftAt text row i rest w) ≡ true) × (Room out to (held (leftAt text row i rest w))) × (length out ≡ length out₀)
-    × ((r : ℕ) (s : List ℕ) → Puts out to (held (leftAt text row i rest w)) r s → Puts out₀ p (held (leftBytes 9 layout 0 text row)) r s)
+    (i ≤ 9) × (length row ≡ 27) × (encodes (leftAt text row i rest w) ≡ true) × (Room out to (encodedBytes (leftAt text row i rest w))) × (length out ≡ length out₀)
+    × ((r : ℕ) (s : List ℕ) → Puts out to (encodedBytes (leftAt text row i rest w)) r s → Puts out₀ p (encodedBytes (leftBytes 9 layout 0 text row)) r s)
 
 abbrev μ-loop : tie.MeasureT-loop
 μ-loop text layout row out₀ p to₀ i₀ rest₀ w₀ out to i rest w = 9 - i
@@ -28,7 +29,7 @@ returns : tie.Need-returns Inv-loop μ-loop
 returns c =
     let a = c .before .before .before .before .before .args in
     let l = c .before .before .loop in
-    l .inv .5 _ _ (puts-none _ _ _ (ap held (over-nine (a .text .now) (a .row .now) (l .i) (l .rest) (l .w) (l .inv .1) (c .if1 .taken))))
+    l .inv .5 _ _ (puts-none _ _ _ (ap encodedBytes (over-nine (a .text .now) (a .row .now) (l .i) (l .rest) (l .w) (l .inv .1) (c .if1 .taken))))
 
 good-piece-requires : tie.Need-good-piece-requires Inv-loop μ-loop
 good-piece-requires c κs =

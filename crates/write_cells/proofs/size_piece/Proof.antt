@@ -1,7 +1,7 @@
 -- `write_cells::size_piece` meets its contract. Assumes nothing.
 use borrow.Author.Needs.{needs}
 use Rattle.write_layout.specs.Fields.{writeField, sizeBytes}
-use Rattle.write_fit.proofs.FitLaws.{bad-piece}
+use Rattle.write_pieces.proofs.FitLaws.{bad-piece}
 use Rattle.write_cells.proofs.CellLaws.{is-3, is-4, not-size}
 use Rattle.write_cells.proofs.size_piece.Statement.{statement}
 use Rattle.write_cells.proofs.size_piece.Tie as tie

@@ -1,7 +1,7 @@
 -- `write_cells::text_piece` meets its contract. Assumes nothing.
 use native.Mathlib.Omega.{arith}
 use Rattle.write_layout.specs.Fields.{writeField}
-use Rattle.write_fit.proofs.FitLaws.{bad-piece, text-piece}
+use Rattle.write_pieces.proofs.FitLaws.{bad-piece, text-piece}
 use Rattle.write_cells.proofs.CellLaws.{is-many, not-many}
 use Rattle.write_cells.proofs.text_piece.Statement.{statement}
 use Rattle.write_cells.proofs.text_piece.Tie as tie

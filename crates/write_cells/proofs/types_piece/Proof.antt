@@ -2,7 +2,7 @@
 use native.Mathlib.Omega.{arith}
 use Prim.Native.Nat.{_*_}
 use Rattle.write_layout.specs.Fields.{writeField}
-use Rattle.write_fit.proofs.FitLaws.{bad-piece, run-piece}
+use Rattle.write_pieces.proofs.FitLaws.{bad-piece, run-piece}
 use Rattle.write_cells.proofs.CellLaws.{is-many, not-many, run-bad}
 use Rattle.write_cells.proofs.types_piece.Statement.{statement}
 use Rattle.write_cells.proofs.types_piece.Tie as tie

@@ -4,17 +4,17 @@ use borrow.Author.Needs.{needs}
 use Rattle.write_layout.specs.Records.{writeLeaf}
 use Rattle.answer.specs.Tables.{find}
 use Rattle.record_layout.specs.Layouts.{memberLeaves}
-use Rattle.write_row.specs.Rows.{enumerate}
+use Rattle.write_list.specs.Rows.{enumerate}
 use Rattle.write_layout.specs.Fields.{writeFields, writeField, sizeBytes}
 use Rattle.write_pieces.specs.Pieces.{piecesOf}
-use Rattle.write_fit.proofs.FitLaws.{no-piece}
+use Rattle.write_pieces.proofs.FitLaws.{no-piece}
 use Rattle.write_list.proofs.enumerate_value.Statement.{statement}
 use Rattle.write_list.proofs.enumerate_value.Tie as tie
 
 returns : tie.Need-returns
 unfolding piecesOf writeLeaf find memberLeaves enumerate writeFields writeField sizeBytes
 returns c = λ t. rw (
-  c .before .before .before .half .ensures .1 t,
+  c .before .before .before .two-bytes .ensures .1 t,
   c .before .before .narrow16 .ensures t,
   c .before .signed .ensures t,
   c .part-text .ensures t 0,

@@ -46,8 +46,8 @@ loop-again c =
     let l = c .before .before .before .before .before .before .before .before .before .before .loop in
     let e = sym (c .before .before .before .before .before .before .measure-row .ensures) ∙ ap saidMeasure (c .before .before .before .before .k .given .1) in (
       omega arith,
-      rw (c .before .held-sum .ensures) (omega arith),
-      rw (c .ends-after .ensures, c .before .held-sum .ensures, c .before .before .filled-size .ensures)
+      rw (c .before .capped-sum .ensures) (omega arith),
+      rw (c .ends-after .ensures, c .before .capped-sum .ensures, c .before .before .filled-size .ensures)
           (l .inv .2 ∙ rw (c .before .before .before .before .before .before .before .before .if1 .left) (measure-turn (a .leaf) (a .text .now) (a .rows .now) (l .i) [] (omega arith) (l .n) _ e)),
     )
 

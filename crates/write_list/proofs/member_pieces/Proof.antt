@@ -2,7 +2,7 @@
 use borrow.Author.Needs.{needs}
 use borrow.Author.Tests.{eq-eqb, ne-eqb}
 use Rattle.write_layout.specs.Records.{writeLeaf}
-use Rattle.write_row.specs.Rows.{rowValues}
+use Rattle.write_list.specs.Rows.{rowValues}
 use Rattle.write_list.specs.Elements.{elementBytes}
 use Rattle.write_list.proofs.member_pieces.Statement.{statement}
 use Rattle.write_list.proofs.member_pieces.Tie as tie

@@ -1,6 +1,6 @@
 -- `write_list::narrow16` meets its contract. Assumes nothing.
 use native.Mathlib.Omega.{arith}
-use Rattle.write_fit.proofs.FitLaws.{half-piece, too-large}
+use Rattle.write_pieces.proofs.FitLaws.{half-piece, too-large}
 use borrow.Author.Needs.{needs}
 use Rattle.write_list.proofs.narrow16.Statement.{statement}
 use Rattle.write_list.proofs.narrow16.Tie as tie

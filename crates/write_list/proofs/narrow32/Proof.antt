@@ -1,6 +1,6 @@
 -- `write_list::narrow32` meets its contract. Assumes nothing.
 use native.Mathlib.Omega.{arith}
-use Rattle.write_fit.proofs.FitLaws.{word-piece, too-large}
+use Rattle.write_pieces.proofs.FitLaws.{word-piece, too-large}
 use borrow.Author.Needs.{needs}
 use Rattle.write_list.proofs.narrow32.Statement.{statement}
 use Rattle.write_list.proofs.narrow32.Tie as tie

@@ -3,7 +3,7 @@ use borrow.Author.Tests.{eq-eqb, ne-eqb}
 use Rattle.answer.specs.Tables.{among}
 use Rattle.word_attributes.specs.Words.{introducing}
 use Rattle.write_layout.specs.Fields.{writeField}
-use Rattle.write_fit.proofs.FitLaws.{no-piece, bad-piece}
+use Rattle.write_pieces.proofs.FitLaws.{no-piece, bad-piece}
 use borrow.Author.Needs.{needs}
 use Rattle.write_list.proofs.offset.Statement.{statement}
 use Rattle.write_list.proofs.offset.Tie as tie

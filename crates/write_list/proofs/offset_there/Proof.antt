@@ -1,6 +1,6 @@
 -- `write_list::offset_there` meets its contract. Assumes nothing.
 use borrow.Author.Tests.{eq-eqb, ne-eqb}
-use Rattle.write_fit.proofs.FitLaws.{bad-piece}
+use Rattle.write_pieces.proofs.FitLaws.{bad-piece}
 use borrow.Author.Needs.{needs}
 use Rattle.write_list.proofs.offset_there.Statement.{statement}
 use Rattle.write_list.proofs.offset_there.Tie as tie

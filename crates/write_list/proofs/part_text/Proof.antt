@@ -1,6 +1,6 @@
 -- `write_list::part_text` meets its contract. Assumes nothing.
 use Rattle.write_layout.specs.Fields.{writeField}
-use Rattle.write_fit.proofs.FitLaws.{text-piece}
+use Rattle.write_pieces.proofs.FitLaws.{text-piece}
 use Rattle.write_list.proofs.part_text.Statement.{statement}
 use Rattle.write_list.proofs.part_text.Tie as tie
 

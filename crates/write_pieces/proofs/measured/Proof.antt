@@ -42,8 +42,8 @@ returns c =
     let l = c .before .before .before .before .before .loop in
     sym (l .inv .3 ∙ measure-stop (a .text .now) (a .t2) (l .i) piece.Nothing (omega arith) (l .n) (sym (c .before .before .size-of .ensures) ∙ ap saidMeasure (c .enum-told .given .1))) ∙ measure-all _ _
 
-held-sum-requires : tie.Need-held-sum-requires Inv-loop μ-loop
-held-sum-requires c κs = tt
+capped-sum-requires : tie.Need-capped-sum-requires Inv-loop μ-loop
+capped-sum-requires c κs = tt
 
 add-i : tie.Need-add-i Inv-loop μ-loop
 add-i c = omega arith
@@ -58,7 +58,7 @@ loop-again c =
       l .inv .0,
       omega arith,
       omega arith,
-      rw (c .held-sum .ensures) (l .inv .3 ∙ measure-turn (a .text .now) (a .t2) (l .i) piece.Nothing (omega arith) (l .n) _ (sym (c .before .before .before .before .size-of .ensures) ∙ ap saidMeasure (c .before .before .k .given .1))),
+      rw (c .capped-sum .ensures) (l .inv .3 ∙ measure-turn (a .text .now) (a .t2) (l .i) piece.Nothing (omega arith) (l .n) _ (sym (c .before .before .before .before .size-of .ensures) ∙ ap saidMeasure (c .before .before .k .given .1))),
     )
 
 returns-2 : tie.Need-returns-2 Inv-loop μ-loop
@@ -80,7 +80,7 @@ measured-spec =
     enum-known-k
     enum-told
     returns
-    held-sum-requires
+    capped-sum-requires
     add-i
     loop-less
     loop-again

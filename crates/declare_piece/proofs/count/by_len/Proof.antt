@@ -5,13 +5,13 @@ use Rattle.declare_piece.proofs.count.by_len.Statement.{statement}
 use Rattle.declare_piece.proofs.count.by_len.Tie as tie
 use Rattle.declare_piece.proofs.count.by_len.Reads as reads
 use Rattle.declare_piece.proofs.count.by_len.Lts as lts
-use Rattle.declare_word.proofs.by.Reads as by-reads
+use Rattle.declare_word.proofs.indirection.Reads as indirection-reads
 
-by-requires : tie.Need-by-requires
-by-requires c κs = search needs
+indirection-requires : tie.Need-indirection-requires
+indirection-requires c κs = search needs
 
 returns : tie.Need-returns
-returns c = word-length _ _ (c .by .ensures)
+returns c = word-length _ _ (c .indirection .ensures)
 
 pub by-len-spec : {M : Type 1} → statement M
-by-len-spec = tie.close (tie.spec by-requires returns)
+by-len-spec = tie.close (tie.spec indirection-requires returns)

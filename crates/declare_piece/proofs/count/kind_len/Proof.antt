@@ -5,13 +5,13 @@ use Rattle.declare_piece.proofs.count.kind_len.Statement.{statement}
 use Rattle.declare_piece.proofs.count.kind_len.Tie as tie
 use Rattle.declare_piece.proofs.count.kind_len.Reads as reads
 use Rattle.declare_piece.proofs.count.kind_len.Lts as lts
-use Rattle.declare_kind.proofs.kind.Reads as kind-reads
+use Rattle.declare_word.proofs.kind.spelled.Reads as spelled-reads
 
-kind-requires : tie.Need-kind-requires
-kind-requires c κs = search needs
+spelled-requires : tie.Need-spelled-requires
+spelled-requires c κs = search needs
 
 returns : tie.Need-returns
-returns c = word-length _ _ (c .kind .ensures)
+returns c = word-length _ _ (c .spelled .ensures)
 
 pub kind-len-spec : {M : Type 1} → statement M
-kind-len-spec = tie.close (tie.spec kind-requires returns)
+kind-len-spec = tie.close (tie.spec spelled-requires returns)

@@ -6,19 +6,19 @@ use Rattle.declare_piece.proofs.write.kind.Tie as tie
 use Rattle.declare_piece.proofs.write.kind.Reads as reads
 use Rattle.declare_piece.proofs.write.kind.Lts as lts
 use Rattle.declare_piece.proofs.write.word.Reads as word-reads
-use Rattle.declare_kind.proofs.kind.Reads as kind-reads
+use Rattle.declare_word.proofs.kind.spelled.Reads as spelled-reads
 
-kind-requires : tie.Need-kind-requires
-kind-requires c κs = search needs
+spelled-requires : tie.Need-spelled-requires
+spelled-requires c κs = search needs
 
 word-requires : tie.Need-word-requires
-word-requires c κs = word-fits _ _ _ _ (c .kind .ensures) (c .before .before .before .pre)
+word-requires c κs = word-fits _ _ _ _ (c .spelled .ensures) (c .before .before .before .pre)
 
 same-length : tie.Need-same-length
 same-length c = search needs
 
 returns : tie.Need-returns
-returns c = word-puts _ _ _ _ _ _ (c .before .before .before .kind .ensures) (c .before .before .word .ensures)
+returns c = word-puts _ _ _ _ _ _ (c .before .before .before .spelled .ensures) (c .before .before .word .ensures)
 
 pub kind-spec : {M : Type 1} → statement M
-kind-spec = tie.close (tie.spec kind-requires word-requires same-length returns)
+kind-spec = tie.close (tie.spec spelled-requires word-requires same-length returns)

@@ -7,13 +7,13 @@ use Rattle.answer.proofs.Told.{told}
 use Rattle.record_list.specs.Said.{saidStep}
 use Rattle.record_reference.specs.Values.{elementRefs}
 use Rattle.record_reference.proofs.ValueLaws.{step-tell}
-use Rattle.stream_drop.specs.Each.{held, doneFrom}
+use Rattle.stream_drop.specs.Each.{heldOf, doneFrom}
 use Rattle.stream_drop.proofs.EachLaws.{from-none, from-refused, from-more, element-within}
 use Rattle.stream_drop.proofs.each.at_elements.Statement.{statement}
 use Rattle.stream_drop.proofs.each.at_elements.Tie as tie
 
 abbrev Inv-loop : tie.InvT-loop
-Inv-loop s minimum job good table₀ out₀ here₀ left₀ fine₀ table out here left fine = (length table ≡ length table₀) × (length out ≡ length out₀) × (doneFrom minimum job left s here (held fine table out) ≡ doneFrom minimum job (length s) s here₀ (held good table₀ out₀))
+Inv-loop s minimum job good table₀ out₀ here₀ left₀ fine₀ table out here left fine = (length table ≡ length table₀) × (length out ≡ length out₀) × (doneFrom minimum job left s here (heldOf fine table out) ≡ doneFrom minimum job (length s) s here₀ (heldOf good table₀ out₀))
 
 abbrev μ-loop : tie.MeasureT-loop
 μ-loop s minimum job good table₀ out₀ here₀ left₀ fine₀ table out here left fine = left

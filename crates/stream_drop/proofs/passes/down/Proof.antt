@@ -4,14 +4,14 @@ use native.Mathlib.Omega.{arith}
 use mathlib.Core.Path.{_≡_, refl, _∙_}
 use mathlib.Core.Bool.{true}
 use lib.ListN.{length}
-use Rattle.stream_drop.specs.Each.{held}
+use Rattle.stream_drop.specs.Each.{heldOf}
 use Rattle.stream_drop.specs.Passes.{downFrom}
 use Rattle.stream_drop.proofs.PassLaws.{down-turn, down-end}
 use Rattle.stream_drop.proofs.passes.down.Statement.{statement}
 use Rattle.stream_drop.proofs.passes.down.Tie as tie
 
 abbrev Inv-loop : tie.InvT-loop
-Inv-loop s minimum n table₀ out₀ good₀ i₀ end₀ table out good i end = (length table ≡ length table₀) × (length out ≡ length out₀) × (downFrom minimum s i «end» (held good table out) ≡ downFrom minimum s n (length s) (held true table₀ out₀))
+Inv-loop s minimum n table₀ out₀ good₀ i₀ end₀ table out good i end = (length table ≡ length table₀) × (length out ≡ length out₀) × (downFrom minimum s i «end» (heldOf good table out) ≡ downFrom minimum s n (length s) (heldOf true table₀ out₀))
 
 abbrev μ-loop : tie.MeasureT-loop
 μ-loop s minimum n table₀ out₀ good₀ i₀ end₀ table out good i end = i

@@ -4,13 +4,13 @@ use native.Mathlib.Omega.{arith}
 use Prim.Native.Nat.{_+_, _*_, _-_, _≤_}
 use mathlib.Core.Path.{_≡_, refl, sym, _∙_}
 use lib.ListN.{length}
-use Rattle.stream_drop.specs.Passes.{numbered, numberFrom}
+use Rattle.stream_drop.specs.Passes.{numberedTo, numberFrom}
 use Rattle.stream_drop.proofs.PassLaws.{number-start, number-turn, number-end}
 use Rattle.stream_drop.proofs.passes.number.Statement.{statement}
 use Rattle.stream_drop.proofs.passes.number.Tie as tie
 
 abbrev Inv-loop : tie.InvT-loop
-Inv-loop table₀ minimum n k₀ i₀ table k i = (i ≤ n) × (length table ≡ length table₀) × (k .next ≤ minimum + i) × (k .bytes ≤ 65537 * i) × (numberFrom (n - i) i (numbered table k) ≡ numberFrom n 0 (numbered table₀ k₀))
+Inv-loop table₀ minimum n k₀ i₀ table k i = (i ≤ n) × (length table ≡ length table₀) × (k .next ≤ minimum + i) × (k .bytes ≤ 65537 * i) × (numberFrom (n - i) i (numberedTo table k) ≡ numberFrom n 0 (numberedTo table₀ k₀))
 
 abbrev μ-loop : tie.MeasureT-loop
 μ-loop table₀ minimum n k₀ i₀ table k i = n - i

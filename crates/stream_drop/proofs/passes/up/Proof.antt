@@ -8,7 +8,7 @@ use lib.ListN.{length}
 use Rattle.answer.proofs.Told.{told}
 use Rattle.stream_item.specs.Iterator.{saidNext}
 use Rattle.stream_prune.specs.Links.{payloadsFrom}
-use Rattle.stream_drop.specs.Each.{held}
+use Rattle.stream_drop.specs.Each.{heldOf}
 use Rattle.stream_drop.specs.Passes.{upFrom}
 use Rattle.stream_drop.proofs.PassLaws.{payloads-refused, payloads-done, payloads-more, payloads-out, up-none, up-turn, first-is}
 use Rattle.stream_drop.proofs.passes.up.Statement.{statement}
@@ -16,7 +16,7 @@ use Rattle.stream_drop.proofs.passes.up.Tie as tie
 
 abbrev Inv-loop : tie.InvT-loop
 Inv-loop s minimum n writing start table₀ out₀ here₀ left₀ i₀ q₀ good₀ table out here left i q good = (i + left ≡ n) × (q ≤ start + 65537 * i) × (length table ≡ length table₀) × (length out ≡ length out₀)
-    × (upFrom minimum writing i q (payloadsFrom left s here) (held good table out) ≡ upFrom minimum writing 0 start (payloadsFrom n s here₀) (held true table₀ out₀))
+    × (upFrom minimum writing i q (payloadsFrom left s here) (heldOf good table out) ≡ upFrom minimum writing 0 start (payloadsFrom n s here₀) (heldOf true table₀ out₀))
 
 abbrev μ-loop : tie.MeasureT-loop
 μ-loop s minimum n writing start table₀ out₀ here₀ left₀ i₀ q₀ good₀ table out here left i q good = left

@@ -3,7 +3,7 @@
 use mathlib.Core.Path.{ap}
 use Rattle.answer.specs.Tables.{find}
 use Rattle.answer.proofs.TableLaws.{missed}
-use Rattle.word_attributes.specs.Pointers.{good, modeOf, pointerModes}
+use Rattle.word_attributes.specs.Pointers.{goodOr12, modeOf, pointerModes}
 use Rattle.word_attributes.proofs.PointerAttributes.pointer_mode.Statement.{statement}
 use Rattle.word_attributes.proofs.PointerAttributes.pointer_mode.Tie as tie
 
@@ -12,4 +12,4 @@ unfolding modeOf find pointerModes
 pointer-mode-spec =
     tie.close (tie.spec
     (λ c. simp (c .match .keys1)) (λ c. simp (c .match .keys2)) (λ c. simp (c .match .keys3)) (λ c. simp (c .match .keys4))
-    (λ c. simp (c .match .keys5)) (λ c. ap good (missed pointerModes _ (c .match .rest))))
+    (λ c. simp (c .match .keys5)) (λ c. ap goodOr12 (missed pointerModes _ (c .match .rest))))

@@ -4,14 +4,14 @@ use native.Mathlib.Omega.{arith}
 use Prim.Native.Nat.{ℕ}
 use mathlib.Core.Path.{_≡_, sym, ap, _∙_}
 use mathlib.Core.List.{List}
-use Rattle.stream_places.specs.File.{Form, trailerBy}
+use Rattle.stream_places.specs.File.{FileForm, trailerBy}
 use Rattle.stream_places.proofs.FileLaws.{spells-short, form-narrow, form-wide}
 use Rattle.stream_places.proofs.trailer.Trailer.parse_wide.Statement.{statement}
 use Rattle.stream_places.proofs.trailer.Trailer.parse_wide.Tie as tie
 
 -- by the form that the letters say
-by-form : (f : List ℕ) (F G : Form) → G ≡ F → trailerBy F f ≡ trailerBy G f
-by-form f F G e = ap (λ (H : Form). trailerBy H f) (sym e)
+by-form : (f : List ℕ) (F G : FileForm) → G ≡ F → trailerBy F f ≡ trailerBy G f
+by-form f F G e = ap (λ (H : FileForm). trailerBy H f) (sym e)
 
 returns : tie.Need-returns
 returns c = c .parsed .ensures ∙ by-form _ _ _ (form-narrow _ (spells-short _ (omega arith)))
