@@ -1,4 +1,4 @@
-//! Names of leaves and refusals. The tables are those of c/pdb_names.h, and a test holds them to it.
+//! Names of leaves and refusals. The tables are those of c/pdb_names.h; tools/c_names writes both, and a test holds the one to the other.
 use std::fmt;
 
 /// The name of a refusal's number.
