@@ -11,14 +11,10 @@ import shutil
 import subprocess
 
 HERE = "compare/fuzz"
+LIBRARY = "lib/x86_64-linux/libpdb_types.a"
 STRICT = ["-std=c99", "-Wall", "-Wextra", "-Wpedantic", "-Wconversion", "-Wshadow", "-Werror"]
 CHECKED = ["-g", "-O1", "-fno-sanitize-recover=all"]
 LAWS = ("cells", "rows", "kept", "section", "declare", "fit", "drop", "report", "find", "calls")
-
-
-def library():
-    built, stands = "target/lib/libpdb_types.a", "lib/x86_64-linux/libpdb_types.a"
-    return built if os.path.exists(built) else stands
 
 
 def clang():
@@ -49,7 +45,7 @@ def build_law(compiler, guided, target, folder, linked=None):
     program = os.path.join(folder, f"law_{target}")
     sources = [f"{HERE}/laws/law.c", f"{HERE}/laws/{target}.c"] + ([] if guided else [f"{HERE}/laws/main.c"])
     options = CHECKED + ["-fsanitize=fuzzer,undefined"] if guided else ["-O2"]
-    done = subprocess.run([compiler, *STRICT, *options, "-Ic", *sources, linked or library(), "-o", program], capture_output=True, text=True)
+    done = subprocess.run([compiler, *STRICT, *options, "-Ic", *sources, linked or LIBRARY, "-o", program], capture_output=True, text=True)
     if done.returncode != 0:
         raise RuntimeError(done.stderr[-3000:])
     return program
