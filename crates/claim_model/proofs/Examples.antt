@@ -39,7 +39,7 @@ pointed = 0x02 ∷ 0x10 ∷ 0 ∷ 0x10 ∷ 0 ∷ 0 ∷ 0x0c ∷ 0 ∷ 1 ∷ 0 �
 abbrev found : ℕ → List ℕ → Rust Item
 found i b = gives (record { index = i; bytes = b })
 
--- "`finder-find` 4097 in E passes 1 link; 4098 gives 1 with 2 passed; 4099 gives 8; 4095 the marker"
+-- "`find` 4097 in E passes 1 link; 4098 gives 1 with 2 passed; 4099 gives 8; 4095 the marker"
 pub crate-finds : map (crateRun streamE 2) (4096 ∷ 4097 ∷ 4098 ∷ 4099 ∷ 4095 ∷ [])
     ≡ found 4096 modifier ∷ found 4097 pointed ∷ errs UnexpectedEof ∷ errs (TypeNotFound 4099) ∷ found 4095 PRIMITIVE-TYPE ∷ []
 unfolding crateRun parse-information parse-header fields iter new resolve max-index update skipped hit miss finder-find next tour len is-empty parse take littleAt
@@ -90,7 +90,7 @@ pub crate-edges : map (λ s. crateRun s 1 4104)
 unfolding crateRun parse-information parse-header fields iter new resolve max-index update skipped hit miss finder-find next tour len is-empty parse take littleAt
 crate-edges = refl
 
--- "Giving `finder-find` the iterator's length rule: on a chain with a one-byte payload it must still answer"
+-- "Giving `find` the iterator's length rule: on a chain with a one-byte payload it must still answer"
 pub one-byte : crateRun (made (four 56 0) (four 0 16) (four 16 16) (1 ∷ 0 ∷ 5 ∷ 2 ∷ 0 ∷ 6 ∷ 7 ∷ [])) 0 4097 ≡ found 4097 (6 ∷ 7 ∷ [])
 unfolding crateRun parse-information parse-header fields iter new resolve max-index update skipped hit miss finder-find next tour len is-empty parse take littleAt
 one-byte = refl
@@ -107,7 +107,7 @@ courses = refl
 abbrev twice : List ℕ → List ℕ
 twice b = b ++ b
 
--- eight records, then a length of one, which `next` refuses and `finder-find` takes
+-- eight records, then a length of one, which `next` refuses and `find` takes
 abbrev short-ninth : List ℕ
 short-ninth = made (four 56 0) (four 0 16) (four 8 16) (twice (twice (twice (2 ∷ 0 ∷ 6 ∷ 7 ∷ []))) ++ (1 ∷ 0 ∷ 5 ∷ []))
 

@@ -69,7 +69,7 @@ pub record Demand2 : Type 0 where
   pub none-long : (s : List ℕ) (e : Entry) → LiesIn s e → item-is-empty (entryShown s e) ≡ eqb (lengthOf e) 0
   pub raw-kinds : (t p : List ℕ) → Lent t → Lent p → (e : Entry) → LiesIn (streamNamed t p (indexOf e)) e
       → Equal (raw-kind (entryShown (streamNamed t p (indexOf e)) e)) (rawKindOf t p e)
-  -- "Finder": a fresh finder of a stream, whose shift is 3 in both; and `update`, `finder-find` and `max_index` for any places held in a table that does not
+  -- "Finder": a fresh finder of a stream, whose shift is 3 in both; and `update`, `find` and `max_index` for any places held in a table that does not
   -- lack room, the crate's finder having the port's shift, from 0 to 6; the places fit a u32 times the block
   pub creations : (s t : List ℕ) → Lent s → Roomy (createOf s t) → Same (_>>=_ (parse-information s) finder) (shownBy (finderShown s) (createOf s t))
   pub updates : (s : List ℕ) (σ : State) (c : ItemIter) → c .at ≤ longest → σ .finder .shift ≤ 6 → σ .finder .held ≤ length (σ .table) → Roomy (updateOf σ c)
