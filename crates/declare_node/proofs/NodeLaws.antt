@@ -48,12 +48,6 @@ class-name s σ p n kind.Struct r = refl
 class-name s σ p n kind.Interface r = refl
 class-name s σ p n kind.Struct19 r = refl
 
-pub class-list : (p n : ℕ) (k : ClassKind) (r : ClassType) → arguments.Refused refusal.LeafNotPrinted ≡ listBy (held p n (kindValues k r))
-class-list p n kind.Class r = refl
-class-list p n kind.Struct r = refl
-class-list p n kind.Interface r = refl
-class-list p n kind.Struct19 r = refl
-
 -- ---- names and lists
 
 module _ (p n : ℕ) (x : Part) where

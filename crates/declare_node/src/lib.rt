@@ -244,25 +244,7 @@ fn sized_record(d: TypeData) -> Sized
                 }
             }
         }
-        TypeData::Procedure(_) => {
-            return Sized::Known(0);
-        }
-        TypeData::MemberFunction(_) => {
-            return Sized::Known(0);
-        }
-        TypeData::Bitfield(_) => {
-            return Sized::Known(0);
-        }
-        TypeData::VirtualTableShape(_) => {
-            return Sized::Known(0);
-        }
-        TypeData::FieldList => {
-            return Sized::Known(0);
-        }
-        TypeData::ArgumentList(_) => {
-            return Sized::Known(0);
-        }
-        TypeData::MethodList => {
+        _ => {
             return Sized::Known(0);
         }
     }
@@ -409,22 +391,7 @@ fn node_in(s: &[u8], f: ItemFinder, t: &[u32], p: usize, n: usize, d: TypeData) 
             let x = r.name;
             return name_at(p, n, x);
         }
-        TypeData::MemberFunction(_) => {
-            return Node::Refused(Refusal::LeafNotPrinted);
-        }
-        TypeData::Bitfield(_) => {
-            return Node::Refused(Refusal::LeafNotPrinted);
-        }
-        TypeData::VirtualTableShape(_) => {
-            return Node::Refused(Refusal::LeafNotPrinted);
-        }
-        TypeData::FieldList => {
-            return Node::Refused(Refusal::LeafNotPrinted);
-        }
-        TypeData::ArgumentList(_) => {
-            return Node::Refused(Refusal::LeafNotPrinted);
-        }
-        TypeData::MethodList => {
+        _ => {
             return Node::Refused(Refusal::LeafNotPrinted);
         }
     }
@@ -454,56 +421,19 @@ fn list_in(p: usize, n: usize, d: TypeData) -> Arguments
     requires { ⌜ p + n < 9223372036854775808 ⌝ }
     ensures { λ r. ⌜ r ≡ listBy (held p n (typeValues d)) ⌝ }
 {
-    match d {
-        TypeData::ArgumentList(a) => {
-            let place = a.place;
-            let count = a.count;
-            if place > n {
-                return Arguments::Refused(Refusal::Ended);
-            }
-            if 4 * (count as usize) > n - place {
-                return Arguments::Refused(Refusal::Ended);
-            }
-            let at = p + place;
-            return Arguments::At(at, count);
-        }
-        TypeData::Class(_) => {
-            return Arguments::Refused(Refusal::LeafNotPrinted);
-        }
-        TypeData::MemberFunction(_) => {
-            return Arguments::Refused(Refusal::LeafNotPrinted);
-        }
-        TypeData::Procedure(_) => {
-            return Arguments::Refused(Refusal::LeafNotPrinted);
-        }
-        TypeData::Pointer(_) => {
-            return Arguments::Refused(Refusal::LeafNotPrinted);
-        }
-        TypeData::Modifier(_) => {
-            return Arguments::Refused(Refusal::LeafNotPrinted);
-        }
-        TypeData::Enumeration(_) => {
-            return Arguments::Refused(Refusal::LeafNotPrinted);
-        }
-        TypeData::Array(_) => {
-            return Arguments::Refused(Refusal::LeafNotPrinted);
-        }
-        TypeData::Union(_) => {
-            return Arguments::Refused(Refusal::LeafNotPrinted);
-        }
-        TypeData::Bitfield(_) => {
-            return Arguments::Refused(Refusal::LeafNotPrinted);
-        }
-        TypeData::VirtualTableShape(_) => {
-            return Arguments::Refused(Refusal::LeafNotPrinted);
-        }
-        TypeData::FieldList => {
-            return Arguments::Refused(Refusal::LeafNotPrinted);
-        }
-        TypeData::MethodList => {
-            return Arguments::Refused(Refusal::LeafNotPrinted);
-        }
+    let TypeData::ArgumentList(a) = d else {
+        return Arguments::Refused(Refusal::LeafNotPrinted);
+    };
+    let place = a.place;
+    let count = a.count;
+    if place > n {
+        return Arguments::Refused(Refusal::Ended);
     }
+    if 4 * (count as usize) > n - place {
+        return Arguments::Refused(Refusal::Ended);
+    }
+    let at = p + place;
+    Arguments::At(at, count)
 }
 
 // The argument list that index i names.

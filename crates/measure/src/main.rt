@@ -170,7 +170,6 @@ fn record_read(s: &[u8], i: Item) -> u64 {
             TypeData::Array(a) => sums::array(a),
             TypeData::Union(u) => sums::union_type(u),
             TypeData::Bitfield(b) => sums::bitfield(b),
-            TypeData::VirtualTableShape(_) => 0,
             TypeData::FieldList => list_read(
                 Stream::Types,
                 stream_view::bytes_of(s, s, Entry::Record(i)),
@@ -183,6 +182,7 @@ fn record_read(s: &[u8], i: Item) -> u64 {
                 Stream::Types,
                 stream_view::bytes_of(s, s, Entry::Record(i)),
             ),
+            _ => 0,
         },
         ParseAnswer::Id(d) => match d {
             IdData::Function(f) => sums::function(f),

@@ -210,7 +210,7 @@ fn class_row(d: ClassType) -> [u64; 15]
 fn member_function_row(d: MemberFunctionType) -> [u64; 15]
     ensures { λ r. ⌜ r ≡ 0 ∷ 0 ∷ typeRow (typeValues (TypeData.MemberFunction d)) ⌝ }
 {
-    let this = d.this_pointer_type;
+    let this_pointer_type = d.this_pointer_type;
     [
         0,
         0,
@@ -220,7 +220,7 @@ fn member_function_row(d: MemberFunctionType) -> [u64; 15]
         d.return_type.0 as u64,
         d.argument_list.0 as u64,
         d.class_type.0 as u64,
-        index_or_0(this),
+        index_or_0(this_pointer_type),
         d.this_adjustment as u64,
         0,
         0,
@@ -233,14 +233,14 @@ fn member_function_row(d: MemberFunctionType) -> [u64; 15]
 fn procedure_row(d: ProcedureType) -> [u64; 15]
     ensures { λ r. ⌜ r ≡ 0 ∷ 0 ∷ typeRow (typeValues (TypeData.Procedure d)) ⌝ }
 {
-    let given = d.return_type;
+    let return_type = d.return_type;
     [
         0,
         0,
         0x1008,
         d.parameter_count as u64,
         d.attributes.0 as u64,
-        index_or_0(given),
+        index_or_0(return_type),
         d.argument_list.0 as u64,
         0,
         0,
@@ -301,7 +301,7 @@ fn modifier_row(d: ModifierType) -> [u64; 15]
 fn enumeration_row(d: EnumerationType) -> [u64; 15]
     ensures { λ r. ⌜ r ≡ 0 ∷ 0 ∷ typeRow (typeValues (TypeData.Enumeration d)) ⌝ }
 {
-    let unique = d.unique_name;
+    let unique_name = d.unique_name;
     [
         0,
         0,
@@ -316,8 +316,8 @@ fn enumeration_row(d: EnumerationType) -> [u64; 15]
         0,
         d.name.place as u64,
         d.name.length as u64,
-        place_or_0(unique),
-        length_or_0(unique),
+        place_or_0(unique_name),
+        length_or_0(unique_name),
     ]
 }
 
@@ -347,8 +347,8 @@ fn array_row(d: ArrayType) -> [u64; 15]
 fn union_row(d: UnionType) -> [u64; 15]
     ensures { λ r. ⌜ r ≡ 0 ∷ 0 ∷ typeRow (typeValues (TypeData.Union d)) ⌝ }
 {
-    let unique = d.unique_name;
     let size = d.size;
+    let unique_name = d.unique_name;
     [
         0,
         0,
@@ -363,8 +363,8 @@ fn union_row(d: UnionType) -> [u64; 15]
         form(size),
         d.name.place as u64,
         d.name.length as u64,
-        place_or_0(unique),
-        length_or_0(unique),
+        place_or_0(unique_name),
+        length_or_0(unique_name),
     ]
 }
 

@@ -28,7 +28,7 @@ pub const WORD16: u64 = 9;
 
 pub const WORD32: u64 = 10;
 
-pub const POINTER: u64 = 11;
+pub const POINTER_WORD: u64 = 11;
 
 pub const GAP: u64 = 12;
 
@@ -57,11 +57,11 @@ pub const MEMBERS: u64 = 23;
 
 const MODIFIER: u64 = T | U16 << 5;
 
-const POINTERS: u64 = T | POINTER << 5 | MEMBER_O << 10;
+const POINTER: u64 = T | POINTER_WORD << 5 | MEMBER_O << 10;
 
 const PROCEDURE: u64 = O | U16 << 5 | U16 << 10 | T << 15;
 
-const MEMBER_FUNCTION: u64 = T | T << 5 | O << 10 | U16 << 15 | U16 << 20 | T << 25 | U32 << 30;
+const MFUNCTION: u64 = T | T << 5 | O << 10 | U16 << 15 | U16 << 20 | T << 25 | U32 << 30;
 
 const BITFIELD: u64 = T | U8 << 5 | U8 << 10;
 
@@ -73,7 +73,7 @@ const UNION: u64 = U16 | WORD16 << 5 | T << 10 | N << 15 | S << 20 | S2 << 25;
 
 const ENUM: u64 = U16 | WORD16 << 5 | T << 10 | T << 15 | S << 20 | S2 << 25;
 
-const CLASS19: u64 = WORD16
+const STRUCTURE19: u64 = WORD16
     | GAP << 5
     | O << 10
     | O << 15
@@ -83,39 +83,39 @@ const CLASS19: u64 = WORD16
     | S << 35
     | S2 << 40;
 
-const SHAPE: u64 = WORD16 | SLOTS << 5;
+const VTSHAPE: u64 = WORD16 | SLOTS << 5;
 
-const ARGUMENTS: u64 = WORD32 | TYPES << 5;
+const ARGLIST: u64 = WORD32 | TYPES << 5;
+
+const BCLASS: u64 = WORD16 | T << 5 | N << 10;
 
 const VIRTUAL_BASE: u64 = WORD16 | T << 5 | T << 10 | N << 15 | N << 20;
 
 const ALONE: u64 = GAP | T << 5;
 
-const NAMED: u64 = WORD16 | T << 5 | S << 10;
-
-const BASE: u64 = WORD16 | T << 5 | N << 10;
-
 const ENUMERATE: u64 = WORD16 | NUMERIC << 5 | S << 10;
 
 const MEMBER: u64 = WORD16 | T << 5 | N << 10 | S << 15;
 
-const OVERLOADS: u64 = U16 | T << 5 | S << 10;
+const NAMED: u64 = WORD16 | T << 5 | S << 10;
 
-const ONE_METHOD: u64 = WORD16 | T << 5 | OFFSET << 10 | S << 15;
+const METHOD: u64 = U16 | T << 5 | S << 10;
 
-const FUNCTION: u64 = OPTIONAL_ID | T << 5 | S << 10;
+const ONEMETHOD: u64 = WORD16 | T << 5 | OFFSET << 10 | S << 15;
 
-const METHOD_OF: u64 = T | T << 5 | S << 10;
+const FUNC_ID: u64 = OPTIONAL_ID | T << 5 | S << 10;
 
-const BUILD: u64 = WORD16 | IDS << 5;
+const MFUNC_ID: u64 = T | T << 5 | S << 10;
 
-const STRINGS: u64 = WORD32 | TYPES << 5;
+const BUILDINFO: u64 = WORD16 | IDS << 5;
 
-const STRING: u64 = OPTIONAL_ID | S << 5;
+const SUBSTR_LIST: u64 = WORD32 | TYPES << 5;
 
-const SOURCE: u64 = T | ID << 5 | U32 << 10;
+const STRING_ID: u64 = OPTIONAL_ID | S << 5;
 
-const MODULE_SOURCE: u64 = T | STRING_REF << 5 | U32 << 10 | U16 << 15;
+const UDT_SRC_LINE: u64 = T | ID << 5 | U32 << 10;
+
+const UDT_MOD_SRC_LINE: u64 = T | STRING_REF << 5 | U32 << 10 | U16 << 15;
 
 const LIST_METHOD: u64 = WORD16 | GAP << 5 | T << 10 | OFFSET << 15;
 
@@ -125,9 +125,9 @@ pub fn type_layout(leaf: u16) -> u64
 {
     match leaf {
         0x1001 => MODIFIER,
-        0x1002 => POINTERS,
+        0x1002 => POINTER,
         0x1008 => PROCEDURE,
-        0x1009 => MEMBER_FUNCTION,
+        0x1009 => MFUNCTION,
         0x1205 => BITFIELD,
         0x1503 => ARRAY,
         0x1504 => CLASS,
@@ -135,9 +135,9 @@ pub fn type_layout(leaf: u16) -> u64
         0x1519 => CLASS,
         0x1506 => UNION,
         0x1507 => ENUM,
-        0x1609 => CLASS19,
-        0x000a => SHAPE,
-        0x1201 => ARGUMENTS,
+        0x1609 => STRUCTURE19,
+        0x000a => VTSHAPE,
+        0x1201 => ARGLIST,
         0x1206 => METHODS,
         0x1203 => MEMBERS,
         _ => 0,
@@ -149,7 +149,7 @@ pub fn member_layout(leaf: u16) -> u64
     ensures { λ r. ⌜ (layoutIn r ≡ find leaf memberLeaves) × (r ≡ codeIn memberCodes leaf) ⌝ }
 {
     match leaf {
-        0x1400 => BASE,
+        0x1400 => BCLASS,
         0x1401 => VIRTUAL_BASE,
         0x1402 => VIRTUAL_BASE,
         0x1404 => ALONE,
@@ -157,9 +157,9 @@ pub fn member_layout(leaf: u16) -> u64
         0x1502 => ENUMERATE,
         0x150d => MEMBER,
         0x150e => NAMED,
-        0x150f => OVERLOADS,
+        0x150f => METHOD,
         0x1510 => NAMED,
-        0x1511 => ONE_METHOD,
+        0x1511 => ONEMETHOD,
         _ => 0,
     }
 }
@@ -176,13 +176,13 @@ pub fn id_layout(leaf: u16) -> u64
     ensures { λ r. ⌜ (layoutIn r ≡ find leaf idLeaves) × (r ≡ codeIn idCodes leaf) ⌝ }
 {
     match leaf {
-        0x1601 => FUNCTION,
-        0x1602 => METHOD_OF,
-        0x1603 => BUILD,
-        0x1604 => STRINGS,
-        0x1605 => STRING,
-        0x1606 => SOURCE,
-        0x1607 => MODULE_SOURCE,
+        0x1601 => FUNC_ID,
+        0x1602 => MFUNC_ID,
+        0x1603 => BUILDINFO,
+        0x1604 => SUBSTR_LIST,
+        0x1605 => STRING_ID,
+        0x1606 => UDT_SRC_LINE,
+        0x1607 => UDT_MOD_SRC_LINE,
         _ => 0,
     }
 }

@@ -18,7 +18,7 @@ use Rattle.record_layout.specs.Layouts.{readLeaf, leafOf, typeLeaves}
 use Rattle.record_data.specs.declared.ClassKind.{ClassKind}
 use Rattle.record_data.specs.declared.ClassKind.the-variants as kind
 use Rattle.record_data.specs.declared.ClassType.{ClassType}
-use Rattle.record_data.specs.Said.{saidContaining, kindLeaf, kindValues, Plain, classKinds, classOf, namePlaces, valueAt, typeName}
+use Rattle.record_data.specs.Said.{saidContaining, kindLeaf, kindValues, Plain, classKinds, classOf, namePlaces, typeName}
 
 -- an optional type index, and the value that it is
 pub containing : (r : ReadOptType) → saidContaining r ≡ and-then (saidOptType r) (λ o q. got (orAbsent o) q)
@@ -27,7 +27,7 @@ containing rtype.Ended = refl
 
 -- the name of a class, whichever of the four leaves it was read from
 pub class-name : (k : ClassKind) (r : ClassType) → typeName (kindValues k r) ≡ many (part (r .name))
-unfolding find namePlaces valueAt typeName
+unfolding find namePlaces typeName
 class-name kind.Class r = refl
 class-name kind.Struct r = refl
 class-name kind.Interface r = refl

@@ -1,9 +1,10 @@
 -- What a type's answer says fixes the answer: the record is read back from its leaf and its values. Assumes nothing.
 use Prim.Native.Nat.{ℕ}
 use mathlib.Core.Path.{_≡_, refl, ap, _∙_}
-use mathlib.Core.List.{List}
-use lib.Dec.{eqb}
-use Rattle.answer.specs.Answer.{Answer, answered, refused, pick}
+use mathlib.Core.List.{List, [], _∷_}
+use mathlib.Core.Option.{Option, none, some}
+use Rattle.answer.specs.Answer.{Answer, answered, refused}
+use Rattle.answer.specs.Tables.{Line, _is_, find}
 use Rattle.answer.proofs.OneOutcome.{one-of, refusalIn, refusal-back}
 use Rattle.field.proofs.OneOutcome.{hear-optional-type}
 use Rattle.field.specs.declared.index.OptTypeIndex.{OptTypeIndex}
@@ -50,61 +51,46 @@ classIn k vs = type.Class (record {
   «unique_name» = optIn (nth 8 vs);
 })
 
-abbrev pub dataIn : List Shown → TypeData
-dataIn vs =
-    let leaf = numberIn (nth 0 vs) in
-    let n1 = numberIn (nth 1 vs) in
-    let n2 = numberIn (nth 2 vs) in
-    let n3 = numberIn (nth 3 vs) in
-    let n4 = numberIn (nth 4 vs) in
-    pick (eqb leaf 0x1001) (type.Modifier (record { «underlying_type» = record { 0 = n1 }; flags = record { 0 = n2 } }))
-    (pick (eqb leaf 0x1002) (type.Pointer (record { «underlying_type» = record { 0 = n1 }; attributes = record { 0 = n2 }; «containing_class» = typeIn (nth 3 vs) }))
-    (pick (eqb leaf 0x1008) (type.Procedure (record { «return_type» = typeIn (nth 1 vs); attributes = record { 0 = n2 }; «parameter_count» = n3; «argument_list» = record { 0 = n4 } }))
-    (pick (eqb leaf 0x1009) (type.MemberFunction (record {
-      «return_type» = record { 0 = n1 };
-      «class_type» = record { 0 = n2 };
-      «this_pointer_type» = typeIn (nth 3 vs);
-      attributes = record { 0 = n4 };
-      «parameter_count» = numberIn (nth 5 vs);
-      «argument_list» = record { 0 = numberIn (nth 6 vs) };
-      «this_adjustment» = numberIn (nth 7 vs);
-    }))
-    (pick (eqb leaf 0x1205) (type.Bitfield (record { «underlying_type» = record { 0 = n1 }; length = n2; position = n3 }))
-    (pick (eqb leaf 0x1503) (type.Array (record { «element_type» = record { 0 = n1 }; «indexing_type» = record { 0 = n2 }; size = sizeIn (nth 3 vs); name = stringIn (nth 4 vs) }))
-    (pick (eqb leaf 0x1504) (classIn kind.Class vs)
-    (pick (eqb leaf 0x1505) (classIn kind.Struct vs)
-    (pick (eqb leaf 0x1519) (classIn kind.Interface vs)
-    (pick (eqb leaf 0x1506) (type.Union (record {
-      count = n1;
-      properties = record { 0 = n2 };
-      fields = record { 0 = n3 };
-      size = sizeIn (nth 4 vs);
-      name = stringIn (nth 5 vs);
-      «unique_name» = optIn (nth 6 vs);
-    }))
-    (pick (eqb leaf 0x1507) (type.Enumeration (record {
-      count = n1;
-      properties = record { 0 = n2 };
-      «underlying_type» = record { 0 = n3 };
-      fields = record { 0 = n4 };
-      name = stringIn (nth 5 vs);
-      «unique_name» = optIn (nth 6 vs);
-    }))
-    (pick (eqb leaf 0x1609) (type.Class (record {
+-- how the values behind a leaf lead back to its record
+unfoldable pub backs : List (Line (List Shown → TypeData))
+backs =
+    (0x1504 is classIn kind.Class)
+    ∷ (0x1505 is classIn kind.Struct)
+    ∷ (0x1519 is classIn kind.Interface)
+    ∷ (0x1609 is (λ vs. type.Class (record {
       kind = kind.Struct19;
       count = numberIn (nth 6 vs);
-      properties = record { 0 = n1 };
+      properties = record { 0 = numberIn (nth 1 vs) };
       fields = typeIn (nth 3 vs);
       «derived_from» = typeIn (nth 4 vs);
       «vtable_shape» = typeIn (nth 5 vs);
       size = sizeIn (nth 7 vs);
       name = stringIn (nth 8 vs);
       «unique_name» = optIn (nth 9 vs);
-    }))
-    (pick (eqb leaf 0x000a) (type.VirtualTableShape (record { place = stringIn (nth 2 vs) .place; count = n1 }))
-    (pick (eqb leaf 0x1201) (type.ArgumentList (record { place = stringIn (nth 2 vs) .place; count = n1 }))
-    (pick (eqb leaf 0x1206) type.MethodList
-    type.FieldList))))))))))))))
+    })))
+    ∷ (0x1002 is (λ vs. type.Pointer (record {
+      «underlying_type» = record { 0 = numberIn (nth 1 vs) };
+      attributes = record { 0 = numberIn (nth 2 vs) };
+      «containing_class» = typeIn (nth 3 vs);
+    })))
+    ∷ (0x000a is (λ vs. type.VirtualTableShape (record { place = stringIn (nth 2 vs) .place; count = numberIn (nth 1 vs) })))
+    ∷ (0x1201 is (λ vs. type.ArgumentList (record { place = stringIn (nth 2 vs) .place; count = numberIn (nth 1 vs) })))
+    ∷ (0x1206 is (λ vs. type.MethodList))
+    ∷ (0x1009 is (λ vs. type.MemberFunction (record { «return_type» = record { 0 = numberIn (nth 1 vs) }; «class_type» = record { 0 = numberIn (nth 2 vs) }; «this_pointer_type» = typeIn (nth 3 vs); attributes = record { 0 = numberIn (nth 4 vs) }; «parameter_count» = numberIn (nth 5 vs); «argument_list» = record { 0 = numberIn (nth 6 vs) }; «this_adjustment» = numberIn (nth 7 vs) })))
+    ∷ (0x1008 is (λ vs. type.Procedure (record { «return_type» = typeIn (nth 1 vs); attributes = record { 0 = numberIn (nth 2 vs) }; «parameter_count» = numberIn (nth 3 vs); «argument_list» = record { 0 = numberIn (nth 4 vs) } })))
+    ∷ (0x1001 is (λ vs. type.Modifier (record { «underlying_type» = record { 0 = numberIn (nth 1 vs) }; flags = record { 0 = numberIn (nth 2 vs) } })))
+    ∷ (0x1507 is (λ vs. type.Enumeration (record { count = numberIn (nth 1 vs); properties = record { 0 = numberIn (nth 2 vs) }; «underlying_type» = record { 0 = numberIn (nth 3 vs) }; fields = record { 0 = numberIn (nth 4 vs) }; name = stringIn (nth 5 vs); «unique_name» = optIn (nth 6 vs) })))
+    ∷ (0x1503 is (λ vs. type.Array (record { «element_type» = record { 0 = numberIn (nth 1 vs) }; «indexing_type» = record { 0 = numberIn (nth 2 vs) }; size = sizeIn (nth 3 vs); name = stringIn (nth 4 vs) })))
+    ∷ (0x1506 is (λ vs. type.Union (record { count = numberIn (nth 1 vs); properties = record { 0 = numberIn (nth 2 vs) }; fields = record { 0 = numberIn (nth 3 vs) }; size = sizeIn (nth 4 vs); name = stringIn (nth 5 vs); «unique_name» = optIn (nth 6 vs) })))
+    ∷ (0x1205 is (λ vs. type.Bitfield (record { «underlying_type» = record { 0 = numberIn (nth 1 vs) }; length = numberIn (nth 2 vs); position = numberIn (nth 3 vs) })))
+    ∷ []
+
+abbrev backBy : Option (List Shown → TypeData) → List Shown → TypeData
+backBy none vs = type.FieldList
+backBy (some f) vs = f vs
+
+abbrev pub dataIn : List Shown → TypeData
+dataIn vs = backBy (find (numberIn (nth 0 vs)) backs) vs
 
 abbrev withKind : ClassKind → ClassType → ClassType
 withKind k r = record {
@@ -120,12 +106,14 @@ withKind k r = record {
 }
 
 class-back : (k : ClassKind) (r : ClassType) → dataIn (kindValues k r) ≡ type.Class (withKind k r)
+unfolding find backs
 class-back kind.Class r = rw (type-back (r .fields), type-back (r .«derived_from»), type-back (r .«vtable_shape»), opt-back (r .«unique_name»))
 class-back kind.Struct r = rw (type-back (r .fields), type-back (r .«derived_from»), type-back (r .«vtable_shape»), opt-back (r .«unique_name»))
 class-back kind.Interface r = rw (type-back (r .fields), type-back (r .«derived_from»), type-back (r .«vtable_shape»), opt-back (r .«unique_name»))
 class-back kind.Struct19 r = rw (type-back (r .fields), type-back (r .«derived_from»), type-back (r .«vtable_shape»), opt-back (r .«unique_name»))
 
 pub data-back : (d : TypeData) → dataIn (typeValues d) ≡ d
+unfolding find backs
 data-back (type.Class r) = class-back (r .kind) r
 data-back (type.MemberFunction r) = rw (type-back (r .«this_pointer_type»))
 data-back (type.Procedure r) = rw (type-back (r .«return_type»))

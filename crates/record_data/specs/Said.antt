@@ -1,6 +1,6 @@
 -- What a type record says: its leaf, and the values of its layout in the layout's order. To be read against the table typeLeaves of
 -- record_layout/specs/Layouts.antt.
-use Prim.Native.Nat.{ℕ, zero, suc, _+_, _*_, _/_}
+use Prim.Native.Nat.{ℕ, suc, _+_, _*_, _/_}
 use mathlib.Core.Path.{_≡_}
 use mathlib.Core.List.{List, [], _∷_}
 use mathlib.Core.Option.{Option, none, some}
@@ -11,9 +11,9 @@ use Rattle.field_text.specs.Texts.{part}
 use Rattle.field.specs.Indices.{typeOption}
 use Rattle.field.specs.declared.index.ReadOptType.{ReadOptType}
 use Rattle.field.specs.declared.index.ReadOptType.the-variants as rtype
-use Rattle.record_layout.specs.Fields.{number, absent, many, numberOr, orAbsent, Shown}
+use Rattle.record_layout.specs.Fields.{number, absent, many, orAbsent, Shown}
 use Rattle.record_layout.specs.Layouts.{class, byLayout}
-use Rattle.record_layout.specs.Values.{sizeValue}
+use Rattle.record_layout.specs.Values.{nth, numberIn, sizeValue}
 use Rattle.record_data.specs.declared.ClassKind.{ClassKind}
 use Rattle.record_data.specs.declared.ClassKind.the-variants as kind
 use Rattle.field_text.specs.declared.OptString.{OptString}
@@ -112,17 +112,11 @@ saidTypeData (answer.Refused e) = no e
 unfoldable pub namePlaces : List (Line ℕ)
 namePlaces = (0x1504 is 6) ∷ (0x1505 is 6) ∷ (0x1519 is 6) ∷ (0x1506 is 4) ∷ (0x1507 is 4) ∷ (0x1609 is 7) ∷ []
 
--- the value at place k of a layout
-unfoldable pub valueAt : ℕ → List Shown → Shown
-valueAt k [] = absent
-valueAt zero (v ∷ vs) = v
-valueAt (suc k) (v ∷ vs) = valueAt k vs
-
+-- value k of a line stands behind the leaf and k values
 abbrev pub nameBy : Option ℕ → List Shown → Shown
 nameBy none vs = absent
-nameBy (some k) vs = valueAt k vs
+nameBy (some k) vs = nth (suc k) vs
 
 -- the name of a type, by the leaf that its values begin with
 unfoldable pub typeName : List Shown → Shown
-typeName [] = absent
-typeName (leaf ∷ vs) = nameBy (find (numberOr leaf 0) namePlaces) vs
+typeName vs = nameBy (find (numberIn (nth 0 vs)) namePlaces) vs

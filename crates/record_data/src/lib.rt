@@ -192,16 +192,7 @@ impl TypeData {
                 let name = r.name;
                 OptString::Some(name)
             }
-            TypeData::MemberFunction(_) => OptString::None,
-            TypeData::Procedure(_) => OptString::None,
-            TypeData::Pointer(_) => OptString::None,
-            TypeData::Modifier(_) => OptString::None,
-            TypeData::Array(_) => OptString::None,
-            TypeData::Bitfield(_) => OptString::None,
-            TypeData::VirtualTableShape(_) => OptString::None,
-            TypeData::FieldList => OptString::None,
-            TypeData::ArgumentList(_) => OptString::None,
-            TypeData::MethodList => OptString::None,
+            _ => OptString::None,
         }
     }
 }

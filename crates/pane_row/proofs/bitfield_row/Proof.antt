@@ -1,3 +1,4 @@
+-- Written by tools/leaves.
 -- `pane_row::bitfield_row` meets its contract. Assumes nothing.
 use mathlib.Core.Path.{refl}
 use Rattle.answer.specs.Tables.{find}

@@ -1,3 +1,4 @@
+-- Written by tools/leaves.
 -- `pane_row::enumeration_row` meets its contract. Assumes nothing.
 use Rattle.answer.specs.Tables.{find}
 use Rattle.pane_row.specs.Slots.{puts, rowBy}
@@ -11,6 +12,4 @@ unfolding find typeSlots rowBy puts
 returns c = rw (c .before .place-or-0 .ensures, c .length-or-0 .ensures)
 
 pub enumeration-row-spec : {M : Type 1} → statement M
-enumeration-row-spec =
-    tie.close (tie.spec
-    (λ c. search needs) (λ c. search needs) (λ c. search needs) (λ c. search needs) (λ c κs. search needs) (λ c κs. search needs) returns)
+enumeration-row-spec = tie.close (tie.spec (λ c. search needs) (λ c. search needs) (λ c. search needs) (λ c. search needs) (λ c κs. search needs) (λ c κs. search needs) returns)

@@ -1,3 +1,4 @@
+-- Written by tools/leaves.
 -- `pane_row::member_function_row` meets its contract. Assumes nothing.
 use Rattle.answer.specs.Tables.{find}
 use Rattle.pane_row.specs.Slots.{puts, rowBy}
@@ -11,7 +12,4 @@ unfolding find typeSlots rowBy puts
 returns c = rw (c .before .index-or-0 .ensures)
 
 pub member-function-row-spec : {M : Type 1} → statement M
-member-function-row-spec =
-    tie.close (tie.spec
-    (λ c. search needs) (λ c. search needs) (λ c. search needs) (λ c. search needs) (λ c. search needs) (λ c κs. search needs)
-    (λ c. search needs) returns)
+member-function-row-spec = tie.close (tie.spec (λ c. search needs) (λ c. search needs) (λ c. search needs) (λ c. search needs) (λ c. search needs) (λ c κs. search needs) (λ c. search needs) returns)

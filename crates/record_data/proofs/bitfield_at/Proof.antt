@@ -1,11 +1,11 @@
--- Written by tools/record_proof.py with tools/records.ini and tools/record_data.ini.
+-- Written by tools/leaves.
 -- `record_data::bitfield_at` meets its contract: at each return the readers so far have said what its layout says. Assumes nothing.
 use borrow.Author.Needs.{needs}
 use Rattle.answer.specs.Tables.{find}
 use Rattle.record_layout.specs.Layouts.{leafOf, readLeaf, typeLeaves}
-use Rattle.record_layout.specs.Fields.{readFieldBy, readFieldsBy}
-use Rattle.field.specs.Indices.{saidType}
+use Rattle.record_layout.specs.Fields.{readFieldsBy, readFieldBy}
 use Rattle.field.specs.Fields.{said8}
+use Rattle.field.specs.Indices.{saidType}
 use Rattle.answer.proofs.Told.{told}
 use Rattle.record_data.proofs.bitfield_at.Statement.{statement}
 use Rattle.record_data.proofs.bitfield_at.Tie as tie
@@ -40,5 +40,6 @@ returns-4 c = rw (
 pub bitfield-at-spec : {M : Type 1} → statement M
 bitfield-at-spec =
     tie.close (tie.spec
-    (λ c κs. search needs) (λ c. search needs) (λ c. search needs) returns (λ c κs. search needs) (λ c. search needs) (λ c. search needs)
-    returns-2 (λ c κs. search needs) (λ c. search needs) (λ c. search needs) returns-3 returns-4)
+    (λ c κs. search needs) (λ c. search needs) (λ c. search needs) returns (λ c κs. search needs)
+    (λ c. search needs) (λ c. search needs) returns-2 (λ c κs. search needs) (λ c. search needs)
+    (λ c. search needs) returns-3 returns-4)

@@ -1,3 +1,4 @@
+-- Written by tools/leaves.
 -- `record_data::type_data` meets its contract: each leaf goes to the reader that takes it. Assumes nothing.
 use borrow.Author.Needs.{needs}
 use Rattle.answer.specs.Tables.{find}
@@ -223,8 +224,9 @@ pub type-data-spec : {M : Type 1} → statement M
 type-data-spec =
     tie.close (tie.spec
     (λ c κs. search needs) (λ c. search needs) (λ c. search needs) returns (λ c κs. search needs)
-    (λ c. search needs) class-at-requires returns-2 (λ c. search needs) (λ c κs. search needs)
-    returns-3 (λ c κs. search needs) returns-4 (λ c κs. search needs) returns-5 (λ c κs. search needs)
-    returns-6 (λ c κs. search needs) returns-7 (λ c κs. search needs) returns-8 (λ c κs. search needs)
-    returns-9 (λ c κs. search needs) returns-10 (λ c κs. search needs) returns-11 (λ c κs. search needs)
-    returns-12 (λ c κs. search needs) returns-13 returns-14 returns-15 returns-16)
+    (λ c. search needs) class-at-requires returns-2 (λ c. search needs)
+    (λ c κs. search needs) returns-3 (λ c κs. search needs) returns-4 (λ c κs. search needs) returns-5
+    (λ c κs. search needs) returns-6 (λ c κs. search needs) returns-7 (λ c κs. search needs) returns-8
+    (λ c κs. search needs) returns-9 (λ c κs. search needs) returns-10 (λ c κs. search needs) returns-11
+    (λ c κs. search needs) returns-12 (λ c κs. search needs) returns-13 returns-14 returns-15
+    returns-16)

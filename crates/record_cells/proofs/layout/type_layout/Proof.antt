@@ -1,3 +1,4 @@
+-- Written by tools/leaves.
 -- `record_cells::layout::type_layout` meets its contract: each arm's key computes to its line of the table, and what meets no key is not found. Assumes nothing.
 use mathlib.Core.Path.{ap}
 use Rattle.answer.specs.Tables.{find}
@@ -16,5 +17,4 @@ type-layout-spec =
     (λ c. (simp (c .match .keys7), simp (c .match .keys7))) (λ c. (simp (c .match .keys8), simp (c .match .keys8))) (λ c. (simp (c .match .keys9), simp (c .match .keys9)))
     (λ c. (simp (c .match .keys10), simp (c .match .keys10))) (λ c. (simp (c .match .keys11), simp (c .match .keys11))) (λ c. (simp (c .match .keys12), simp (c .match .keys12)))
     (λ c. (simp (c .match .keys13), simp (c .match .keys13))) (λ c. (simp (c .match .keys14), simp (c .match .keys14))) (λ c. (simp (c .match .keys15), simp (c .match .keys15)))
-    (λ c. (simp (c .match .keys16), simp (c .match .keys16)))
-    (λ c. (missed typeLeaves _ (c .match .rest), ap codeOr0 (missed typeCodes _ (c .match .rest)))))
+    (λ c. (simp (c .match .keys16), simp (c .match .keys16))) (λ c. (missed typeLeaves _ (c .match .rest), ap codeOr0 (missed typeCodes _ (c .match .rest)))))
