@@ -121,10 +121,8 @@ def field(leaf, kind, word, before):
         return plain(word, 4, True)
     if kind == "half":
         return plain(word, 2) + bytes(2)
-    if kind == "A":
-        return plain(word, 2)
-    if kind == "T":
-        return plain(word, 4)
+    if kind in ("A", "F", "T"):
+        return plain(word, layouts.WIDTHS[kind])
     if kind == "O":
         return optional(word, (0, 0xffff))
     if kind == "I":
