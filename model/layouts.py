@@ -274,7 +274,7 @@ def type_record(data, forms=False):
             return " ; ".join([f"0 {leaf:04x}"] + lines + [f"end {refusal(end)}"]), r.why
         if leaf not in RECORDS:
             foreign_leaf(r, leaf, False)
-        if leaf not in CRATE:
+        if leaf not in CRATE + NEWER:
             r.why.add("vtable-shape" if leaf == 0x000a else "later-leaf")
         return f"0 {leaf:04x} {shown(leaf, r.fields(leaf, RECORDS[leaf]))}", r.why
     except Refused as e:
