@@ -363,7 +363,6 @@ GOOD = {
 # Of each kind a middling value, the smallest and the largest, for the leaves that have none by hand.
 SAMPLES = {"u8": "3 0 255", "u16": "512 0 65535", "half": "512 0 65535", "u32": "7 0 4294967295", "T": "4097 0 4294967295", "O": "4098 - 4294967295",
            "N": "32768 0 18446744073709551615", "S": "=6162 = =616263", "S2": "=42 - =434445"}
-MADE = [leaf for leaf in layouts.RECORDS if leaf not in GOOD]
 
 
 def samples(layout):
@@ -371,9 +370,12 @@ def samples(layout):
     return [" ".join(row) for row in zip(*(SAMPLES[kind].split() for name, kind in layouts.fields_of(layout) if name[0] != "_"))]
 
 
+MADE = {leaf: samples(layout) for leaf, layout in layouts.RECORDS.items() if leaf not in GOOD}
+
+
 def made(leaf, form=None):
     """The payload of a leaf's first good values, without pads, or with this form of its numeric leaves."""
-    return leaf_bytes(leaf) + fields(leaf, layouts.RECORDS[leaf], GOOD[leaf][0].split(), form)
+    return leaf_bytes(leaf) + fields(leaf, layouts.RECORDS[leaf], {**GOOD, **MADE}[leaf][0].split(), form)
 
 
 def least(leaf, *indices):
@@ -383,7 +385,6 @@ def least(leaf, *indices):
     return leaf_bytes(leaf) + b"".join(next(given).to_bytes(4, "little") if kind in ("T", "O") else bytes(least_of[kind]) for kind in kinds)
 
 
-GOOD.update((leaf, samples(layouts.RECORDS[leaf])) for leaf in MADE)
 GOOD_MEMBERS = {
     0x1400: ["3 4097 4294967296", "0 0 0", "65535 4294967295 32767"],
     0x1401: ["3 4097 4098 4 2048", "0 0 0 0 0", "3 4097 4098 32768 65536"],
@@ -455,12 +456,13 @@ def good_records():
             yield 0x1203, (ahead if leaf == 0x1404 else f"{ahead} / 1510 0 4097 {name}").split()
     everything = [f"/ {leaf:04x} {text}" for leaf, all_values in GOOD_MEMBERS.items() if leaf != 0x1404 for text in all_values]
     yield 0x1203, " ".join(everything + ["/ 1404 4100"]).split()
+    yield from ((leaf, text.split()) for leaf, all_values in MADE.items() for text in all_values)
 
 
 def refused_records():
     """Leaf and values of records that are 17, or stand beside one that is: every case that 02 and its reading name, and values that no field holds."""
     met = set()
-    for leaf, all_values in GOOD.items():
+    for leaf, all_values in {**GOOD, **MADE}.items():
         yield from ((leaf, words) for words in varied(leaf, layouts.RECORDS.get(leaf) or IDS[leaf], all_values[0].split(), met))
     met -= {"S", "T"}
     for leaf, all_values in GOOD_MEMBERS.items():
@@ -652,7 +654,7 @@ def write_commands(types, ids):
         whole = len(record(leaf, text.split(), LENT))
         yield from (write_line(leaf, text.split(), room) for room in range(whole + 2))
     # the same of every leaf and member; 17 before 19: one value too few
-    for leaf, words in [(leaf, all_values[0].split()) for leaf, all_values in {**GOOD, **ELEMENTS}.items()] + \
+    for leaf, words in [(leaf, all_values[0].split()) for leaf, all_values in {**GOOD, **MADE, **ELEMENTS}.items()] + \
             [(0x1203, ["/", f"{leaf:04x}", *all_values[0].split()]) for leaf, all_values in GOOD_MEMBERS.items()]:
         whole = len(record(leaf, words, LENT))
         yield from (write_line(leaf, words, room) for room in range(whole + 1))

@@ -52,10 +52,10 @@ def one_of_each(names, most=300):
         yield from sorted({found[0], found[len(found) // 2], found[-1]})
 
 
-def type_records(most=300):
-    """The same of types, and of leaves that have nothing special two records that are made."""
-    yield from one_of_each(TYPES, most)
-    yield from (data for leaf in writing.MADE for data in (writing.least(leaf, *[0x74] * 9), writing.made(leaf)))
+def made():
+    """Two records of each leaf whose values are made, since no sample may have it."""
+    for leaf in writing.MADE:
+        yield from (writing.least(leaf, *[0x74] * 9), writing.made(leaf))
 
 
 def arrays():
@@ -69,7 +69,7 @@ def small_streams():
     yield from (b"", e[:55], e[:-1], e + b"\1\0\xaa", e + b"\0\0", e + b"\2\0\1", e[:12] + e[8:12] + e[16:])
     for at, value in ((4, 55), (4, 1025), (4, 79), (4, 60), (8, 4095), (8, 4098), (8, 0xFFFFFFFE), (12, 4095), (12, 4097), (12, 4099), (12, 0xFFFFFFFF)):
         yield e[:at] + struct.pack("<I", value) + e[at + 4:]
-    yield fitting.stream(list(type_records(60)))
+    yield fitting.stream(list(one_of_each(TYPES, 60)) + list(made()))
     yield fitting.stream(list(arrays()))
     yield fitting.stream([fitting.modifier(0x74)] * 20, low=0xFFF0)
     yield fitting.stream([fitting.modifier(0x74), fitting.pointer(0x1000), fitting.arguments(0x74, 0x1001), fitting.procedure(0x1000, 0x1002)])
@@ -93,7 +93,7 @@ def both_streams(most=9000):
 
 
 def cells():
-    for payload in list(type_records()) + list(arrays()):
+    for payload in list(one_of_each(TYPES)) + list(arrays()):
         yield b"\0" + payload
     for payload in one_of_each(IDS):
         yield b"\1" + payload
@@ -104,6 +104,7 @@ def cells():
     yield b"\2" + of_leaf(0x1503) + b"\2\x94\2\x43\3\x25\x22\7\x20\x24\0" + b"name"
     yield b"\3" + of_leaf(0x1605) + b"\1\7\x20\x24\0" + b"name"
     yield b"\2" + of_leaf(0x1201) + b"\2\x21\7\x20\x24\0" + b"\x74\0\0\0"
+    yield from (b"\0" + payload for payload in made())
 
 
 def rows():
@@ -124,7 +125,7 @@ def sections():
     for name in ("plain-x64.debugT", "rich-x64.debugT"):
         yield b"\3" + sample(name)[4:]
         yield b"\xff" + sample(name)[:400]
-    yield b"\0" + b"".join(struct.pack("<H", len(p)) + p for p in list(type_records(60)) + list(one_of_each(IDS, 60)))
+    yield b"\0" + b"".join(struct.pack("<H", len(p)) + p for p in list(one_of_each(TYPES, 60)) + list(one_of_each(IDS, 60)) + list(made()))
     yield from (b"\xff", b"\xff\4\0\0", b"\xff\4\0\0\0", b"\xff\5\0\0\0", b"\0\1\0\xaa", b"\0\2\0\1", b"\0\2\0\1\x10")
 
 
