@@ -32,7 +32,7 @@ BATCH_COMMANDS, BATCH_BYTES = 5000, 8_000_000
 # Names of lines of docs/DIFFERENCES.md.
 REASONS = [
     "byte-number", "signed-size", "continuation", "array-name", "array-size", "array-after", "pointer-kind", "pointer-mode", "pointer-class",
-    "base-offset", "nested-word", "vtable-shape", "member-outside", "leaf-in-list", "newer-leaf", "length-byte-leaf", "count-memory", "list-depth",
+    "base-offset", "nested-word", "vtable-shape", "later-leaf", "member-outside", "leaf-in-list", "newer-leaf", "length-byte-leaf", "count-memory", "list-depth",
     "short-kind", "primitive-from-4096", "index-used-up", "max-held", "structure-kind", "intrinsic-bit", "mocom-bits", "pointer-mocom",
 ]
 DEBUG_REASONS = ["debug-number", "debug-kind", "debug-overflow", "debug-stack"]

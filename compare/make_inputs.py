@@ -17,9 +17,13 @@ import random
 import struct
 import sys
 
+sys.path.insert(0, os.path.join(os.path.dirname(os.path.abspath(__file__)), "..", "model"))
+import layouts
+import writing
+
 TOP = 4294967295
 
-# A smallest record of every leaf, and one or two with their optional parts.
+# A smallest record of every leaf, and one or two with their optional parts. Those of a leaf that is not here are made, behind this.
 TYPE_RECORDS = """
     0110 74000000 0100
     0210 74000000 0c000100
@@ -68,9 +72,10 @@ ID_RECORDS = """
     0916 00020000 16100000
     0112 00000000
 """.strip().split("\n")
-TYPE_LEAVES = [0x1001, 0x1002, 0x1008, 0x1009, 0x1205, 0x1503, 0x1504, 0x1505, 0x1519, 0x1506, 0x1507, 0x1609, 0x000a, 0x1201, 0x1203, 0x1206,
-               0x1400, 0x1401, 0x1402, 0x1404, 0x1409, 0x1502, 0x150d, 0x150e, 0x150f, 0x1510, 0x1511, 0x1512, 0x151a, 0x1516, 0x151d]
-MEMBER_LEAVES = [0x1400, 0x1401, 0x1402, 0x1404, 0x1409, 0x1502, 0x150d, 0x150e, 0x150f, 0x1510, 0x1511]
+BY_HAND = {bytes.fromhex(record)[:2] for record in TYPE_RECORDS}
+MADE_RECORDS = [data.hex() for leaf in layouts.RECORDS if struct.pack("<H", leaf) not in BY_HAND for data in (writing.least(leaf, *[0] * 9), writing.made(leaf))]
+MEMBER_LEAVES = list(layouts.MEMBERS)
+TYPE_LEAVES = [*layouts.RECORDS, *layouts.LISTS, *MEMBER_LEAVES, *layouts.NEWER, 0x151d]
 NUMBER_PREFIXES = list(range(0x7ffe, 0x8020)) + [0xffff]
 
 rng = random.Random(1)
@@ -273,7 +278,7 @@ def types_part(scale):
         yield f"type {hexed(struct.pack('<H', leaf))}"
         yield f"type {hexed(struct.pack('<H', leaf) + bytes(40))}"
         yield f"type 0312{hexed(struct.pack('<H', leaf) + bytes(40))}"
-    yield from around("type", TYPE_RECORDS, scale)
+    yield from around("type", TYPE_RECORDS + MADE_RECORDS, scale)
     for count in (0, 1, 2, 3, 255, 65535, 65536, 2 ** 20):
         for n in (0, 3, 4, 8, 12):
             yield f"type {hexed(struct.pack('<HI', 0x1201, count) + noise(n))}"
@@ -294,7 +299,7 @@ def types_part(scale):
         yield f"type 0612{hexed(noise(some(0, 8, 12, 16, 20, 24, rng.randrange(30))))}".replace("-", "")
     for _ in range(scale * 20):
         index = some(0, 3, 116, 0x067c, 4095, 4096, 4097, TOP, rng.randrange(8192))
-        yield f"itemtype {index} {hexed(damaged(read_hex(some(*TYPE_RECORDS))))}"
+        yield f"itemtype {index} {hexed(damaged(read_hex(some(*TYPE_RECORDS, *MADE_RECORDS))))}"
 
 
 def ids_part(scale):

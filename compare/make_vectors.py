@@ -4,7 +4,8 @@ seed gives the same files.
 
     make_vectors.py ORACLE REPLAY [--seed N]            exit status 1 if the two files are not what it would write
     make_vectors.py ORACLE REPLAY [--seed N] --write    writes them
-        ORACLE   the crate, built by build.sh (its release build)
+        ORACLE   the crate, built by build.sh (its release build); or the word `kept`, where there is none: then its lines are those that the two files have,
+                 and what they have not can be nothing but records of a new leaf, which the crate does not know
         REPLAY   the port's program, target/replay, built by tools/replay
 
 Where an expected line comes from:
@@ -467,9 +468,27 @@ def by_crate(words, o, why):
     return o
 
 
+def kept_lines(replay):
+    """The lines of each command in the two files. How many each has, REPLAY says, which must answer them all as they stand."""
+    given, wanted = (open(os.path.join(HERE, "..", "tests", "vectors", f"replay.{end}"), encoding="ascii").read().split("\n")[:-1] for end in ("in", "out"))
+    got = compare.answers(replay, given)
+    if [line for lines in got for line in lines] != wanted:
+        raise SystemExit("REPLAY answers otherwise than tests/vectors/replay.out has it")
+    return dict(zip(given, got))
+
+
+def unknown_leaf(command):
+    """The crate's line of a record that is too short for a leaf, or whose leaf it does not know: what is known of the crate without it."""
+    kind, data = command.split()[0], blob(command.split()[-1])
+    leaf = int.from_bytes(data[:2], "little")
+    if kind not in ("type", "name") or len(data) > 1 and (leaf not in MADE or leaf in layouts.NEWER):
+        raise Unexplained(f"{command[:80]}: the crate must be asked")
+    return [f"10 {leaf}" if len(data) > 1 else "1"]
+
+
 # ---- the commands ----
 
-# A good record of every leaf: for each leaf of 01 the first one is cut at every length.
+# A good record of every leaf, which is cut at every length; of a type leaf that has nothing special it is made by its layout.
 GOOD_TYPES = {
     0x1001: "0110 74000000 0300", 0x1002: "0210 74000000 4c000100 02100000", 0x1008: "0810 03000000 0002 0100 01100000",
     0x1009: "0910 03000000 02100000 04100000 0b06 0100 01100000 f8ffffff", 0x1205: "0512 74000000 03 05",
@@ -480,6 +499,7 @@ GOOD_TYPES = {
     0x1201: "0112 02000000 74000000 01100000", 0x1206: "0612 0300 0000 01100000 1300 0000 02100000 10000000",
     0x1203: "0312 0d15 0300 74000000 0400 6100 f2f1 0d15 0300 75000000 0800 6200",
 }
+MADE = {leaf: writing.made(leaf).hex() for leaf in layouts.RECORDS if leaf not in GOOD_TYPES}
 GOOD_MEMBERS = {
     0x1400: "0014 0300 01100000 0a80 0000000001000000", 0x1401: "0114 0300 01100000 02100000 0400 0280 0008",
     0x1402: "0214 0300 01100000 02100000 0400 0c00",
@@ -594,6 +614,7 @@ def form_commands():
             yield f"wtype 03157410000023000000{n}4100f1"
             yield f"wtype 06150100000200100000{n}410042004300"
             yield f"wtype 0916000200000000000000000000000000000100{n}41004200"
+            yield from (f"wtype {writing.made(leaf, form).hex()}" for leaf in MADE)
             for member in (f"0014030074100000{n}", f"0114030074100000751000000500{n}", f"021403007410000075100000{n}{n}", f"02150300{n}4100", f"0d15030074100000{n}4100"):
                 yield f"wtype 0312{member}f1"
                 yield f"welement 0 0312{member}"
@@ -609,7 +630,7 @@ def form_commands():
 
 def prefixes():
     """Every prefix of a good record of every leaf, a member inside a field list."""
-    for record in GOOD_TYPES.values():
+    for record in {**GOOD_TYPES, **MADE}.values():
         yield from (("type", packed(record)[:n]) for n in range(len(packed(record)) + 1))
     for record in GOOD_MEMBERS.values():
         whole = packed("0312" + record)
@@ -634,12 +655,12 @@ def record_commands(rng):
         yield f"type {data.hex()}"
     yield from LARGEST
     yield from paper_inputs()
-    types = [packed(r) for r in GOOD_TYPES.values()] + [packed("0312" + r) for r in GOOD_MEMBERS.values()]
-    types += [packed(r) for r in make_inputs.TYPE_RECORDS]
-    ids = [packed(r) for r in GOOD_IDS.values()] + [packed(r) for r in make_inputs.ID_RECORDS]
-    for data in types[27:]:
+    more_types, more_ids = ([packed(r) for r in records] for records in (make_inputs.TYPE_RECORDS, make_inputs.ID_RECORDS))
+    types = [packed(r) for r in GOOD_TYPES.values()] + [packed("0312" + r) for r in GOOD_MEMBERS.values()] + more_types
+    ids = [packed(r) for r in GOOD_IDS.values()] + more_ids
+    for data in more_types:
         yield f"type {data.hex()}"
-    for data in ids[7:]:
+    for data in more_ids:
         yield f"id {data.hex()}"
     for data in types:
         for pad in ("00", "f1", "f3", "41"):
@@ -664,6 +685,17 @@ def record_commands(rng):
     for data in ids + [b"", b"\x03"]:
         for k in (0, 1, 2, TOP):
             yield f"idelement {k} {hexed(data)}"
+
+
+def made_commands():
+    """The same of the records that are made. They are drawn last, so that a new leaf leaves the commands of the others as they are, and keep their leaf."""
+    for record in map(packed, MADE.values()):
+        for pad in ("00", "f1", "f3", "41"):
+            yield f"type {record.hex()}{pad}"
+        for _ in range(40):
+            yield f"type {(record[:2] + make_inputs.damaged(record[2:])).hex()}"
+        yield from (f"element {k} {record.hex()}" for k in (0, 1, TOP))
+        yield f"element 0 0312{record.hex()}"
 
 
 def word_commands(rng):
@@ -708,7 +740,7 @@ def small_commands():
         yield f"count {hexed(s)}"
     for n in (0, 4096, 2 ** 31 - 1, 2 ** 31, TOP):
         yield f"cross {n}"
-    for record in GOOD_TYPES.values():
+    for record in {**GOOD_TYPES, **MADE}.values():
         yield f"name {hexed(packed(record))}"
         yield f"name {hexed(packed(record)[:-1])}"
         for k in (0, 1, 2):
@@ -945,6 +977,7 @@ REWRITTEN = ["plain-x64.tpi", "plain-x64.ipi", "hand.tpi", "hand.ipi"]
 
 def write_commands():
     types = [packed(r) for r in GOOD_TYPES.values()] + [packed("0312" + r) for r in GOOD_MEMBERS.values()] + [CRATE_1609] + CRATE_ARRAYS
+    types += [packed(r) for r in MADE.values()]
     yield from writing.write_commands(types, [packed(r) for r in GOOD_IDS.values()])
     for name in REWRITTEN:
         with open(os.path.join(HERE, "..", "samples", name), "rb") as f:
@@ -1047,13 +1080,13 @@ def lacking(vectors):
     for leaf in layouts.MEMBERS:
         if f" ; {leaf:04x} " not in shown:
             yield f"member {leaf:04x}"
-    if set(GOOD_TYPES) != set(layouts.RECORDS) | set(layouts.LISTS) or set(GOOD_MEMBERS) != set(layouts.MEMBERS) or set(GOOD_IDS) != set(ID_LEAVES):
+    if {*GOOD_TYPES, *MADE} != {*layouts.RECORDS, *layouts.LISTS} or set(GOOD_MEMBERS) != set(layouts.MEMBERS) or set(GOOD_IDS) != set(ID_LEAVES):
         yield "a good record of every leaf"
     answer = dict(vectors)
     for kind, data in prefixes():
         if f"{kind} {hexed(data)}" not in asked:
             yield f"prefix {hexed(data)}"
-    for leaf, record in list(GOOD_TYPES.items()) + [(m, "0312" + r) for m, r in GOOD_MEMBERS.items()]:
+    for leaf, record in list({**GOOD_TYPES, **MADE}.items()) + [(m, "0312" + r) for m, r in GOOD_MEMBERS.items()]:
         line = answer[f"type {hexed(packed(record))}"][0]
         if not line.startswith("0 ") or " ; end " in line and not line.endswith(" ; end 15"):
             yield f"good record {leaf:04x}"
@@ -1085,27 +1118,30 @@ def main():
     if len(words) != 2:
         print(__doc__)
         return 2
-    oracle, replay = (os.path.abspath(w) for w in words)
+    replay = os.path.abspath(words[1])
+    kept, oracle = kept_lines(replay) if words[0] == "kept" else {}, os.path.abspath(words[0])
     make_inputs.rng.seed(seed)
     rng = make_inputs.rng
     commands = [c for c, _ in EXAMPLES] + NO_COMMANDS + NO_BYTES + [MOST] + list(small_commands()) + list(record_commands(rng)) + list(word_commands(rng)) + list(stream_commands(rng))
     commands += [c for c, _ in CVINFO] + [c for c, _ in FORMS] + list(form_commands()) + list(place_commands())
     commands += [c for c, _ in writing.EXAMPLES] + list(write_commands())
     commands += sections.commands()
-    commands += list(declaring.commands())
+    commands += list(declaring.commands()) + list(made_commands())
     commands = list(dict.fromkeys(commands))
     problems = compare.listed()
     crate = [c for c in commands if c.split()[0] not in PORT_ONLY and (c in NO_COMMANDS or not no_bytes(c.split()))]
-    lines_of = dict(zip(crate, compare.answers(oracle, crate)))
-    primitives = dict(line.split(" ", 1) for line in compare.answers(oracle, ["prim 0 4096"])[0])
+    lines_of = dict.fromkeys(crate) if kept else dict(zip(crate, compare.answers(oracle, crate)))
+    primitives = {} if kept else dict(line.split(" ", 1) for line in compare.answers(oracle, ["prim 0 4096"])[0])
     vectors, reasons = [], {}
     for c in commands:
         why = set()
         try:
             if c not in NO_COMMANDS and no_bytes(c.split()):
                 lines = ["? bytes"]
+            elif c in kept and (c in lines_of or c.startswith("marker")):
+                lines = kept[c]
             elif c in lines_of:
-                lines = by_crate(c.split(), lines_of[c], why)
+                lines = by_crate(c.split(), lines_of[c] or unknown_leaf(c), why)
             else:
                 lines = by_rule(c.split(), primitives.get(c.split()[2]) if c.startswith("marker") else None)
                 lines = lines if isinstance(lines, list) else [lines]
@@ -1136,9 +1172,10 @@ def main():
             elif f.read() != text:
                 print(f"tests/vectors/{name} is not what is made here; --write writes it")
                 return 1
-    asked = sum(c in lines_of for c, _ in vectors)
+    asked = sum(c in lines_of and (not kept or c in kept) for c, _ in vectors)
     count = sum(len(lines) for _, lines in vectors)
-    print(f"{len(vectors)} commands, {count} lines; the crate was asked {asked} of the commands, 01's rules {len(vectors) - asked}")
+    by = "the crate's lines stood there for" if kept else "the crate was asked"
+    print(f"{len(vectors)} commands, {count} lines; {by} {asked} of the commands, 01's rules {len(vectors) - asked}")
     print("by lines of docs/DIFFERENCES.md: " + ", ".join(f"{name} {n}" for name, n in sorted(reasons.items())))
     return 0
 

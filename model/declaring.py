@@ -13,6 +13,7 @@ import sys
 sys.path.insert(0, os.path.dirname(os.path.abspath(__file__)))
 import layouts
 import places
+import writing
 from layouts import Refused
 
 DEEPEST = 32
@@ -277,10 +278,11 @@ def command(room, s, i):
     return f"declare {room} {s.hex() or '-'} {i}"
 
 
-# A type of every kind to stand in every position: (records before it, the index it has).
+# A record of every leaf that is not printed, of some leaves that are no type's, and of none.
 OTHER = {0x1009: record(0x1009, u32(0x74), u32(FIRST), u32(0), b"\0\0", u16(0), u32(FIRST), u32(0)), 0x1205: record(0x1205, u32(0x74), b"\3\0"),
          0x000a: record(0x000a, u16(2), b"\5"), 0x1203: record(0x1203), 0x1206: record(0x1206), 0x1201: arglist(0x74),
          0x1601: record(0x1601, u32(0), u32(0x74), b"f\0"), 0x150d: record(0x150d, u16(3), u32(0x74), u16(0), b"m\0"), 0xffff: record(0xffff), 0x1012: record(0x1012)}
+OTHER.update((leaf, record(leaf, writing.made(leaf)[2:])) for leaf in layouts.RECORDS if leaf not in PRINTED and leaf not in OTHER)
 
 
 def leaves():

@@ -10,8 +10,8 @@
     dropping.py --files STREAM.. -- PROGRAM.. the same of the C program c/fit.c, on streams of any size: each with 1, 10 and 300 roots and with all, what it
                                              writes dropped from again with the renumbered roots
 
-Whether a stream is fit is asked of fitting.py. Where a record's references stand is written here a second time, by their places; that it has the same
-indices as fitting.py finds by the layouts is looked at for every record.
+Whether a stream is fit is asked of fitting.py. Where a record's references stand is worked out here a second time, by the widths of the fields before them;
+that it has the same indices as fitting.py finds by reading is looked at for every record.
 """
 import functools
 import os
@@ -30,18 +30,20 @@ from places import Refused
 
 NONE = (0, 0xffff)
 LONGEST = 65536                 # of a line's BYTES
-
-# The places of the references in a payload, and whether they are optional. A pointer's class, at 10, is there in modes 2 and 3.
 PLAIN, OPTIONAL = False, True
-CLASS = ((6, OPTIONAL), (10, OPTIONAL), (14, OPTIONAL))
-PLACES = {
-    0x1001: ((2, PLAIN),), 0x1002: ((2, PLAIN), (10, OPTIONAL)), 0x1008: ((2, OPTIONAL), (10, PLAIN)), 0x1009: ((2, PLAIN), (6, PLAIN), (10, OPTIONAL), (18, PLAIN)),
-    0x1205: ((2, PLAIN),), 0x1503: ((2, PLAIN), (6, PLAIN)), 0x1504: CLASS, 0x1505: CLASS, 0x1519: CLASS, 0x1609: CLASS, 0x1506: ((6, PLAIN),),
-    0x1507: ((6, PLAIN), (10, PLAIN)), 0x000a: (),
-}
-# Of a member or a method, from its own start.
-MEMBER_PLACES = {0x1401: (4, 8), 0x1402: (4, 8), 0x1502: ()}
-MEMBER_PLACE = (4,)
+
+
+@functools.lru_cache(maxsize=None)
+def places_in(layout, at):
+    """Place and optional of each field that may hold a reference, the first field at this place. All stand before the first field of no fixed width."""
+    found = []
+    for _, kind in layouts.fields_of(layout):
+        if kind in ("T", "O", "C"):
+            found.append((at, PLAIN if kind == "T" else OPTIONAL))
+        if kind not in layouts.WIDTHS:
+            break
+        at += layouts.WIDTHS[kind]
+    return found
 
 
 def u32_at(s, at):
@@ -73,13 +75,12 @@ def slots(payload):
     if leaf == 0x1201:
         return [(6 + 4 * k, PLAIN) for k in range(u32_at(payload, 2))]
     if leaf == 0x1203:
-        return [(start + at, PLAIN) for start, m in member_starts(payload) for at in MEMBER_PLACES.get(m, MEMBER_PLACE)]
+        return [(start + at, optional) for start, m in member_starts(payload) for at, optional in places_in(layouts.MEMBERS[m], 2)]
     if leaf == 0x1206:
-        return [(start + 4, PLAIN) for start in method_starts(payload)]
-    found = PLACES[leaf]
-    if leaf == 0x1002 and u32_at(payload, 6) // 32 % 8 not in (2, 3):
-        found = found[:1]
-    return list(found)
+        return [(start + at, optional) for start in method_starts(payload) for at, optional in places_in(layouts.METHOD, 0)]
+    found = places_in(layouts.RECORDS[leaf], 2)
+    # a pointer's class is there in modes 2 and 3
+    return found[:1] if leaf == 0x1002 and u32_at(payload, 6) // 32 % 8 not in (2, 3) else found
 
 
 def references(payload):

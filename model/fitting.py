@@ -20,6 +20,7 @@ import declaring
 import layouts
 import places
 import reporting
+import writing
 
 COUNT, DECODE, ORDER, PRIMITIVE, GAP = 1, 2, 3, 4, 5
 FIRST = 0x1000
@@ -28,8 +29,7 @@ FIRST = 0x1000
 def named(reader, leaf, layout):
     """The type references of one layout: "An optional index that reads as none is no reference.\""""
     got = reader.fields(leaf, layout)
-    kinds = (part.split(":") for part in layout.split())
-    return [got[name] for name, kind in kinds if kind in ("T", "O", "C") and got[name] != "-"]
+    return [got[name] for name, kind in layouts.fields_of(layout) if kind in ("T", "O", "C") and got[name] != "-"]
 
 
 def references(payload):
@@ -142,6 +142,16 @@ HOLDERS += [lambda t, leaf=leaf, k=k: cls(leaf, *(t if j == k else 0 for j in ra
 HOLDERS += [lambda t, k=k: struct19(*(t if j == k else 0 for j in range(3))) for k in range(3)]
 HOLDERS += [union, lambda t: enum(t, 0), lambda t: enum(0x74, t), lambda t: array(t, 0x23), lambda t: array(0x74, t), bits, methods, lambda t: methods(0x74, t)]
 HOLDERS += [lambda t, m=m: fields(enumerator, b"\xf2\xf1" + m(t)) for m in MEMBER.values()]
+
+
+def made_holders(leaf):
+    """Those of a leaf by its layout."""
+    n = sum(kind in ("T", "O") for _, kind in layouts.fields_of(layouts.RECORDS[leaf]))
+    return [lambda t, k=k: writing.least(leaf, *(t if j == k else 0x74 for j in range(n))) for k in range(n)]
+
+
+by_hand = {make(0x74)[:2] for make in HOLDERS}
+HOLDERS += [make for leaf in layouts.RECORDS if struct.pack("<H", leaf) not in by_hand for make in made_holders(leaf)]
 
 
 def tries():

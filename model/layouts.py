@@ -11,10 +11,12 @@ class Refused(Exception):
 
 
 # The table. T type index, O optional one, N numeric leaf, V one that may be negative, S string, S2 second string where properties has 0x0200,
-# A field attributes, M u32 where the method property is 4 or 6; u8, u16, u32 plain. "_" in front of a name: read and not shown.
+# A field attributes, M u32 where the method property is 4 or 6, F the flags of a modifier, C the class of a pointer, B (count + 1)/2 bytes; u8, u16, u32
+# plain, half a u16 and two bytes more. "_" in front of a name: read and not shown.
+# Whatever is said of a type leaf that has nothing special follows from its line: samples, places of references, and, by tools/type_rows, what `replay` prints.
 CLASS = "count:u16 props:u16 fields:O derived:O shape:O size:N name:S unique:S2"
 RECORDS = {
-    0x1001: "t:T flags:u16",
+    0x1001: "t:T flags:F",
     0x1002: "t:T word:u32 class:C",
     0x1008: "ret:O attrs:u16 count:u16 args:T",
     0x1009: "ret:T class:T this:O attrs:u16 count:u16 args:T adjust:u32",
@@ -42,11 +44,14 @@ MEMBERS = {
     0x1511: "a:A t:T voff:M name:S",
 }
 METHOD = "a:A _pad:u16 t:T voff:M"
+LISTS = (0x1201, 0x1203, 0x1206)
+# What is special of a record's line: the kind that classes begin with, an order other than that of the fields, the flags of a modifier, from bit 0 on.
 KINDS = {0x1504: "Class", 0x1505: "Struct", 0x1609: "Struct19", 0x1519: "Interface"}
 SHOWN = {0x1609: "count props fields derived shape size name unique".split()}
-LISTS = (0x1201, 0x1203, 0x1206)
+FLAGS = ("const", "volatile", "unaligned")
 
-# Leaves that the crate takes and 01 does not, or takes elsewhere.
+# The leaves of RECORDS that the crate takes too, and those that it takes and 01 does not, or takes elsewhere.
+CRATE = (0x1001, 0x1002, 0x1008, 0x1009, 0x1205, 0x1503, 0x1504, 0x1505, 0x1519, 0x1609, 0x1506, 0x1507)
 NEWER = (0x1512, 0x151a, 0x1516)
 LENGTH_BYTE = (0x0403, 0x1003, 0x1004, 0x1005, 0x1006, 0x1007, 0x1405, 0x1406, 0x1407, 0x1408, 0x140b, 0x140d)
 
@@ -57,7 +62,14 @@ WORDS = {
     "ptr": (("pointer-mocom", "mocom", (0x40000, 2), (0x80000, 2)),),
 }
 
+# The bytes of the kinds that always have as many.
+WIDTHS = {"u8": 1, "u16": 2, "A": 2, "F": 2, "u32": 4, "half": 4, "T": 4, "O": 4}
 NUMBERS = {0x8000: (1, True), 0x8001: (2, True), 0x8002: (2, False), 0x8003: (4, True), 0x8004: (4, False), 0x8009: (8, True), 0x800a: (8, False)}
+
+
+def fields_of(layout):
+    """Name and kind of each field."""
+    return [tuple(part.split(":")) for part in layout.split()]
 
 
 def shortest(value):
@@ -121,23 +133,17 @@ class Reader:
     def fields(self, leaf, layout):
         """The named values in the order of the layout."""
         got = {}
-        for part in layout.split():
-            name, kind = part.split(":")
-            if kind in ("u8", "u16", "u32"):
-                got[name] = self.u(int(kind[1:]) // 8)
+        for name, kind in fields_of(layout):
+            if kind in WIDTHS:
+                got[name] = self.u(WIDTHS[kind])
+                if kind == "half":
+                    got[name] %= 65536
+                if kind == "O" and got[name] in (0, 0xffff):
+                    got[name] = "-"
                 if leaf == 0x1002 and name == "word":
                     self.pointer_word(got[name])
-            elif kind == "half":
-                got[name] = self.u(4) % 65536
-            elif kind == "A":
-                got[name] = self.u(2)
-                if leaf == 0x1510 and got[name] != 0:
+                if leaf == 0x1510 and name == "a" and got[name] != 0:
                     self.why.add("nested-word")
-            elif kind == "T":
-                got[name] = self.u(4)
-            elif kind == "O":
-                index = self.u(4)
-                got[name] = "-" if index in (0, 0xffff) else index
             elif kind == "C":
                 got[name] = "-"
                 if got["word"] // 32 % 8 in (2, 3):
@@ -196,11 +202,10 @@ class Reader:
 
 def shown(leaf, got):
     """`name=value` for each field, in the order of the protocol."""
-    if leaf == 0x1001:
-        f = got["flags"]
-        return f"t={got['t']} const={f % 2} volatile={f // 2 % 2} unaligned={f // 4 % 2}"
-    names = SHOWN.get(leaf, [n for n in got if n[0] != "_"])
-    return " ".join(([f"kind={KINDS[leaf]}"] if leaf in KINDS else []) + [f"{n}={got[n]}" for n in names])
+    said = [f"kind={KINDS[leaf]}"] if leaf in KINDS else []
+    for name in SHOWN.get(leaf, [n for n in got if n[0] != "_"]):
+        said += [f"{flag}={got[name] >> k & 1}" for k, flag in enumerate(FLAGS)] if name == "flags" else [f"{name}={got[name]}"]
+    return " ".join(said)
 
 
 def foreign_leaf(r, leaf, in_list):
@@ -209,7 +214,7 @@ def foreign_leaf(r, leaf, in_list):
         r.why.add("newer-leaf")
     elif leaf in LENGTH_BYTE:
         r.why.add("length-byte-leaf")
-    elif in_list and (leaf in LISTS or leaf in RECORDS) and leaf != 0x000a:
+    elif in_list and (leaf in LISTS or leaf in CRATE):
         r.why.add("leaf-in-list")
     elif not in_list and leaf in MEMBERS and leaf != 0x1404:
         r.why.add("member-outside")
@@ -269,8 +274,8 @@ def type_record(data, forms=False):
             return " ; ".join([f"0 {leaf:04x}"] + lines + [f"end {refusal(end)}"]), r.why
         if leaf not in RECORDS:
             foreign_leaf(r, leaf, False)
-        if leaf == 0x000a:
-            r.why.add("vtable-shape")
+        if leaf not in CRATE + NEWER:
+            r.why.add("vtable-shape" if leaf == 0x000a else "later-leaf")
         return f"0 {leaf:04x} {shown(leaf, r.fields(leaf, RECORDS[leaf]))}", r.why
     except Refused as e:
         return refusal(e), r.why

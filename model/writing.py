@@ -121,10 +121,8 @@ def field(leaf, kind, word, before):
         return plain(word, 4, True)
     if kind == "half":
         return plain(word, 2) + bytes(2)
-    if kind == "A":
-        return plain(word, 2)
-    if kind == "T":
-        return plain(word, 4)
+    if kind in ("A", "F", "T"):
+        return plain(word, layouts.WIDTHS[kind])
     if kind == "O":
         return optional(word, (0, 0xffff))
     if kind == "I":
@@ -148,21 +146,21 @@ def field(leaf, kind, word, before):
     raise AssertionError(kind)
 
 
-def fields(leaf, layout, words):
-    """The bytes of all fields from exactly their values. "Fields that 01 doesn't name .. are zero"."""
+def fields(leaf, layout, words, form=None):
+    """The bytes of all fields from exactly their values, or with this form of each numeric leaf. "Fields that 01 doesn't name .. are zero"."""
     if leaf == 0x1001 and len(words) == 4:
         if not set(words[1:]) <= {"0", "1"}:
             raise Refused(17)
         words = [words[0], str(int(words[1]) + 2 * int(words[2]) + 4 * int(words[3]))]
     elif leaf == 0x1001:
         raise Refused(17)
-    parts = [part.split(":") for part in layout.split()]
+    parts = layouts.fields_of(layout)
     if len(words) != sum(name[0] != "_" for name, _ in parts):
         raise Refused(17)
     words, before, out = list(words), {}, b""
     for name, kind in parts:
         word = "0" if name[0] == "_" else words.pop(0)
-        out += field(leaf, kind, word, before)
+        out += form if form and kind == "N" else field(leaf, kind, word, before)
         before[name] = word
     return out
 
@@ -340,7 +338,8 @@ def answer(words):
 
 # ---- commands for the vectors
 
-# Good values of every leaf; of the first of each every field is varied. Members and methods are given without their `/`.
+# Good values; of the first of each leaf every field is varied. Those of a type leaf that is not here are made, behind this. Members and methods are given
+# without their `/`.
 GOOD = {
     0x1001: ["116 1 0 0", "4096 0 0 0", "0 1 1 1", "4294967295 0 1 0", "65535 0 0 1"],
     0x1002: ["116 76 4098", "116 65548 -", "4096 108 65534", "4096 76 -", "4096 108 -", "0 0 -", "4097 4294967084 -", "1 1048577 -"],
@@ -361,6 +360,31 @@ GOOD = {
     0x1606: ["4097 4098 7", "0 0 0", "4294967295 4294967295 4294967295"],
     0x1607: ["4097 5 7 3", "0 0 0 0", "4294967295 4294967295 4294967295 65535"],
 }
+# Of each kind a middling value, the smallest and the largest, for the leaves that have none by hand.
+SAMPLES = {"u8": "3 0 255", "u16": "512 0 65535", "half": "512 0 65535", "u32": "7 0 4294967295", "T": "4097 0 4294967295", "O": "4098 - 4294967295",
+           "N": "32768 0 18446744073709551615", "S": "=6162 = =616263", "S2": "=42 - =434445"}
+
+
+def samples(layout):
+    """Good values of a layout by the kinds of its fields: the middling ones of all, the smallest, the largest."""
+    return [" ".join(row) for row in zip(*(SAMPLES[kind].split() for name, kind in layouts.fields_of(layout) if name[0] != "_"))]
+
+
+MADE = {leaf: samples(layout) for leaf, layout in layouts.RECORDS.items() if leaf not in GOOD}
+
+
+def made(leaf, form=None):
+    """The payload of a leaf's first good values, without pads, or with this form of its numeric leaves."""
+    return leaf_bytes(leaf) + fields(leaf, layouts.RECORDS[leaf], {**GOOD, **MADE}[leaf][0].split(), form)
+
+
+def least(leaf, *indices):
+    """A payload with these indices at its references, and the least value in every other field."""
+    given, least_of = iter(indices), {**layouts.WIDTHS, "C": 0, "N": 2, "S": 1, "S2": 0, "B": 0}
+    kinds = [kind for _, kind in layouts.fields_of(layouts.RECORDS[leaf])]
+    return leaf_bytes(leaf) + b"".join(next(given).to_bytes(4, "little") if kind in ("T", "O") else bytes(least_of[kind]) for kind in kinds)
+
+
 GOOD_MEMBERS = {
     0x1400: ["3 4097 4294967296", "0 0 0", "65535 4294967295 32767"],
     0x1401: ["3 4097 4098 4 2048", "0 0 0 0 0", "3 4097 4098 32768 65536"],
@@ -432,12 +456,13 @@ def good_records():
             yield 0x1203, (ahead if leaf == 0x1404 else f"{ahead} / 1510 0 4097 {name}").split()
     everything = [f"/ {leaf:04x} {text}" for leaf, all_values in GOOD_MEMBERS.items() if leaf != 0x1404 for text in all_values]
     yield 0x1203, " ".join(everything + ["/ 1404 4100"]).split()
+    yield from ((leaf, text.split()) for leaf, all_values in MADE.items() for text in all_values)
 
 
 def refused_records():
     """Leaf and values of records that are 17, or stand beside one that is: every case that 02 and its reading name, and values that no field holds."""
     met = set()
-    for leaf, all_values in GOOD.items():
+    for leaf, all_values in {**GOOD, **MADE}.items():
         yield from ((leaf, words) for words in varied(leaf, layouts.RECORDS.get(leaf) or IDS[leaf], all_values[0].split(), met))
     met -= {"S", "T"}
     for leaf, all_values in GOOD_MEMBERS.items():
@@ -590,6 +615,7 @@ def rewrite_commands(types, ids):
         yield f"rewrite 0312011403007410000075100000{form}{form}f1"
         yield f"rewrite 0312021403007410000075100000{form}{form}"
         yield f"rewrite 03120d15030074100000{form}4100f1021503000080ff6200"
+        yield from (f"rewrite {made(leaf, bytes.fromhex(form)).hex()}" for leaf in MADE)
     # indices that read as none; flags, halves and words that no field is
     for none in ("00000000", "ffff0000"):
         yield f"rewrite 0210740000004c000100{none}"
@@ -598,6 +624,7 @@ def rewrite_commands(types, ids):
         yield f"rewrite 041501000000{none}{none}{none}00004100"
         yield f"rewrite 091600000000{none}{none}{none}010000004100"
         yield from (f"rewriteid {leaf}{none}{rest}" for leaf, rest in (("0116", "011000006600"), ("0516", "7300")))
+        yield from (f"rewrite {least(leaf, *[int.from_bytes(bytes.fromhex(none), 'little')] * 9).hex()}" for leaf in MADE)
     yield from (f"rewrite {data}" for data in (
         "0110740000000700", "011074000000ffff", "011074000000f8ff", "0210740000004c000100021000000200", "0210740000000c0001000210", "0210000000000d000000",
         "021000000000ac000000", "0916000201001610000000000000000000000200060048004900", "0916ffffffff1610000000000000000000000200060048004900",
@@ -627,7 +654,7 @@ def write_commands(types, ids):
         whole = len(record(leaf, text.split(), LENT))
         yield from (write_line(leaf, text.split(), room) for room in range(whole + 2))
     # the same of every leaf and member; 17 before 19: one value too few
-    for leaf, words in [(leaf, all_values[0].split()) for leaf, all_values in {**GOOD, **ELEMENTS}.items()] + \
+    for leaf, words in [(leaf, all_values[0].split()) for leaf, all_values in {**GOOD, **MADE, **ELEMENTS}.items()] + \
             [(0x1203, ["/", f"{leaf:04x}", *all_values[0].split()]) for leaf, all_values in GOOD_MEMBERS.items()]:
         whole = len(record(leaf, words, LENT))
         yield from (write_line(leaf, words, room) for room in range(whole + 1))

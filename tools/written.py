@@ -20,6 +20,12 @@ def text_of(path):
         return f.read()
 
 
+def between(text, begin, end, lines):
+    """The text with these lines between two others of it."""
+    head, rest = text.split(begin, 1)
+    return head + begin + "".join(line + "\n" for line in lines) + end + rest.split(end, 1)[1]
+
+
 def parts(text):
     """The words of a text of antt, and the comments, each whole. A comment that swallows the line after it is another comment."""
     comments, words = [], []

@@ -14,13 +14,12 @@ import sys
 
 sys.path.insert(0, "model")
 import fitting
+import layouts
+import writing
 
 TO, DICTIONARY = "compare/fuzz/seeds", "compare/fuzz/leaves.dict"
 TYPES = ("e.tpi", "hand.tpi", "plain-x64.tpi", "rich-x64.tpi")
 IDS = ("hand.ipi", "plain-x64.ipi", "rich-x64.ipi")
-MEMBERS = (0x1400, 0x1401, 0x1402, 0x1404, 0x1409, 0x1502, 0x150D, 0x150E, 0x150F, 0x1510, 0x1511)
-RECORDS = (0x1001, 0x1002, 0x1008, 0x1009, 0x1205, 0x1503, 0x1504, 0x1505, 0x1519, 0x1609, 0x1506, 0x1507, 0x000A, 0x1201, 0x1203, 0x1206)
-ID_RECORDS = (0x1601, 0x1602, 0x1603, 0x1604, 0x1605, 0x1606, 0x1607)
 NUMERALS = {
     "plain": b"\x05\x00", "char": b"\x00\x80\xff", "short": b"\x01\x80\xff\xff", "ushort": b"\x02\x80\x00\x80", "long": b"\x03\x80\xff\xff\xff\xff",
     "ulong": b"\x04\x80\x00\x00\x01\x00", "quad": b"\x09\x80" + b"\xff" * 8, "uquad": b"\x0a\x80" + b"\xff" * 8, "strange": b"\x0b\x80",
@@ -53,6 +52,12 @@ def one_of_each(names, most=300):
         yield from sorted({found[0], found[len(found) // 2], found[-1]})
 
 
+def made():
+    """Two records of each leaf whose values are made, since no sample may have it."""
+    for leaf in writing.MADE:
+        yield from (writing.least(leaf, *[0x74] * 9), writing.made(leaf))
+
+
 def arrays():
     for numeral in NUMERALS.values():
         yield struct.pack("<HII", 0x1503, 0x74, 0x23) + numeral + b"a\0"
@@ -64,7 +69,7 @@ def small_streams():
     yield from (b"", e[:55], e[:-1], e + b"\1\0\xaa", e + b"\0\0", e + b"\2\0\1", e[:12] + e[8:12] + e[16:])
     for at, value in ((4, 55), (4, 1025), (4, 79), (4, 60), (8, 4095), (8, 4098), (8, 0xFFFFFFFE), (12, 4095), (12, 4097), (12, 4099), (12, 0xFFFFFFFF)):
         yield e[:at] + struct.pack("<I", value) + e[at + 4:]
-    yield fitting.stream(list(one_of_each(TYPES, 60)))
+    yield fitting.stream(list(one_of_each(TYPES, 60)) + list(made()))
     yield fitting.stream(list(arrays()))
     yield fitting.stream([fitting.modifier(0x74)] * 20, low=0xFFF0)
     yield fitting.stream([fitting.modifier(0x74), fitting.pointer(0x1000), fitting.arguments(0x74, 0x1001), fitting.procedure(0x1000, 0x1002)])
@@ -93,11 +98,13 @@ def cells():
     for payload in one_of_each(IDS):
         yield b"\1" + payload
     yield b"\0" + struct.pack("<HIIH", 0x1201, 0, 0, 0)
-    # cells: a choice of leaf, then kinds and numbers, then text
-    yield b"\2\0" + b"\2\x20\2\x20\0" + b"text"
-    yield b"\2\5" + b"\2\x94\2\x43\3\x25\x22\7\x20\x24\0" + b"name"
-    yield b"\3\x13" + b"\1\7\x20\x24\0" + b"name"
-    yield b"\2\x0d" + b"\2\x21\7\x20\x24\0" + b"\x74\0\0\0"
+    # cells: a leaf, then kinds and numbers, then text
+    of_leaf = lambda leaf: b"\xff" + struct.pack("<I", leaf)
+    yield b"\2" + of_leaf(0x1001) + b"\2\x20\2\x20\0" + b"text"
+    yield b"\2" + of_leaf(0x1503) + b"\2\x94\2\x43\3\x25\x22\7\x20\x24\0" + b"name"
+    yield b"\3" + of_leaf(0x1605) + b"\1\7\x20\x24\0" + b"name"
+    yield b"\2" + of_leaf(0x1201) + b"\2\x21\7\x20\x24\0" + b"\x74\0\0\0"
+    yield from (b"\0" + payload for payload in made())
 
 
 def rows():
@@ -109,7 +116,7 @@ def rows():
         yield b"\0" + struct.pack("<HHI", 0x150D, 3, 0x74) + numeral + b"f\0"
         yield b"\0" + struct.pack("<HHII", 0x1401, 3, 0x1000, 0x1001) + numeral + b"\x08\0"
     yield b"\0" + struct.pack("<HHI", 0x1404, 0, 0x1000) + b"rest"
-    for n in range(len(MEMBERS)):
+    for n in range(len(layouts.MEMBERS)):
         yield b"\2\1" + bytes([n, 6, 0x23, 0x94, 0x20, 0x24, 0x20, 0x24]) + b"name"
     yield b"\3\2" + bytes([3, 0x23, 0x94, 0x20]) + bytes([5, 0x23, 0x94, 0x20, 0x21, 0x28])
 
@@ -118,7 +125,7 @@ def sections():
     for name in ("plain-x64.debugT", "rich-x64.debugT"):
         yield b"\3" + sample(name)[4:]
         yield b"\xff" + sample(name)[:400]
-    yield b"\0" + b"".join(struct.pack("<H", len(p)) + p for p in list(one_of_each(TYPES, 60)) + list(one_of_each(IDS, 60)))
+    yield b"\0" + b"".join(struct.pack("<H", len(p)) + p for p in list(one_of_each(TYPES, 60)) + list(one_of_each(IDS, 60)) + list(made()))
     yield from (b"\xff", b"\xff\4\0\0", b"\xff\4\0\0\0", b"\xff\5\0\0\0", b"\0\1\0\xaa", b"\0\2\0\1", b"\0\2\0\1\x10")
 
 
@@ -179,7 +186,7 @@ def targets():
 
 def dictionary():
     """The leaves, the numeric prefixes and the pads, each as its bytes."""
-    words = {f"leaf_{n:04x}": struct.pack("<H", n) for n in RECORDS + ID_RECORDS + MEMBERS}
+    words = {f"leaf_{n:04x}": struct.pack("<H", n) for n in [*writing.TYPE_LEAVES, *writing.ID_LEAVES, *layouts.MEMBERS]}
     words |= {f"numeral_{n:04x}": struct.pack("<H", n) for n in (0x8000, 0x8001, 0x8002, 0x8003, 0x8004, 0x8009, 0x800A, 0x8005)}
     words |= {f"pad_{n:x}": bytes(range(0xF0 + n, 0xF0, -1)) for n in (1, 2, 3, 15)}
     words |= {f"index_{n:x}": struct.pack("<I", n) for n in (0x74, 0x674, 0xFFF, 0x1000, 0x1001, 0x1002, 0xFFFF, 0x10000, 0x80000000, 0xFFFFFFFF)}

@@ -336,7 +336,8 @@ mod ours {
                 }
                 ("MethodList", vec![("methods", Elements(methods))])
             }
-            other => panic!("{other:?}"),
+            // a leaf that the crate does not know: there is nothing to compare its fields with
+            _ => ("Later", Vec::new()),
         };
         Given(named(kind, fields, data.name()))
     }
@@ -846,6 +847,7 @@ fn type_excuses(bytes: &[u8], ours: &Answer<'_>, theirs: &Answer<'_>) -> Option<
     }
     match leaf {
         0x000a if *theirs == Refused(10, 10) => return Some(vec!["vtable-shape"]),
+        _ if *theirs == Refused(10, leaf.into()) && !TYPES.contains(&leaf) => return Some(vec!["later-leaf"]),
         0x1002 => {
             let attributes = bytes.get(6..10).map(|b| u32::from_le_bytes(b.try_into().unwrap()))?;
             let (kind, mode) = (attributes & 0x1f, attributes >> 5 & 7);

@@ -54,11 +54,8 @@ mod whole;
 mod words;
 mod write;
 
-pub use data::{
-    ArgumentList, ArrayType, BaseClassType, BitfieldType, ClassKind, ClassType, EnumerateType, EnumerationType, Form, Member, MemberFunctionType, MemberType,
-    MethodListEntry, MethodType, ModifierType, NestedType, OverloadedMethodType, PointerType, ProcedureType, RawString, StaticMemberType, TypeData, UnionType,
-    Variant, VirtualBaseClassType, VirtualFunctionTablePointerType, VirtualTableShapeType,
-};
+// every public type of data.rs: what records hold
+pub use data::*;
 pub use error::{Error, Result};
 pub use id::{BuildInfoId, FunctionId, IdData, MemberFunctionId, StringId, StringListId, StringRef, UserDefinedTypeSourceFileRef, UserDefinedTypeSourceId};
 pub use list::{FieldIter, FieldList, Indices, IndicesIter, MethodIter, MethodList};

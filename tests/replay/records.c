@@ -1,6 +1,7 @@
 /* The lines of records and of their elements: compare/PROTOCOL.md, "Lines of records". */
 #include "pdb_names.h"
 #include "replay.h"
+#include "type_rows.h"
 
 void primitive(const uint64_t *out)
 {
@@ -23,15 +24,28 @@ static void text(const char *name, uint64_t place, uint64_t length)
     part(name, place != 0, place, length);
 }
 
-static void names(const uint64_t *o)
-{
-    text(" name=", o[PDB_TYPE_NAME], o[PDB_TYPE_NAME_LENGTH]);
-    text(" unique=", o[PDB_TYPE_UNIQUE], o[PDB_TYPE_UNIQUE_LENGTH]);
-}
+/* What the line of each type leaf shows, by a table: a text alone, or a text and what stands at a place of the row and the one behind it. */
 
-static const char *class_kind(uint64_t leaf)
+enum { ALONE, NUMBER, OPTIONAL, NUMERAL, PART, BIT_0, BIT_1, BIT_2 };
+
+#define TYPE_ROW(leaf, text, how, place) {leaf, text, how, place},
+static const struct {
+    uint16_t leaf;
+    const char *text;
+    int how;
+    size_t place;
+} type_rows[] = {TYPE_ROWS(TYPE_ROW)};
+
+static void type_field(const char *name, int how, const uint64_t *at, bool forms)
 {
-    return leaf == PDB_LF_CLASS ? "Class" : leaf == PDB_LF_STRUCTURE ? "Struct" : leaf == PDB_LF_INTERFACE ? "Interface" : "Struct19";
+    switch (how) {
+    case ALONE: put(name); break;
+    case NUMBER: field(name, at[0]); break;
+    case OPTIONAL: index_or_none(name, at[0]); break;
+    case NUMERAL: numeral(name, at[0], at[1], forms); break;
+    case PART: text(name, at[0], at[1]); break;
+    default: field(name, at[0] >> (how - BIT_0) & 1); break;
+    }
 }
 
 /* The fields of a type record, from its row. */
@@ -39,82 +53,12 @@ static void type_fields(const uint64_t *o, bool forms)
 {
     put("0 ");
     leaf(o[PDB_TYPE_LEAF]);
-    switch (o[PDB_TYPE_LEAF]) {
-    case PDB_LF_MODIFIER:
-        field(" t=", o[PDB_TYPE_TYPE]);
-        field(" const=", o[PDB_TYPE_WORD] & 1);
-        field(" volatile=", o[PDB_TYPE_WORD] >> 1 & 1);
-        field(" unaligned=", o[PDB_TYPE_WORD] >> 2 & 1);
-        break;
-    case PDB_LF_POINTER:
-        field(" t=", o[PDB_TYPE_TYPE]);
-        field(" word=", o[PDB_TYPE_WORD]);
-        index_or_none(" class=", o[PDB_TYPE_OTHER]);
-        break;
-    case PDB_LF_PROCEDURE:
-        index_or_none(" ret=", o[PDB_TYPE_TYPE]);
-        field(" attrs=", o[PDB_TYPE_WORD]);
-        field(" count=", o[PDB_TYPE_COUNT]);
-        field(" args=", o[PDB_TYPE_LIST]);
-        break;
-    case PDB_LF_MFUNCTION:
-        field(" ret=", o[PDB_TYPE_TYPE]);
-        field(" class=", o[PDB_TYPE_OTHER]);
-        index_or_none(" this=", o[PDB_TYPE_LAST]);
-        field(" attrs=", o[PDB_TYPE_WORD]);
-        field(" count=", o[PDB_TYPE_COUNT]);
-        field(" args=", o[PDB_TYPE_LIST]);
-        field(" adjust=", o[PDB_TYPE_SIZE]);
-        break;
-    case PDB_LF_BITFIELD:
-        field(" t=", o[PDB_TYPE_TYPE]);
-        field(" len=", o[PDB_TYPE_COUNT]);
-        field(" pos=", o[PDB_TYPE_SIZE]);
-        break;
-    case PDB_LF_ARRAY:
-        field(" elem=", o[PDB_TYPE_TYPE]);
-        field(" idx=", o[PDB_TYPE_OTHER]);
-        numeral(" size=", o[PDB_TYPE_SIZE], o[PDB_TYPE_FORM], forms);
-        text(" name=", o[PDB_TYPE_NAME], o[PDB_TYPE_NAME_LENGTH]);
-        break;
-    case PDB_LF_CLASS:
-    case PDB_LF_STRUCTURE:
-    case PDB_LF_INTERFACE:
-    case PDB_LF_STRUCTURE19:
-        put(" kind=");
-        put(class_kind(o[PDB_TYPE_LEAF]));
-        field(" count=", o[PDB_TYPE_COUNT]);
-        field(" props=", o[PDB_TYPE_WORD]);
-        index_or_none(" fields=", o[PDB_TYPE_LIST]);
-        index_or_none(" derived=", o[PDB_TYPE_OTHER]);
-        index_or_none(" shape=", o[PDB_TYPE_LAST]);
-        numeral(" size=", o[PDB_TYPE_SIZE], o[PDB_TYPE_FORM], forms);
-        names(o);
-        break;
-    case PDB_LF_UNION:
-        field(" count=", o[PDB_TYPE_COUNT]);
-        field(" props=", o[PDB_TYPE_WORD]);
-        field(" fields=", o[PDB_TYPE_LIST]);
-        numeral(" size=", o[PDB_TYPE_SIZE], o[PDB_TYPE_FORM], forms);
-        names(o);
-        break;
-    case PDB_LF_ENUM:
-        field(" count=", o[PDB_TYPE_COUNT]);
-        field(" props=", o[PDB_TYPE_WORD]);
-        field(" t=", o[PDB_TYPE_TYPE]);
-        field(" fields=", o[PDB_TYPE_LIST]);
-        names(o);
-        break;
-    case PDB_LF_VTSHAPE:
-        field(" count=", o[PDB_TYPE_COUNT]);
-        text(" bytes=", o[PDB_TYPE_NAME], o[PDB_TYPE_NAME_LENGTH]);
-        break;
-    case PDB_LF_ARGLIST:
-        field(" count=", o[PDB_TYPE_COUNT]);
-        break;
-    default:
-        break;
+    for (size_t k = 0; k < sizeof type_rows / sizeof *type_rows; k++) {
+        if (type_rows[k].leaf == o[PDB_TYPE_LEAF])
+            type_field(type_rows[k].text, type_rows[k].how, o + type_rows[k].place, forms);
     }
+    if (o[PDB_TYPE_LEAF] == PDB_LF_ARGLIST)
+        field(" count=", o[PDB_TYPE_COUNT]);
 }
 
 static void id_fields(const uint64_t *o)

@@ -43,6 +43,10 @@ fn is_record(leaf: u64) -> bool {
     )
 }
 
+pub(crate) fn has_type(leaf: u64) -> bool {
+    is_record(leaf) || matches!(leaf, 0x1201 | 0x1203 | 0x1206)
+}
+
 fn is_member(leaf: u64) -> bool {
     matches!(leaf, 0x1400 | 0x1401 | 0x1402 | 0x1404 | 0x1409 | 0x1502 | 0x150d | 0x150e | 0x150f | 0x1510 | 0x1511)
 }
@@ -270,7 +274,7 @@ impl<'a> Reader<'a> {
             self.note("newer-leaf");
         } else if matches!(leaf, 0x0403 | 0x1003..=0x1007 | 0x1405..=0x1408 | 0x140b | 0x140d) {
             self.note("length-byte-leaf");
-        } else if in_list && (is_record(leaf) || matches!(leaf, 0x1201 | 0x1203 | 0x1206)) && leaf != 0x000a {
+        } else if in_list && has_type(leaf) && leaf != 0x000a {
             self.note("leaf-in-list");
         } else if !in_list && is_member(leaf) && leaf != 0x1404 {
             self.note("member-outside");

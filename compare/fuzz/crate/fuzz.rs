@@ -168,12 +168,16 @@ fn refused(e: &Error) -> Answer {
 // ---- records
 
 fn same_type(s: &[u8]) {
+    let leaf = if s.len() >= 2 { u16::from(s[0]) | u16::from(s[1]) << 8 } else { 0 };
+    // a leaf that neither 01 nor the crate has: there is nothing to compare it with
+    if crate::port::has_type(leaf) && !crate::document::has_type(leaf.into()) {
+        return;
+    }
     let port = crate::port::type_record(s);
     let (wanted, why) = crate::document::type_record(s);
     if port != wanted {
         stop(&format!("the port's answer is 01's: {:?} {:?} of {:02x?}", port, wanted, s), 0, 0);
     }
-    let leaf = if s.len() >= 2 { u16::from(s[0]) | u16::from(s[1]) << 8 } else { 0 };
     match asked(|| acc::type_item(0x1000, s).parse().map_or_else(|e| refused(&e), |d| flat::flat(s, leaf, &d))) {
         None if why == 0 => unsafe { PANICS_UNNAMED += 1 },
         None => excuse(why),

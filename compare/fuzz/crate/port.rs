@@ -19,6 +19,7 @@ extern "C" {
     pub fn pdb_padding(s: *const u8, n: usize, at: usize, out: *mut u64) -> u32;
     pub fn pdb_size(s: *const u8, n: usize, at: usize, out: *mut u64) -> u32;
     pub fn pdb_number(s: *const u8, n: usize, at: usize, out: *mut u64) -> u32;
+    pub fn pdb_layout(which: u32, leaf: u16) -> u64;
     pub fn pdb_optional_type(index: u32) -> u32;
     pub fn pdb_optional_id(index: u32) -> u32;
     pub fn pdb_properties(word: u16, out: *mut u64) -> u32;
@@ -71,6 +72,11 @@ fn elements(s: &[u8], ids: u32, a: &mut Answer) {
         left = less as u32;
         padded = pads as u32;
     }
+}
+
+/// Whether the port has a type leaf: whether it has a layout of types, which is 0 in c/pdb.h.
+pub(crate) fn has_type(leaf: u16) -> bool {
+    unsafe { pdb_layout(0, leaf) != 0 }
 }
 
 pub(crate) fn type_record(s: &[u8]) -> Answer {

@@ -1,5 +1,6 @@
 /* write(read(x)) and read(write(v)) for records by their cells. First byte: bit 0 an id record, bit 1 cells from the input instead of a record. */
 #include "law.h"
+#include "pdb_names.h"
 
 enum { READ, BUFFER, TEXT, AGAIN, GIVEN };
 
@@ -94,13 +95,28 @@ static void from_record(bool ids, Input in, size_t at)
         HOLDS(number == 0 || (number == 18 && in.left > 65500), number, leaf);
 }
 
+/* One of the leaves that have a layout, of types or of ids. */
+static uint16_t some_leaf(bool ids, uint8_t which)
+{
+#define NUMBER(number, label, name) number,
+    static const uint16_t all[] = {PDB_LEAVES(NUMBER)};
+    enum { ALL = sizeof all / sizeof *all };
+    static uint16_t leaves[2][ALL];
+    static size_t count[2];
+    if (count[ids] == 0) {
+        for (size_t k = 0; k < ALL; k++) {
+            if (pdb_layout(ids ? PDB_LAYOUT_IDS : PDB_LAYOUT_TYPES, all[k]) != 0)
+                leaves[ids][count[ids]++] = all[k];
+        }
+    }
+    return leaves[ids][which % count[ids]];
+}
+
 static void from_cells(bool ids, Input in, size_t at)
 {
-    static const uint16_t leaves[] = {0x1001, 0x1002, 0x1008, 0x1009, 0x1205, 0x1503, 0x1504, 0x1505, 0x1519, 0x1609, 0x1506, 0x1507, 0x000a, 0x1201, 0x1203,
-                                      0x1601, 0x1602, 0x1603, 0x1604, 0x1605, 0x1606, 0x1607};
     uint64_t cells[PDB_CELLS] = {0};
     uint8_t which = take(&in);
-    uint16_t leaf = which == 255 ? (uint16_t)take32(&in) : leaves[which % (sizeof leaves / sizeof *leaves)];
+    uint16_t leaf = which == 255 ? (uint16_t)take32(&in) : some_leaf(ids, which);
     for (size_t k = 0; k < PDB_CELLS; k += 3) {
         cells[k] = take(&in) % 10;
         if (cells[k] == 9)
