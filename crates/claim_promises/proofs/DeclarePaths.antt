@@ -13,8 +13,8 @@ use Rattle.declare_node.specs.declared.Node.{Node}
 use Rattle.declare_node.specs.declared.Node.the-variants as node
 use Rattle.declare_node.specs.declared.Arguments.{Arguments}
 use Rattle.declare_node.specs.declared.Arguments.the-variants as arguments
-use Rattle.declare_piece.specs.Pieces.{textOf}
-use Rattle.declare_piece.specs.declared.Piece.the-variants as piece
+use Rattle.declare_token.specs.Tokens.{textOf}
+use Rattle.declare_token.specs.declared.Token.the-variants as token
 use Rattle.declare_step.specs.Steps.{stepBy, inwardStep, aroundFirst}
 use Rattle.declare_step.specs.declared.Around.{Around}
 use Rattle.declare_walk.specs.Walk.{Spelled, printed, stopped, onto, fixedThen, restOf, argumentsOf, overArguments, stepped, walk}
@@ -90,7 +90,7 @@ module _ (f : ℕ → Spelled) (s : List ℕ) where
   row-stops e p zero (suc k) b all h = absurd (omega arith)
   row-stops e p (suc n) (suc k) b all h =
       joined-second e (f (indexAt s p .0)) (restOf f s (p + 4) (suc n)) (rw (first-at p) at (all 0 (omega arith)))
-      (onto-stops e [] (textOf s piece.Comma) (row (p + 4) n)
+      (onto-stops e [] (textOf s token.Comma) (row (p + 4) n)
       (row-stops e (p + 4) n k (omega arith) (λ o c. rw (later-at p o) (all (suc o) (omega arith))) (rw (later-at p k) h)))
 
   pub record Stopped (e : Refusal) (p n : ℕ) : Type 0 where
@@ -115,14 +115,14 @@ module _ (f : ℕ → Spelled) (s : List ℕ) where
     go : StopsBy e (f (indexAt s p .0)) ⊎ (IsPrinted (f (indexAt s p .0)) × StopsBy e (restOf f s (p + 4) (suc n)))
         → (StopsBy e (row (p + 4) n) → Stopped e (p + 4) (suc n)) → Stopped e p (suc (suc n))
     go (inl x) later = record { k = 0; below = omega arith; before = λ o c. absurd (omega arith); there = rw (first-at p) x }
-    go (inr x) later = more (x .0) (later (onto-stopped e [] (textOf s piece.Comma) (row (p + 4) n) (x .1)))
+    go (inr x) later = more (x .0) (later (onto-stopped e [] (textOf s token.Comma) (row (p + 4) n) (x .1)))
 
   row-prints : (p n : ℕ) → ((o : ℕ) → o < suc n → IsPrinted (f (argumentAt s p o))) → IsPrinted (row p n)
   unfolding restOf
   row-prints p zero all = joined-prints (f (indexAt s p .0)) (printed [] []) (rw (first-at p) at (all 0 (omega arith))) tt
   row-prints p (suc n) all =
       joined-prints (f (indexAt s p .0)) (restOf f s (p + 4) (suc n)) (rw (first-at p) at (all 0 (omega arith)))
-      (onto-prints [] (textOf s piece.Comma) (row (p + 4) n) (row-prints (p + 4) n (λ o c. rw (later-at p o) (all (suc o) (omega arith)))))
+      (onto-prints [] (textOf s token.Comma) (row (p + 4) n) (row-prints (p + 4) n (λ o c. rw (later-at p o) (all (suc o) (omega arith)))))
 
   row-printed : (p n : ℕ) → IsPrinted (row p n) → (o : ℕ) → o < suc n → IsPrinted (f (argumentAt s p o))
   unfolding restOf
@@ -130,7 +130,7 @@ module _ (f : ℕ → Spelled) (s : List ℕ) where
   row-printed p zero h (suc o) c = absurd (omega arith)
   row-printed p (suc n) h (suc o) c =
       rw (sym (later-at p o))
-      (row-printed (p + 4) n (onto-printed [] (textOf s piece.Comma) (row (p + 4) n) (joined-printed (f (indexAt s p .0)) (restOf f s (p + 4) (suc n)) h .1)) o (omega arith))
+      (row-printed (p + 4) n (onto-printed [] (textOf s token.Comma) (row (p + 4) n) (joined-printed (f (indexAt s p .0)) (restOf f s (p + 4) (suc n)) h .1)) o (omega arith))
 
   -- of a whole list
   pub list-stops : (e : Refusal) (p n k : ℕ) → k < n → ((o : ℕ) → o < k → IsPrinted (f (argumentAt s p o))) → StopsBy e (f (argumentAt s p k)) → StopsBy e (argumentsOf f s p n)

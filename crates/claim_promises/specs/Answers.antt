@@ -76,7 +76,7 @@ use Rattle.write_layout.specs.Fields.{givenAll}
 use Rattle.write_layout.specs.Types.{writtenLeaves}
 use Rattle.write_cells.specs.Cells.{cellValues}
 use Rattle.write_pieces.specs.Pieces.{piecesOf, saidWrite}
-use Rattle.write_pieces.specs.declared.Piece.{Piece as Piece-of-write-pieces}
+use Rattle.write_pieces.specs.declared.Piece.{Piece}
 use Rattle.write_pieces.specs.declared.WriteAnswer.{WriteAnswer}
 use Rattle.write_list.specs.Rows.{memberRows, methodRows}
 use Rattle.field.specs.declared.index.ItemIndex.the-variants as item-index
@@ -178,8 +178,8 @@ pub record Answers : Type 1 where
   pub write-list-write-method-list : (text : List ℕ) (rows : List (List ℕ)) (out : List ℕ) (at : ℕ) (r : WriteAnswer) (out′ : List ℕ) → contract.write-list-write-method-list text rows out at r out′ → Writes out (lay (methodListBytes (methodRows text rows)) out at) (saidWrite r) out′
   pub write-cells-write-type : (text : List ℕ) (leaf : ℕ) (row : List ℕ) (out : List ℕ) (at : ℕ) (r : WriteAnswer) (out′ : List ℕ) → contract.write-cells-write-type text leaf row out at r out′ → Writes out (lay (writeRecord writtenLeaves (givenAll text (cellValues leaf row))) out at) (saidWrite r) out′
   pub write-cells-write-id : (text : List ℕ) (leaf : ℕ) (row : List ℕ) (out : List ℕ) (at : ℕ) (r : WriteAnswer) (out′ : List ℕ) → contract.write-cells-write-id text leaf row out at r out′ → Writes out (lay (writeRecord idLeaves (givenAll text (cellValues leaf row))) out at) (saidWrite r) out′
-  pub write-pieces-write-plain : (text : List ℕ) (xs : List Piece-of-write-pieces) (out : List ℕ) (at : ℕ) (r : WriteAnswer) (out′ : List ℕ) → contract.write-pieces-write-plain text xs out at r out′ → Writes out (lay (limited (piecesOf text xs)) out at) (saidWrite r) out′
-  pub write-pieces-write-filled : (text : List ℕ) (xs : List Piece-of-write-pieces) (out : List ℕ) (at : ℕ) (r : WriteAnswer) (out′ : List ℕ) → contract.write-pieces-write-filled text xs out at r out′ → Writes out (lay (limited (filledEach (piecesOf text xs))) out at) (saidWrite r) out′
+  pub write-pieces-write-plain : (text : List ℕ) (xs : List Piece) (out : List ℕ) (at : ℕ) (r : WriteAnswer) (out′ : List ℕ) → contract.write-pieces-write-plain text xs out at r out′ → Writes out (lay (limited (piecesOf text xs)) out at) (saidWrite r) out′
+  pub write-pieces-write-filled : (text : List ℕ) (xs : List Piece) (out : List ℕ) (at : ℕ) (r : WriteAnswer) (out′ : List ℕ) → contract.write-pieces-write-filled text xs out at r out′ → Writes out (lay (limited (filledEach (piecesOf text xs))) out at) (saidWrite r) out′
   -- attribute words: the crate's own methods
   pub word-attributes-type-properties-packed : (self : TypeProperties) → Says (contract.word-attributes-type-properties-packed self) (λ r. r) (crate.packed (self .0))
   pub word-attributes-type-properties-constructors : (self : TypeProperties) → Says (contract.word-attributes-type-properties-constructors self) (λ r. r) (crate.constructors (self .0))

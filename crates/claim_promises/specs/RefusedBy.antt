@@ -45,7 +45,7 @@ use Rattle.word_attributes.specs.Said.{saidFlag, saidKind, saidMode, saidPointe
 use Rattle.word_attributes.specs.declared.PointerAttributes.{PointerAttributes}
 use Rattle.word_primitive.specs.Primitive.{saidPrimitive}
 use Rattle.write_pieces.specs.Pieces.{saidWrite}
-use Rattle.write_pieces.specs.declared.Piece.{Piece as Piece-of-write-pieces}
+use Rattle.write_pieces.specs.declared.Piece.{Piece}
 use Rattle.write_pieces.specs.declared.WriteAnswer.{WriteAnswer}
 use Rattle.answer.specs.Answer.{Answer}
 use Rattle.claim_promises.specs.ByTable.{Refuses, FindRefuses}
@@ -132,5 +132,5 @@ pub record EachRefusedBy : Type 0 where
   pub write-list-write-method-list : (text : List ℕ) (rows : List (List ℕ)) (out : List ℕ) (at : ℕ) (r : WriteAnswer) (out′ : List ℕ) → contract.write-list-write-method-list text rows out at r out′ → Refuses (17 ∷ 18 ∷ 19 ∷ []) (saidWrite r)
   pub write-cells-write-type : (text : List ℕ) (leaf : ℕ) (row : List ℕ) (out : List ℕ) (at : ℕ) (r : WriteAnswer) (out′ : List ℕ) → contract.write-cells-write-type text leaf row out at r out′ → Refuses (17 ∷ 18 ∷ 19 ∷ []) (saidWrite r)
   pub write-cells-write-id : (text : List ℕ) (leaf : ℕ) (row : List ℕ) (out : List ℕ) (at : ℕ) (r : WriteAnswer) (out′ : List ℕ) → contract.write-cells-write-id text leaf row out at r out′ → Refuses (17 ∷ 18 ∷ 19 ∷ []) (saidWrite r)
-  pub write-pieces-write-plain : (text : List ℕ) (xs : List Piece-of-write-pieces) (out : List ℕ) (at : ℕ) (r : WriteAnswer) (out′ : List ℕ) → contract.write-pieces-write-plain text xs out at r out′ → Refuses (17 ∷ 18 ∷ 19 ∷ []) (saidWrite r)
-  pub write-pieces-write-filled : (text : List ℕ) (xs : List Piece-of-write-pieces) (out : List ℕ) (at : ℕ) (r : WriteAnswer) (out′ : List ℕ) → contract.write-pieces-write-filled text xs out at r out′ → Refuses (17 ∷ 18 ∷ 19 ∷ []) (saidWrite r)
+  pub write-pieces-write-plain : (text : List ℕ) (xs : List Piece) (out : List ℕ) (at : ℕ) (r : WriteAnswer) (out′ : List ℕ) → contract.write-pieces-write-plain text xs out at r out′ → Refuses (17 ∷ 18 ∷ 19 ∷ []) (saidWrite r)
+  pub write-pieces-write-filled : (text : List ℕ) (xs : List Piece) (out : List ℕ) (at : ℕ) (r : WriteAnswer) (out′ : List ℕ) → contract.write-pieces-write-filled text xs out at r out′ → Refuses (17 ∷ 18 ∷ 19 ∷ []) (saidWrite r)

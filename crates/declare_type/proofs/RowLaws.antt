@@ -9,8 +9,8 @@ use lib.ListN.{length, length-append}
 use Rattle.declare_node.specs.Nodes.{indexAt, listOf}
 use Rattle.declare_node.specs.declared.Arguments.{Arguments}
 use Rattle.declare_node.specs.declared.Arguments.the-variants as arguments
-use Rattle.declare_piece.specs.declared.Piece.the-variants as piece
-use Rattle.declare_piece.specs.Pieces.{textOf}
+use Rattle.declare_token.specs.declared.Token.the-variants as token
+use Rattle.declare_token.specs.Tokens.{textOf}
 use Rattle.declare_walk.specs.Walk.{Spelled, printed, stopped, onto, fixedThen, restOf, argumentsOf, overArguments, wholeText}
 use Rattle.field_put.specs.Bytes.{put, Puts, Room}
 use Rattle.declare_type.specs.Sides.{isPrinted, leftOf, rightOf, SideRoom, Both, RowRoom, Rest}
@@ -31,7 +31,7 @@ flat-joined (stopped k q) w e = refl
 pub flat-rest : (f : ℕ → Spelled) (s : List ℕ) (p n : ℕ) → leftOf (restOf f s p n) ≡ []
 unfolding restOf
 flat-rest f s p zero = refl
-flat-rest f s p (suc n) = flat-onto (textOf s piece.Comma) (fixedThen (f (indexAt s p .0)) (restOf f s (p + 4) n)) (flat-joined (f (indexAt s p .0)) (restOf f s (p + 4) n) (flat-rest f s (p + 4) n))
+flat-rest f s p (suc n) = flat-onto (textOf s token.Comma) (fixedThen (f (indexAt s p .0)) (restOf f s (p + 4) n)) (flat-joined (f (indexAt s p .0)) (restOf f s (p + 4) n) (flat-rest f s (p + 4) n))
 
 -- ---- the first argument, and the rest
 
@@ -118,14 +118,14 @@ module _ (f : ℕ → Spelled) (s : List ℕ) (t : State) (g at : ℕ) (l₀ : L
   never-refused q z = absurd (false≢true (rw (sym e ∙ z) at (h .prints)))
 
   module _ (p n : ℕ) (z : o ≡ arguments.At p n) where
-    none : n ≡ 0 → overArguments f s (listOf s t g) ≡ printed [] (textOf s piece.Void)
+    none : n ≡ 0 → overArguments f s (listOf s t g) ≡ printed [] (textOf s token.Void)
     unfolding overArguments argumentsOf
     none k = rw (sym e ∙ z, k)
 
-    pub void-room : n ≡ 0 → Room l₀ at (textOf s piece.Void)
+    pub void-room : n ≡ 0 → Room l₀ at (textOf s token.Void)
     void-room k = record { room = rw (none k) at (h .high) }
 
-    pub void-puts : (r : ℕ) (l : List ℕ) → n ≡ 0 → Puts l₀ at (textOf s piece.Void) r l → Puts l₀ at (wholeText (overArguments f s (listOf s t g))) r l
+    pub void-puts : (r : ℕ) (l : List ℕ) → n ≡ 0 → Puts l₀ at (textOf s token.Void) r l → Puts l₀ at (wholeText (overArguments f s (listOf s t g))) r l
     void-puts r l k c = rw (none k) c
 
     some : 0 < n → overArguments f s (listOf s t g) ≡ fixedThen (f (indexAt s p .0)) (restOf f s (p + 4) (n - 1))
@@ -152,18 +152,18 @@ module _ (f : ℕ → Spelled) (s : List ℕ) (q left : ℕ) (all : Spelled) (l 
       let r : Rest (printed [] []) all l e l₀ at = rw k at h in
       record { next = omega (arith, r .end); left = r .text }
 
-  again : 0 < left → Rest (onto [] (textOf s piece.Comma) (fixedThen (f (indexAt s q .0)) (restOf f s (q + 4) (left - 1)))) all l e l₀ at
+  again : 0 < left → Rest (onto [] (textOf s token.Comma) (fixedThen (f (indexAt s q .0)) (restOf f s (q + 4) (left - 1)))) all l e l₀ at
   unfolding restOf
   again k =
       let m : left ≡ suc (left - 1) = omega arith in
       subst (λ j. Rest (restOf f s q j) all l e l₀ at) m h
 
-  pub comma-fits : 0 < left → Room l e (textOf s piece.Comma)
-  comma-fits k = record { room = comma-room (textOf s piece.Comma) all l l₀ e at (f (indexAt s q .0)) (restOf f s (q + 4) (left - 1)) (flat-rest f s (q + 4) (left - 1)) (again k) }
+  pub comma-fits : 0 < left → Room l e (textOf s token.Comma)
+  comma-fits k = record { room = comma-room (textOf s token.Comma) all l l₀ e at (f (indexAt s q .0)) (restOf f s (q + 4) (left - 1)) (flat-rest f s (q + 4) (left - 1)) (again k) }
 
-  pub next-room : (x : ℕ) (l₁ : List ℕ) → 0 < left → Puts l e (textOf s piece.Comma) x l₁ → RowRoom (f (indexAt s q .0)) x l₁
-  next-room x l₁ k p = more-room (textOf s piece.Comma) all l l₀ e at (f (indexAt s q .0)) (restOf f s (q + 4) (left - 1)) x l₁ (flat-rest f s (q + 4) (left - 1)) (again k) p
+  pub next-room : (x : ℕ) (l₁ : List ℕ) → 0 < left → Puts l e (textOf s token.Comma) x l₁ → RowRoom (f (indexAt s q .0)) x l₁
+  next-room x l₁ k p = more-room (textOf s token.Comma) all l l₀ e at (f (indexAt s q .0)) (restOf f s (q + 4) (left - 1)) x l₁ (flat-rest f s (q + 4) (left - 1)) (again k) p
 
-  pub next-rest : (x y : ℕ) (l₁ l₂ : List ℕ) → 0 < left → Puts l e (textOf s piece.Comma) x l₁ → Puts l₁ x (wholeText (f (indexAt s q .0))) y l₂ → Rest (restOf f s (q + 4) (left - 1)) all l₂ y l₀ at
+  pub next-rest : (x y : ℕ) (l₁ l₂ : List ℕ) → 0 < left → Puts l e (textOf s token.Comma) x l₁ → Puts l₁ x (wholeText (f (indexAt s q .0))) y l₂ → Rest (restOf f s (q + 4) (left - 1)) all l₂ y l₀ at
   next-rest x y l₁ l₂ k p c =
-      more-rest (textOf s piece.Comma) all l l₀ e at (f (indexAt s q .0)) (restOf f s (q + 4) (left - 1)) x y l₁ l₂ (flat-rest f s (q + 4) (left - 1)) (again k) p c
+      more-rest (textOf s token.Comma) all l l₀ e at (f (indexAt s q .0)) (restOf f s (q + 4) (left - 1)) x y l₁ l₂ (flat-rest f s (q + 4) (left - 1)) (again k) p c

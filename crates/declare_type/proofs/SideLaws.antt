@@ -1,4 +1,4 @@
--- The two sides of a declaration, written piece by piece from the outside inward. Assumes nothing.
+-- The two sides of a declaration, written token by token from the outside inward. Assumes nothing.
 use Prim.Native.Nat.{ℕ, zero, suc, _+_, _-_, _*_, _≤_, _<_}
 use native.Mathlib.Omega.{arith}
 use mathlib.Core.Path.{_≡_, refl, ap, sym, _∙_}
@@ -10,7 +10,7 @@ use Rattle.field_put.specs.Bytes.{put, Puts, Room}
 use Rattle.declare_type.specs.Sides.{isPrinted, leftOf, rightOf, SideRoom, Both, RowRoom, Rest}
 use Rattle.declare_type.proofs.PutLaws.{put-append, put-comm, length-put}
 
--- ---- a piece on each side
+-- ---- a token on each side
 
 module _ (a b : List ℕ) (left right : ℕ) (n : List ℕ) where
   pub room-left : (w : Spelled) → SideRoom (onto a b w) left right n → length a ≤ left

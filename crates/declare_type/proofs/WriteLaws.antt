@@ -14,13 +14,13 @@ use Rattle.declare_node.specs.Nodes.{indexAt, listOf}
 use Rattle.answer.specs.declared.Refusal.{Refusal}
 use Rattle.answer.specs.declared.Refusal.the-variants as refusal
 use Rattle.declare_step.specs.declared.Around.{Around}
-use Rattle.declare_piece.specs.declared.Piece.{Piece}
-use Rattle.declare_piece.specs.declared.Piece.the-variants as piece
+use Rattle.declare_token.specs.declared.Token.{Token}
+use Rattle.declare_token.specs.declared.Token.the-variants as token
 use Rattle.declare_step.specs.declared.Step.{Step}
 use Rattle.declare_step.specs.declared.Step.the-variants as step
 use Rattle.declare_walk.specs.declared.Measured.{Measured}
 use Rattle.declare_walk.specs.declared.Measured.the-variants as measured
-use Rattle.declare_piece.specs.Pieces.{textOf}
+use Rattle.declare_token.specs.Tokens.{textOf}
 use Rattle.declare_step.specs.Steps.{aroundFirst, inwardStep}
 use Rattle.declare_walk.specs.Walk.{Spelled, printed, stopped, onto, fixedThen, overArguments, stepped, walk, capped, wholeText}
 use Rattle.field_put.specs.Bytes.{put, Puts, Room}
@@ -55,15 +55,15 @@ module _ (s : List ℕ) (t : State) (d i : ℕ) (a : Around) (h : 0 < d) (o : St
   unfolding stepped
   refused-eq q f = is f
 
-  pub last-eq : (p : Piece) → o ≡ step.Last p → walk s t d i a ≡ printed (textOf s p) []
+  pub last-eq : (p : Token) → o ≡ step.Last p → walk s t d i a ≡ printed (textOf s p) []
   unfolding stepped
   last-eq p f = is f
 
-  pub inward-eq : (l r : Piece) (j : TypeIndex) (b : Around) → o ≡ step.Inward l r j b → walk s t d i a ≡ onto (textOf s l) (textOf s r) (walk s t (d - 1) (j .0) b)
+  pub inward-eq : (l r : Token) (j : TypeIndex) (b : Around) → o ≡ step.Inward l r j b → walk s t d i a ≡ onto (textOf s l) (textOf s r) (walk s t (d - 1) (j .0) b)
   unfolding stepped
   inward-eq l r j b f = is f
 
-  pub call-eq : (l r z : Piece) (g j : TypeIndex) (b : Around) → o ≡ step.Call l r z g j b
+  pub call-eq : (l r z : Token) (g j : TypeIndex) (b : Around) → o ≡ step.Call l r z g j b
       → walk s t d i a ≡ onto (textOf s l) (textOf s r) (fixedThen (argsIn s t (d - 1) (g .0)) (onto [] (textOf s z) (walk s t (d - 1) (j .0) b)))
   unfolding stepped
   call-eq l r z g j b f = is f
@@ -73,7 +73,7 @@ module _ (s : List ℕ) (t : State) (d i : ℕ) (a : Around) (h : 0 < d) (o : St
 pub no-room : {A : Type 0} (w : Spelled) (k : ℕ) (q : Refusal) (left right : ℕ) (n : List ℕ) → w ≡ stopped k q → SideRoom w left right n → A
 no-room w k q left right n e h = absurd (false≢true (rw e at (h .prints)))
 
--- ---- the last piece
+-- ---- the last token
 
 module _ (w : Spelled) (text l : List ℕ) (left right : ℕ) (h : SideRoom w left right l) (e : w ≡ printed text []) where
   pub last-small : length text ≤ left
@@ -86,7 +86,7 @@ module _ (w : Spelled) (text l : List ℕ) (left right : ℕ) (h : SideRoom w le
   unfolding put
   last-both x y m f p = rw e (record { end = omega arith; after = p .left ∙ ap (λ k. put l (left - k) text) f })
 
--- ---- a piece on each side
+-- ---- a token on each side
 
 module _ (a b : List ℕ) (w : Spelled) (left right : ℕ) (l₀ : List ℕ) (h : SideRoom (onto a b w) left right l₀) where
   pub left-small : length a ≤ left
