@@ -24,10 +24,10 @@ use Rattle.declare_token.specs.Tokens.{textOf}
 use Rattle.declare_step.specs.Steps.{aroundFirst, inwardStep}
 use Rattle.declare_walk.specs.Walk.{Spelled, printed, stopped, onto, fixedThen, overArguments, stepped, walk, capped, wholeText}
 use Rattle.field_put.specs.Bytes.{put, Puts, Room}
-use Rattle.declare_type.specs.Sides.{isPrinted, leftOf, rightOf, SideRoom, Both, RowRoom}
+use Rattle.declare_type.specs.Sides.{isPrinted, leftOf, rightOf, SideRoom, Both, WholeRoom}
 use Rattle.declare_walk.proofs.WalkLaws.{walk-is, argsIn}
 use Rattle.declare_type.proofs.PutLaws.{put-append, length-put}
-use Rattle.declare_type.proofs.SideLaws.{room-left, room-right, room-in, both-in, text-right, text-in, text-both, row-room, row-in, row-both}
+use Rattle.declare_type.proofs.SideLaws.{room-left, room-right, room-in, both-in, text-right, text-in, text-both, joined-room, joined-in, joined-both}
 
 pub room-as : (v w : Spelled) (left right : ℕ) (n : List ℕ) → v ≡ w → SideRoom v left right n → SideRoom w left right n
 room-as v w left right n e h = rw e at h
@@ -111,12 +111,12 @@ module _ (a b : List ℕ) (w : Spelled) (left right : ℕ) (l₀ : List ℕ) (h 
 -- ---- arguments, and what closes them
 
 module _ (v w : Spelled) (c : List ℕ) (left right : ℕ) (l₀ : List ℕ) (h : SideRoom (fixedThen v (onto [] c w)) left right l₀) where
-  pub args-room : RowRoom v right l₀
-  args-room = row-room left right l₀ v (onto [] c w) h
+  pub args-room : WholeRoom v right l₀
+  args-room = joined-room left right l₀ v (onto [] c w) h
 
   module _ (f : ℕ) (l₁ : List ℕ) (p : Puts l₀ right (wholeText v) f l₁) where
     mid : SideRoom (onto [] c w) left f l₀
-    mid = row-in left right l₀ v (onto [] c w) f (p .next) h
+    mid = joined-in left right l₀ v (onto [] c w) f (p .next) h
 
     pub close-fits : Room l₁ f c
     close-fits = record { room = omega (arith, text-right c left f l₀ w mid, put-length l₀ l₁ (wholeText v) right f p) }
@@ -128,7 +128,7 @@ module _ (v w : Spelled) (c : List ℕ) (left right : ℕ) (l₀ : List ℕ) (h 
           room-len w left g l₀ l₂ n (text-in c left f l₀ w g (q .next) mid)
 
       pub after-both : (r : ℕ) (l₃ : List ℕ) → Both w l₂ left g r l₃ → Both (fixedThen v (onto [] c w)) l₀ left right r l₃
-      after-both r l₃ z = row-both left right l₀ v (onto [] c w) l₀ l₁ l₃ f r h p (text-both c left f l₀ w l₁ l₂ l₃ g r mid q z)
+      after-both r l₃ z = joined-both left right l₀ v (onto [] c w) l₀ l₁ l₃ f r h p (text-both c left f l₀ w l₁ l₂ l₃ g r mid q z)
 
 -- ---- an argument
 
@@ -147,7 +147,7 @@ length-whole : (w : Spelled) → length (wholeText w) ≡ length (leftOf w) + le
 length-whole (printed l r) = length-append l r
 length-whole (stopped k q) = refl
 
-module _ (w : Spelled) (at : ℕ) (l : List ℕ) (h : RowRoom w at l) where
+module _ (w : Spelled) (at : ℕ) (l : List ℕ) (h : WholeRoom w at l) where
   pub argument-fits : (m n : ℕ) → measured.Fits m n ≡ capped (length l - at) w → at + m ≤ length l
   argument-fits m n e = let s = sides (length l - at) m n w e in omega (arith, h .high, length-whole w, s .1)
 
@@ -163,7 +163,7 @@ module _ (w : Spelled) (at : ℕ) (l : List ℕ) (h : RowRoom w at l) where
 
   pub argument-puts : (m n r : ℕ) (l₁ : List ℕ) → measured.Fits m n ≡ capped (length l - at) w → Both w l (at + m) (at + m) r l₁ → Puts l at (wholeText w) r l₁
   argument-puts m n r l₁ e z = go w h (sides (length l - at) m n w e) z where
-    go : (w : Spelled) → RowRoom w at l → (isPrinted w ≡ true) × (m ≡ length (leftOf w)) × (n ≡ length (rightOf w)) → Both w l (at + m) (at + m) r l₁ → Puts l at (wholeText w) r l₁
+    go : (w : Spelled) → WholeRoom w at l → (isPrinted w ≡ true) × (m ≡ length (leftOf w)) × (n ≡ length (rightOf w)) → Both w l (at + m) (at + m) r l₁ → Puts l at (wholeText w) r l₁
     go (printed a b) k s y =
         let i : at + m - length a ≡ at = omega (arith, s .1) in
         let j : at + m ≡ at + length a = omega (arith, s .1) in
@@ -176,7 +176,7 @@ module _ (w : Spelled) (at : ℕ) (l : List ℕ) (h : RowRoom w at l) where
   pub argument-never : {A : Type 0} (q : Refusal) → measured.Refused q ≡ capped (length l - at) w → A
   unfolding capped
   argument-never q e = absurd (go w h e) where
-    go : (w : Spelled) → RowRoom w at l → measured.Refused q ≡ capped (length l - at) w → ⊥
+    go : (w : Spelled) → WholeRoom w at l → measured.Refused q ≡ capped (length l - at) w → ⊥
     go (printed a b) k e₁ =
         let f : ltb (length l - at) (length a + length b) ≡ false = le-ltb (length l - at) (length a + length b) (omega (arith, k .high, length-append a b)) in
         let g : measured.Refused q ≡ measured.Fits (length a) (length b) = e₁ ∙ rw f in

@@ -7,7 +7,7 @@ ghost use Rattle.declare_node.specs.Nodes.{listOf};
 ghost use Rattle.declare_token.specs.Tokens.{textOf};
 ghost use Rattle.declare_step.specs.Steps.{aroundFirst};
 ghost use Rattle.declare_walk.specs.Walk.{walk, overArguments, wholeText};
-ghost use Rattle.declare_type.specs.Sides.{SideRoom, Both, RowRoom};
+ghost use Rattle.declare_type.specs.Sides.{SideRoom, Both, WholeRoom};
 ghost use Rattle.declare_type.specs.Declares.{declareOf, Declares};
 use answer::Refusal;
 use declare_node::Arguments;
@@ -114,7 +114,7 @@ fn write_arguments(
     out: &mut [u8],
     at: usize,
 ) -> usize
-    requires { ⌜ RowRoom (overArguments (λ j. walk (now s) (state f (now t)) d j aroundFirst) (now s) (listOf (now s) (state f (now t)) g)) at (now out) ⌝ }
+    requires { ⌜ WholeRoom (overArguments (λ j. walk (now s) (state f (now t)) d j aroundFirst) (now s) (listOf (now s) (state f (now t)) g)) at (now out) ⌝ }
     ensures { λ r. ⌜ Puts (now (out .entry)) at (wholeText (overArguments (λ j. walk (now (s .entry)) (state f (now (t .entry))) d j aroundFirst) (now (s .entry)) (listOf (now (s .entry)) (state f (now (t .entry))) g))) r (now (out .exit)) ⌝ }
 {
     match declare_node::list_of(s, f, t, TypeIndex(g)) {
@@ -151,7 +151,7 @@ fn write_argument(
     out: &mut [u8],
     at: usize,
 ) -> usize
-    requires { ⌜ RowRoom (walk (now s) (state f (now t)) d (i .0) aroundFirst) at (now out) ⌝ }
+    requires { ⌜ WholeRoom (walk (now s) (state f (now t)) d (i .0) aroundFirst) at (now out) ⌝ }
     ensures { λ r. ⌜ Puts (now (out .entry)) at (wholeText (walk (now (s .entry)) (state f (now (t .entry))) d (i .0) aroundFirst)) r (now (out .exit)) ⌝ }
 {
     let around = declare_step::start();

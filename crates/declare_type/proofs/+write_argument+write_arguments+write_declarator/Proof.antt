@@ -9,7 +9,7 @@ use Rattle.declare_step.specs.Steps.{aroundFirst}
 use Rattle.declare_walk.specs.Walk.{walk, restOf}
 use Rattle.declare_type.specs.Sides.{Rest}
 use Rattle.declare_type.proofs.WriteLaws.{room-as, both-as, no-room, deep-eq, refused-eq, last-eq, inward-eq, call-eq, last-small, last-fits, last-both, left-small, left-fits, right-fits, inner-room, inner-both, args-room, close-fits, after-room, after-both, argument-fits, argument-sides, argument-puts, argument-never}
-use Rattle.declare_type.proofs.RowLaws.{never-refused, void-room, void-puts, argument-room, argument-rest, argument-all, rest-all, comma-fits, next-room, next-rest}
+use Rattle.declare_type.proofs.ArgumentLaws.{never-refused, void-room, void-puts, argument-room, argument-rest, argument-all, rest-all, comma-fits, next-room, next-rest}
 use Prim.Native.Nat.{ℕ, _<_}
 use borrow.Fn.Kinds.{In}
 use borrow.Fn.PlainCycle.{Measures, is, falls, and}

@@ -1,4 +1,4 @@
--- Rows of arguments, written from left to right. Assumes nothing.
+-- Arguments, written from left to right. Assumes nothing.
 use Rattle.stream_finder.specs.Finder.{State}
 use Prim.Native.Nat.{ℕ, zero, suc, _+_, _-_, _*_, _≤_, _<_}
 use native.Mathlib.Omega.{arith}
@@ -13,10 +13,10 @@ use Rattle.declare_token.specs.declared.Token.the-variants as token
 use Rattle.declare_token.specs.Tokens.{textOf}
 use Rattle.declare_walk.specs.Walk.{Spelled, printed, stopped, onto, fixedThen, restOf, argumentsOf, overArguments, wholeText}
 use Rattle.field_put.specs.Bytes.{put, Puts, Room}
-use Rattle.declare_type.specs.Sides.{isPrinted, leftOf, rightOf, SideRoom, Both, RowRoom, Rest}
+use Rattle.declare_type.specs.Sides.{isPrinted, leftOf, rightOf, SideRoom, Both, WholeRoom, Rest}
 use Rattle.declare_type.proofs.PutLaws.{put-append, put-comm, length-put, puts-two}
 
--- ---- a row has no left side
+-- ---- arguments have no left side
 
 flat-onto : (b : List ℕ) (w : Spelled) → leftOf w ≡ [] → leftOf (onto [] b w) ≡ []
 unfolding onto
@@ -35,7 +35,7 @@ flat-rest f s p (suc n) = flat-onto (textOf s token.Comma) (fixedThen (f (indexA
 
 -- ---- the first argument, and the rest
 
-first-room : (v w : Spelled) (at : ℕ) (l : List ℕ) → leftOf w ≡ [] → RowRoom (fixedThen v w) at l → RowRoom v at l
+first-room : (v w : Spelled) (at : ℕ) (l : List ℕ) → leftOf w ≡ [] → WholeRoom (fixedThen v w) at l → WholeRoom v at l
 unfolding fixedThen onto
 first-room (printed a b) (printed [] d) at l z h = record { prints = refl; high = omega (arith, h .high, length-append (a ++ b) d) }
 first-room (printed a b) (printed (x ∷ c) d) at l z h = absurd (let k : _≡_ {A = ℕ} 0 1 = cc in omega arith)
@@ -43,7 +43,7 @@ first-room (printed a b) (stopped k e) at l z h = absurd (false≢true (h .print
 first-room (stopped k e) w at l z h = absurd (false≢true (h .prints))
 
 -- nothing of the rest is written yet
-first-rest : (v w : Spelled) (at e : ℕ) (l₀ l₁ : List ℕ) → leftOf w ≡ [] → RowRoom (fixedThen v w) at l₀ → Puts l₀ at (wholeText v) e l₁ → Rest w w l₁ e l₁ e
+first-rest : (v w : Spelled) (at e : ℕ) (l₀ l₁ : List ℕ) → leftOf w ≡ [] → WholeRoom (fixedThen v w) at l₀ → Puts l₀ at (wholeText v) e l₁ → Rest w w l₁ e l₁ e
 unfolding fixedThen onto
 first-rest (printed a b) (printed [] d) at e l₀ l₁ z h p = record {
   prints = refl;
@@ -59,7 +59,7 @@ first-rest (stopped k q) w at e l₀ l₁ z h p = absurd (false≢true (h .print
 
 -- all of it is
 first-all :
-    (v w : Spelled) (at e r : ℕ) (l₀ l₁ l₂ : List ℕ) → leftOf w ≡ [] → RowRoom (fixedThen v w) at l₀ → Puts l₀ at (wholeText v) e l₁ → Puts l₁ e (wholeText w) r l₂
+    (v w : Spelled) (at e r : ℕ) (l₀ l₁ l₂ : List ℕ) → leftOf w ≡ [] → WholeRoom (fixedThen v w) at l₀ → Puts l₀ at (wholeText v) e l₁ → Puts l₁ e (wholeText w) r l₂
     → Puts l₀ at (wholeText (fixedThen v w)) r l₂
 unfolding fixedThen onto
 first-all (printed a b) (printed [] d) at e r l₀ l₁ l₂ z h p q = puts-two l₀ l₁ l₂ at e r (a ++ b) d p q
@@ -76,7 +76,7 @@ module _ (c : List ℕ) (all : Spelled) (l l₀ : List ℕ) (e at : ℕ) where
   comma-room (printed a b) (stopped k q) z h = absurd (false≢true (h .prints))
   comma-room (stopped k q) w z h = absurd (false≢true (h .prints))
 
-  more-room : (v w : Spelled) (x : ℕ) (l₁ : List ℕ) → leftOf w ≡ [] → Rest (onto [] c (fixedThen v w)) all l e l₀ at → Puts l e c x l₁ → RowRoom v x l₁
+  more-room : (v w : Spelled) (x : ℕ) (l₁ : List ℕ) → leftOf w ≡ [] → Rest (onto [] c (fixedThen v w)) all l e l₀ at → Puts l e c x l₁ → WholeRoom v x l₁
   unfolding fixedThen onto
   more-room (printed a b) (printed y d) x l₁ z h p = record {
     prints = refl;
@@ -112,7 +112,7 @@ module _ (c : List ℕ) (all : Spelled) (l l₀ : List ℕ) (e at : ℕ) where
 
 -- ---- as the code has it
 
-module _ (f : ℕ → Spelled) (s : List ℕ) (t : State) (g at : ℕ) (l₀ : List ℕ) (o : Arguments) (e : o ≡ listOf s t g) (h : RowRoom (overArguments f s (listOf s t g)) at l₀) where
+module _ (f : ℕ → Spelled) (s : List ℕ) (t : State) (g at : ℕ) (l₀ : List ℕ) (o : Arguments) (e : o ≡ listOf s t g) (h : WholeRoom (overArguments f s (listOf s t g)) at l₀) where
   pub never-refused : {A : Type 0} (q : _) → o ≡ arguments.Refused q → A
   unfolding overArguments
   never-refused q z = absurd (false≢true (rw (sym e ∙ z) at (h .prints)))
@@ -134,7 +134,7 @@ module _ (f : ℕ → Spelled) (s : List ℕ) (t : State) (g at : ℕ) (l₀ : L
         let m : n ≡ suc (n - 1) = omega arith in
         rw (sym e ∙ z) (ap (argumentsOf f s p) m)
 
-    pub argument-room : 0 < n → RowRoom (f (indexAt s p .0)) at l₀
+    pub argument-room : 0 < n → WholeRoom (f (indexAt s p .0)) at l₀
     argument-room k = first-room (f (indexAt s p .0)) (restOf f s (p + 4) (n - 1)) at l₀ (flat-rest f s (p + 4) (n - 1)) (rw (some k) at h)
 
     module _ (x : ℕ) (l : List ℕ) (k : 0 < n) (c : Puts l₀ at (wholeText (f (indexAt s p .0))) x l) where
@@ -161,7 +161,7 @@ module _ (f : ℕ → Spelled) (s : List ℕ) (q left : ℕ) (all : Spelled) (l 
   pub comma-fits : 0 < left → Room l e (textOf s token.Comma)
   comma-fits k = record { room = comma-room (textOf s token.Comma) all l l₀ e at (f (indexAt s q .0)) (restOf f s (q + 4) (left - 1)) (flat-rest f s (q + 4) (left - 1)) (again k) }
 
-  pub next-room : (x : ℕ) (l₁ : List ℕ) → 0 < left → Puts l e (textOf s token.Comma) x l₁ → RowRoom (f (indexAt s q .0)) x l₁
+  pub next-room : (x : ℕ) (l₁ : List ℕ) → 0 < left → Puts l e (textOf s token.Comma) x l₁ → WholeRoom (f (indexAt s q .0)) x l₁
   next-room x l₁ k p = more-room (textOf s token.Comma) all l l₀ e at (f (indexAt s q .0)) (restOf f s (q + 4) (left - 1)) x l₁ (flat-rest f s (q + 4) (left - 1)) (again k) p
 
   pub next-rest : (x y : ℕ) (l₁ l₂ : List ℕ) → 0 < left → Puts l e (textOf s token.Comma) x l₁ → Puts l₁ x (wholeText (f (indexAt s q .0))) y l₂ → Rest (restOf f s (q + 4) (left - 1)) all l₂ y l₀ at
