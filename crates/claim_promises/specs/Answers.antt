@@ -39,7 +39,7 @@ use Rattle.stream_finder.specs.Finder.{Fills, begunIn, createBy as createBy-of-
 use Rattle.stream_finder.specs.Lent.{Updates}
 use Rattle.stream_finder.specs.declared.FinderAnswer.{FinderAnswer}
 use Rattle.stream_finder.specs.declared.ItemFinder.{ItemFinder}
-use Rattle.stream_finder.specs.declared.Run.{Run}
+use Rattle.stream_finder.specs.declared.Records.{Records}
 use Rattle.stream_finder.specs.declared.lent.UpdateAnswer.{UpdateAnswer}
 use Rattle.stream_header.specs.Header.{headerOf, saidHeader}
 use Rattle.stream_header.specs.declared.Header.{Header}
@@ -114,7 +114,7 @@ pub record Answers : Type 1 where
   -- streams: header, count, iterator, items; the finder, by value and lent; places that are kept; reports; what the roots reach
   pub stream-finder-create : (s : List ℕ) (t : List ℕ) (r : FinderAnswer) (t′ : List ℕ) → contract.stream-finder-create s t r t′ → Fills t (createOf-of-stream-finder s t) r t′
   pub stream-finder-create-by : (s : List ℕ) (t : List ℕ) (shift : ℕ) (r : FinderAnswer) (t′ : List ℕ) → contract.stream-finder-create-by s t shift r t′ → Fills t (createBy-of-stream-finder shift s t) r t′
-  pub stream-finder-begin : (t : List ℕ) (records : Run) (shift : ℕ) (r : FinderAnswer) (t′ : List ℕ) → contract.stream-finder-begin t records shift r t′ → Fills t (begunIn shift t records) r t′
+  pub stream-finder-begin : (t : List ℕ) (records : Records) (shift : ℕ) (r : FinderAnswer) (t′ : List ℕ) → contract.stream-finder-begin t records shift r t′ → Fills t (begunIn shift t records) r t′
   pub stream-finder-update : (f : ItemFinder) (t : List ℕ) (c : ItemIter) (r : FinderAnswer) (t′ : List ℕ) → contract.stream-finder-update f t c r t′ → Fills t (updateOf (state f t) c) r t′
   pub stream-finder-item-finder-max-type-index : (self : ItemFinder) → Says (contract.stream-finder-item-finder-max-type-index self) (λ r. r .0) (maxIndexOf self)
   pub stream-finder-item-finder-max-id-index : (self : ItemFinder) → Says (contract.stream-finder-item-finder-max-id-index self) (λ r. r .0) (maxIndexOf self)

@@ -130,7 +130,7 @@ use Rattle.stream_finder.specs.Lent.{Updates}
 use Rattle.stream_finder.specs.declared.FindAnswer.{FindAnswer}
 use Rattle.stream_finder.specs.declared.FinderAnswer.{FinderAnswer}
 use Rattle.stream_finder.specs.declared.ItemFinder.{ItemFinder}
-use Rattle.stream_finder.specs.declared.Run.{Run}
+use Rattle.stream_finder.specs.declared.Records.{Records}
 use Rattle.stream_finder.specs.declared.lent.UpdateAnswer.{UpdateAnswer}
 use Rattle.stream_fit.specs.Fit.{fitOf, saidFit}
 use Rattle.stream_fit.specs.declared.FitAnswer.{FitAnswer}
@@ -751,7 +751,7 @@ abbrev pub stream-finder-create-by : (s : List ℕ) (t : List ℕ) (shift : ℕ)
 stream-finder-create-by s t shift r t′ = Fills t (createBy shift s t) r t′
 
 -- stream_finder::begin
-abbrev pub stream-finder-begin : (t : List ℕ) (records : Run) (shift : ℕ) → FinderAnswer → List ℕ → Type 0
+abbrev pub stream-finder-begin : (t : List ℕ) (records : Records) (shift : ℕ) → FinderAnswer → List ℕ → Type 0
 stream-finder-begin t records shift r t′ = Fills t (begunIn shift t records) r t′
 
 -- stream_finder::update

@@ -23,7 +23,7 @@ use Rattle.record_member.specs.declared.Member.{Member}
 use Rattle.record_member.specs.declared.MethodListEntry.{MethodListEntry}
 use Rattle.record_reader.specs.declared.ListReader.{ListReader}
 use Rattle.stream_finder.specs.declared.ItemFinder.{ItemFinder}
-use Rattle.stream_finder.specs.declared.Run.{Run}
+use Rattle.stream_finder.specs.declared.Records.{Records}
 use Rattle.stream_header.specs.declared.Header.{Header}
 use Rattle.stream_index.specs.declared.Tour.{Tour}
 use Rattle.stream_item.specs.declared.Entry.{Entry}
@@ -235,7 +235,7 @@ pub record OneOutcome : Type 1 where
   -- stream_finder
   pub stream-finder-create : (s : List ℕ) (t : List ℕ) → OnceLent (contract.stream-finder-create s t)
   pub stream-finder-create-by : (s : List ℕ) (t : List ℕ) (shift : ℕ) → OnceLent (contract.stream-finder-create-by s t shift)
-  pub stream-finder-begin : (t : List ℕ) (records : Run) (shift : ℕ) → OnceLent (contract.stream-finder-begin t records shift)
+  pub stream-finder-begin : (t : List ℕ) (records : Records) (shift : ℕ) → OnceLent (contract.stream-finder-begin t records shift)
   pub stream-finder-update : (f : ItemFinder) (t : List ℕ) (c : ItemIter) → OnceLent (contract.stream-finder-update f t c)
   pub stream-finder-item-finder-max-type-index : (self : ItemFinder) → Once (contract.stream-finder-item-finder-max-type-index self)
   pub stream-finder-item-finder-max-id-index : (self : ItemFinder) → Once (contract.stream-finder-item-finder-max-id-index self)

@@ -22,7 +22,7 @@ use Rattle.stream_finder.specs.Finder.{saidFind, saidFinder}
 use Rattle.stream_finder.specs.Lent.{saidUpdate}
 use Rattle.stream_finder.specs.declared.FinderAnswer.{FinderAnswer}
 use Rattle.stream_finder.specs.declared.ItemFinder.{ItemFinder}
-use Rattle.stream_finder.specs.declared.Run.{Run}
+use Rattle.stream_finder.specs.declared.Records.{Records}
 use Rattle.stream_finder.specs.declared.lent.UpdateAnswer.{UpdateAnswer}
 use Rattle.stream_header.specs.Header.{saidHeader}
 use Rattle.stream_header.specs.declared.Header.{Header}
@@ -113,7 +113,7 @@ pub record EachRefusedBy : Type 0 where
 
   pub stream-finder-create : (s : List ℕ) (t : List ℕ) (r : FinderAnswer) (t′ : List ℕ) → contract.stream-finder-create s t r t′ → Refuses (16 ∷ 1 ∷ 2 ∷ 3 ∷ 4 ∷ 5 ∷ 13 ∷ []) (saidFinder r)
   pub stream-finder-create-by : (s : List ℕ) (t : List ℕ) (shift : ℕ) (r : FinderAnswer) (t′ : List ℕ) → contract.stream-finder-create-by s t shift r t′ → Refuses (16 ∷ 1 ∷ 2 ∷ 3 ∷ 4 ∷ 5 ∷ 26 ∷ 13 ∷ []) (saidFinder r)
-  pub stream-finder-begin : (t : List ℕ) (records : Run) (shift : ℕ) (r : FinderAnswer) (t′ : List ℕ) → contract.stream-finder-begin t records shift r t′ → Refuses (26 ∷ 13 ∷ []) (saidFinder r)
+  pub stream-finder-begin : (t : List ℕ) (records : Records) (shift : ℕ) (r : FinderAnswer) (t′ : List ℕ) → contract.stream-finder-begin t records shift r t′ → Refuses (26 ∷ 13 ∷ []) (saidFinder r)
   pub stream-finder-update : (f : ItemFinder) (t : List ℕ) (c : ItemIter) (r : FinderAnswer) (t′ : List ℕ) → contract.stream-finder-update f t c r t′ → Refuses (16 ∷ 26 ∷ 13 ∷ 14 ∷ []) (saidFinder r)
   pub stream-finder-lent-item-finder-update : (self : ItemFinder) (t : List ℕ) (c : ItemIter) (r : UpdateAnswer) (self′ : ItemFinder) (t′ : List ℕ) → contract.stream-finder-lent-item-finder-update self t c r self′ t′ → Refuses (16 ∷ 26 ∷ 13 ∷ 14 ∷ []) (saidUpdate r)
   pub stream-index-next-and-update : (s : List ℕ) (f : ItemFinder) (t : List ℕ) (c : ItemIter) (r : TurnAnswer) (t′ : List ℕ) → contract.stream-index-next-and-update s f t c r t′ → Refuses (16 ∷ 1 ∷ 6 ∷ 7 ∷ 26 ∷ 13 ∷ 14 ∷ []) (saidTurn r t′)
