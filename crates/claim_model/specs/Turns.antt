@@ -19,8 +19,8 @@ use Rattle.claim_model.specs.TpiItems.{Item, iter, finder, tour, finder-
 use Rattle.claim_model.specs.Equal.{Equal, Same}
 use Rattle.claim_model.specs.Shown.{unlinked, Roomy}
 
-unfoldable pub crateRun : List ℕ → ℕ → ℕ → Rust Item
-crateRun s n i = do
+unfoldable pub crateTurns : List ℕ → ℕ → ℕ → Rust Item
+crateTurns s n i = do
   info ← parse-information s
   type-finder ← finder info
   types ← iter info
@@ -37,8 +37,8 @@ turns s zero c σ = answered (c, σ)
 turns s (suc n) c σ = then (nextOf s c) (followed c σ (λ d τ. turns s n d τ))
 
 -- t is the lent table; the tag says which stream the bytes are
-unfoldable pub portRun : Stream → List ℕ → List ℕ → ℕ → ℕ → Answer Found
-portRun tag s t n i =
+unfoldable pub portTurns : Stream → List ℕ → List ℕ → ℕ → ℕ → Answer Found
+portTurns tag s t n i =
     then (createOf s t) λ σ.
     then (iterOf tag s) λ c.
     then (turns s n c σ) λ (d, τ).
@@ -49,16 +49,16 @@ pub record Lent (s : List ℕ) : Type 0 where
   pub bytes : Bytes s
   pub short : length s ≤ longest
 
--- demand 2 for a whole use. The domain: the Rust neither panics nor wraps (`Equal`), each stops at its iterator's first refusal (the runs
--- themselves), every update comes from an iterator that has not refused (the runs again), and the lent table never lacks room (`Roomy`)
-unfoldable pub RunsEqual : Type 0
-RunsEqual =
-    (tag : Stream) (s t : List ℕ) (n i : ℕ) → Lent s → Roomy (portRun tag s t n i)
-    → Equal (crateRun s n i) (unlinked s (portRun tag s t n i))
+-- demand 2 for a whole use. The domain: the Rust neither panics nor wraps (`Equal`), each stops at its iterator's first refusal (the uses
+-- themselves), every update comes from an iterator that has not refused (the uses again), and the lent table never lacks room (`Roomy`)
+unfoldable pub TurnsEqual : Type 0
+TurnsEqual =
+    (tag : Stream) (s t : List ℕ) (n i : ℕ) → Lent s → Roomy (portTurns tag s t n i)
+    → Equal (crateTurns s n i) (unlinked s (portTurns tag s t n i))
 
--- and how far the domain reaches: where eight times one more than the turns, and the minimum, fit a u32, the crate's run neither panics nor wraps
-unfoldable pub RunsSame : Type 0
-RunsSame =
-    (tag : Stream) (s t : List ℕ) (n i : ℕ) → Lent s → Roomy (portRun tag s t n i)
+-- and how far the domain reaches: where eight times one more than the turns, and the minimum, fit a u32, the crate's use neither panics nor wraps
+unfoldable pub TurnsSame : Type 0
+TurnsSame =
+    (tag : Stream) (s t : List ℕ) (n i : ℕ) → Lent s → Roomy (portTurns tag s t n i)
     → ((h : Header) → headerOf s ≡ answered h → h .«minimum_index» + 8 * (1 + n) < 4294967296)
-    → Same (crateRun s n i) (unlinked s (portRun tag s t n i))
+    → Same (crateTurns s n i) (unlinked s (portTurns tag s t n i))

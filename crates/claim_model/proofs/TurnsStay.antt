@@ -1,4 +1,4 @@
--- How far the domain reaches: where eight times one more than the turns, and the minimum, fit a u32, the crate's whole run neither panics nor
+-- How far the domain reaches: where eight times one more than the turns, and the minimum, fit a u32, the crate's whole use neither panics nor
 -- wraps. Assumes nothing.
 use Prim.Native.Nat.{ℕ, zero, suc, _+_, _*_, _≤_, _<_}
 use mathlib.Core.Path.{_≡_, refl, subst}
@@ -25,8 +25,8 @@ use Rattle.claim_model.proofs.NextEqual.{number-in, next-same}
 use Rattle.claim_model.proofs.CreateEqual.{first, iter-same, create-same}
 use Rattle.claim_model.proofs.UpdateEqual.{update-same}
 use Rattle.claim_model.proofs.FindEqual.{find-same}
-use Rattle.claim_model.specs.Run.{crateRun, followed, turns, RunsSame}
-use Rattle.claim_model.proofs.RunEqual.{Accepted, accepted, eightfold, created-ind, updated-ind, Stood, stood, standing, once, run-once}
+use Rattle.claim_model.specs.Turns.{crateTurns, followed, turns, TurnsSame}
+use Rattle.claim_model.proofs.TurnsEqual.{Accepted, accepted, eightfold, created-ind, updated-ind, Stood, stood, standing, once, turns-once}
 
 -- ---- after k turns from the minimum m
 pub record Grown (m k : ℕ) (σ : State) : Type 0 where
@@ -96,12 +96,12 @@ module _ (s : List ℕ) (m N : ℕ) (fits : m + 8 * (1 + N) < 4294967296) where
           (update-same s σ d (y .at) (omega (arith, g .shift)) (g .claim) (omega (arith, g .minimum, p .above)) (roomy-first (updateOf σ d) (λ τ. turns s n d τ) r))
           λ τ u. ih d τ (y .stands) p (grown m k σ d τ (y .at) g u) (roomy-then (updateOf σ d) (λ τ. turns s n d τ) τ u r)
 
--- ---- the run
-pub run-same : RunsSame
-unfolding RunsSame crateRun once
-run-same tag s t n i ok roomy′ far =
-    let roomy = subst (λ (a : Answer Found). Roomy a) (run-once tag s t n i) roomy′ in
-    rw (run-once tag s t n i)
+-- ---- the whole use
+pub turns-same : TurnsSame
+unfolding TurnsSame crateTurns once
+turns-same tag s t n i ok roomy′ far =
+    let roomy = subst (λ (a : Answer Found). Roomy a) (turns-once tag s t n i) roomy′ in
+    rw (turns-once tag s t n i)
     (bind-same (parse-information s) (headerOf s) (information s) _ (once tag s t n i) (unlinked s) (unlinked-numbered s) (header s (ok .short))
     λ h e.
     let a : Accepted s h = accepted s h ok e in

@@ -1,4 +1,4 @@
--- A whole run is equal: its parts are, and each leaves what the next part's equality asks for. Assumes nothing.
+-- A whole use is equal: its parts are, and each leaves what the next part's equality asks for. Assumes nothing.
 use Prim.Native.Nat.{ℕ, zero, suc, _+_, _-_, _*_, _/_, _%_, _^_, _≤_, _<_}
 use mathlib.Core.Path.{_≡_, refl, ap, subst}
 use mathlib.Core.List.{List}
@@ -32,7 +32,7 @@ use Rattle.claim_model.proofs.NextEqual.{number-in, next-equal}
 use Rattle.claim_model.proofs.CreateEqual.{first, iter-equal, create-equal}
 use Rattle.claim_model.proofs.UpdateEqual.{update-equal}
 use Rattle.claim_model.proofs.FindEqual.{find-equal}
-use Rattle.claim_model.specs.Run.{crateRun, followed, turns, portRun, Lent, RunsEqual}
+use Rattle.claim_model.specs.Turns.{crateTurns, followed, turns, portTurns, Lent, TurnsEqual}
 
 -- ---- what an accepted header says
 pub record Accepted (s : List ℕ) (h : Header) : Type 0 where
@@ -224,14 +224,14 @@ module _ (s : List ℕ) where
           (update-equal s σ d (y .at) (omega (arith, f .shift)) (f .held) (roomy-first (updateOf σ d) (λ τ. turns s n d τ) r))
           λ τ u. ih d τ (y .stands) (fit-updated s σ d τ (y .at) (y .stands .index) (y .some) f u) (roomy-then (updateOf σ d) (λ τ. turns s n d τ) τ u r)
 
--- ---- the run
--- the port's run, its header read once
+-- ---- the whole use
+-- the port's use, its header read once
 unfoldable pub once : Stream → List ℕ → List ℕ → ℕ → ℕ → Header → Answer Found
 once tag s t n i h = then (begunBy 3 t h) λ σ. then (turns s n (first tag h) σ) λ (d, τ). findOf s τ (indexIn tag i)
 
-pub run-once : (tag : Stream) (s t : List ℕ) (n i : ℕ) → portRun tag s t n i ≡ then (headerOf s) (once tag s t n i)
-unfolding portRun createBy iterOf once
-run-once tag s t n i = go (headerOf s)
+pub turns-once : (tag : Stream) (s t : List ℕ) (n i : ℕ) → portTurns tag s t n i ≡ then (headerOf s) (once tag s t n i)
+unfolding portTurns createBy iterOf once
+turns-once tag s t n i = go (headerOf s)
   where
     go : (a : Answer Header)
         → then (then a (begunBy 3 t)) (λ σ. then (then a (λ h. answered (first tag h))) λ c. then (turns s n c σ) λ (d, τ). findOf s τ (indexIn tag i))
@@ -239,11 +239,11 @@ run-once tag s t n i = go (headerOf s)
     go (answered h) = refl
     go (refused m d) = refl
 
-pub run-equal : RunsEqual
-unfolding RunsEqual crateRun once
-run-equal tag s t n i ok roomy′ =
-    let roomy = subst (λ (a : Answer Found). Roomy a) (run-once tag s t n i) roomy′ in
-    rw (run-once tag s t n i)
+pub turns-equal : TurnsEqual
+unfolding TurnsEqual crateTurns once
+turns-equal tag s t n i ok roomy′ =
+    let roomy = subst (λ (a : Answer Found). Roomy a) (turns-once tag s t n i) roomy′ in
+    rw (turns-once tag s t n i)
     (bind-equal (parse-information s) (headerOf s) (information s) _ (once tag s t n i) (unlinked s) (unlinked-numbered s) (header s (ok .short) .equal)
     λ h e.
     let a : Accepted s h = accepted s h ok e in
