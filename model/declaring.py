@@ -31,7 +31,7 @@ KINDS = {
     0x50: ("float _Complex", 8), 0x51: ("double _Complex", 16), 0x52: ("long double _Complex", 20), 0x53: ("__float128 _Complex", 32),
     0x30: ("bool", 1), 0x31: ("__bool16", 2), 0x32: ("__bool32", 4), 0x33: ("__bool64", 8),
 }
-# The indirections 1 to 7: the piece and the size of the pointer.
+# The indirections 1 to 7: the spelling and the size of the pointer.
 INDIRECTIONS = {1: ("__near *", 2), 2: ("__far *", 4), 3: ("__huge *", 4), 4: ("*", 4), 5: ("__far32 *", 6), 6: ("*", 8), 7: ("__ptr128 *", 16)}
 MODES = {0: "*", 1: "&", 2: "::*", 3: "::*", 4: "&&"}
 WORDS = ("const", "volatile", "__unaligned", "__restrict")
@@ -135,8 +135,8 @@ class Walk:
             raise Refused(19)
         return text
 
-    def piece(self, star, pending, left):
-        """A pointer's piece with its qualifiers, and the space behind them."""
+    def token(self, star, pending, left):
+        """A pointer's token: its spelling, its qualifiers, and the space behind them."""
         words = " ".join(w for w in WORDS if w in pending)
         return self.fix((star + words + (" " if words and left else "")).encode()) + left
 
@@ -151,7 +151,7 @@ class Walk:
         if i < FIRST:
             kind, by = primitive(i)
             if by:
-                left, pending = self.piece(INDIRECTIONS[by][0], pending, left), frozenset()
+                left, pending = self.token(INDIRECTIONS[by][0], pending, left), frozenset()
             return self.base(KINDS[kind][0].encode(), pending, left, right)
         self.lookups += 1
         leaf, r = self.stream.record(i, PRINTED)
@@ -160,7 +160,7 @@ class Walk:
             return self.visit(r["t"], depth - 1, left, right, under, pending | own)
         if leaf == 0x1002:
             own = frozenset(w for bit, w in ((10, WORDS[0]), (9, WORDS[1]), (11, WORDS[2]), (12, WORDS[3])) if r["word"] >> bit & 1)
-            left = self.piece(MODES[r["word"] >> 5 & 7], pending | own, left)
+            left = self.token(MODES[r["word"] >> 5 & 7], pending | own, left)
             return self.visit(r["t"], depth - 1, left, right, True)
         if leaf in TAGS:
             return self.base(r["name"], pending, left, right)

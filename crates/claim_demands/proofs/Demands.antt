@@ -4,7 +4,7 @@ use Rattle.record_layout.proofs.AsIn01.{as-in-01}
 use Rattle.word_primitive.proofs.SheetLaws.{sheet}
 use Rattle.claim_model.proofs.Demand2.{demand2}
 use Rattle.stream_finder.proofs.DemandProof.{demand3, demand3-every, not-indexed, not-indexed-every}
-use Rattle.stream_finder.proofs.SharedProof.{shared, of-runs}
+use Rattle.stream_finder.proofs.SharedProof.{shared, of-records}
 use Rattle.record_reference.proofs.DecodedLaws.{has-exactly}
 use Rattle.stream_fit.proofs.AfterLaws.{after-yes}
 use Rattle.stream_fit.proofs.SentenceLaws.{sentences}
@@ -119,7 +119,7 @@ demands = record {
   cells-tell = cells-tell;
   same-walk = same-walk;
   words-named = named;
-  of-runs = of-runs;
+  of-records = of-records;
   of-sections = of-sections;
   sections-counted = counts;
   made-stream = stream-made;

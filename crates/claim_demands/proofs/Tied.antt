@@ -7,10 +7,10 @@ use Rattle.answer_name.proofs.name_of.Met as answer-name-name-of
 use Rattle.declare_node.proofs.index_at.Met as declare-node-index-at
 use Rattle.declare_node.proofs.list_of.Met as declare-node-list-of
 use Rattle.declare_node.proofs.node_of.Met as declare-node-node-of
-use Rattle.declare_piece.proofs.len.Met as declare-piece-len
-use Rattle.declare_piece.proofs.put.Met as declare-piece-put
 use Rattle.declare_step.proofs.start.Met as declare-step-start
 use Rattle.declare_step.proofs.step_of.Met as declare-step-step-of
+use Rattle.declare_token.proofs.len.Met as declare-token-len
+use Rattle.declare_token.proofs.put.Met as declare-token-put
 use Rattle.declare_type.proofs.declare.Met as declare-type-declare
 use Rattle.declare_walk.proofs.measure_declarator.Met as declare-walk-measure-declarator
 use Rattle.declare_word.proofs.indirection.Met as declare-word-indirection
@@ -237,10 +237,10 @@ tied = record {
   declare-node-node-of = record { says = λ M 𝓤 H A mem run. refl; meets = λ M. declare-node-node-of.met };
   declare-node-list-of = record { says = λ M 𝓤 H A mem run. refl; meets = λ M. declare-node-list-of.met };
   declare-node-index-at = record { says = λ M 𝓤 H A mem run. refl; meets = λ M. declare-node-index-at.met };
-  declare-piece-len = record { says = λ M 𝓤 H A mem run. refl; meets = λ M. declare-piece-len.met };
-  declare-piece-put = record { says = λ M 𝓤 H A mem run. refl; meets = λ M. declare-piece-put.met };
   declare-step-start = record { says = λ M 𝓤 H A mem run. refl; meets = λ M. declare-step-start.met };
   declare-step-step-of = record { says = λ M 𝓤 H A mem run. refl; meets = λ M. declare-step-step-of.met };
+  declare-token-len = record { says = λ M 𝓤 H A mem run. refl; meets = λ M. declare-token-len.met };
+  declare-token-put = record { says = λ M 𝓤 H A mem run. refl; meets = λ M. declare-token-put.met };
   declare-type-declare = record { says = λ M 𝓤 H A mem run. refl; meets = λ M. declare-type-declare.met };
   declare-walk-measure-declarator = record { says = λ M 𝓤 H A mem run. refl; meets = λ M. declare-walk-measure-declarator.met };
   declare-word-indirection = record { says = λ M 𝓤 H A mem run. refl; meets = λ M. declare-word-indirection.met };

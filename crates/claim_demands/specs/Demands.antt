@@ -23,7 +23,7 @@ use Rattle.write_list.specs.Rows.{RowsShow}
 use Rattle.write_list.specs.ListsBack.{ListsReadBack, ListsExactly17}
 use Rattle.write_header.specs.Headers.{HeaderReadsBack}
 use Rattle.write_header.specs.Streams.{StreamWalks}
-use Rattle.stream_finder.specs.Runs.{OfRuns}
+use Rattle.stream_finder.specs.OfRecords.{OfRecords}
 use Rattle.section_item.specs.Sections.{SectionCounts}
 use Rattle.section_finder.specs.Demand.{OfSections}
 use Rattle.section_read.specs.Readers.{EachTaken}
@@ -173,9 +173,9 @@ pub record Demands : Type 2 where
   pub same-walk : SameWalk
   pub words-named : KindsNamed
   -- document 02, R-6: "Demand 3 holds of the section with 4 for header_size, 4096 for the minimum and 4096 plus the records for the maximum":
-  -- crates/section_finder/specs/Demand.antt, by the theorems of any run, crates/stream_finder/specs/Runs.antt; the records are those of a whole walk:
+  -- crates/section_finder/specs/Demand.antt, by the theorems of any records, crates/stream_finder/specs/OfRecords.antt; the records are those of a whole walk:
   -- crates/section_item/specs/Sections.antt
-  pub of-runs : OfRuns
+  pub of-records : OfRecords
   pub of-sections : OfSections
   pub sections-counted : SectionCounts
   -- the stream that is made of a section: its header is accepted and counts the section's records, their bytes are kept, its walk is the section's with

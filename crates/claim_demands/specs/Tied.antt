@@ -13,14 +13,14 @@ use Rattle.declare_node.proofs.list_of as declare-node-list-of-source
 use Rattle.declare_node.proofs.list_of.Symbol as declare-node-list-of-code
 use Rattle.declare_node.proofs.node_of as declare-node-node-of-source
 use Rattle.declare_node.proofs.node_of.Symbol as declare-node-node-of-code
-use Rattle.declare_piece.proofs.len as declare-piece-len-source
-use Rattle.declare_piece.proofs.len.Symbol as declare-piece-len-code
-use Rattle.declare_piece.proofs.put as declare-piece-put-source
-use Rattle.declare_piece.proofs.put.Symbol as declare-piece-put-code
 use Rattle.declare_step.proofs.start as declare-step-start-source
 use Rattle.declare_step.proofs.start.Symbol as declare-step-start-code
 use Rattle.declare_step.proofs.step_of as declare-step-step-of-source
 use Rattle.declare_step.proofs.step_of.Symbol as declare-step-step-of-code
+use Rattle.declare_token.proofs.len as declare-token-len-source
+use Rattle.declare_token.proofs.len.Symbol as declare-token-len-code
+use Rattle.declare_token.proofs.put as declare-token-put-source
+use Rattle.declare_token.proofs.put.Symbol as declare-token-put-code
 use Rattle.declare_type.proofs.declare as declare-type-declare-source
 use Rattle.declare_type.proofs.declare.Symbol as declare-type-declare-code
 use Rattle.declare_walk.proofs.measure_declarator as declare-walk-measure-declarator-source
@@ -469,14 +469,14 @@ pub record Tied : Type 2 where
   pub declare-node-list-of : Tie declare-node-list-of-source.ended (λ M. declare-node-list-of-source.clauses) declare-node-list-of-code.routine (λ κs a r e. contract.declare-node-list-of (now (a .0)) (a .1 .0) (now (a .1 .1 .0)) (a .1 .1 .1 .0) r)
   -- declare_node::index_at
   pub declare-node-index-at : Tie declare-node-index-at-source.ended (λ M. declare-node-index-at-source.clauses) declare-node-index-at-code.routine (λ κs a r e. contract.declare-node-index-at (now (a .0)) (a .1 .0) r)
-  -- declare_piece::len
-  pub declare-piece-len : Tie declare-piece-len-source.ended (λ M. declare-piece-len-source.clauses) declare-piece-len-code.routine (λ κs a r e. contract.declare-piece-len (now (a .0)) (a .1 .0) r)
-  -- declare_piece::put
-  pub declare-piece-put : Tie declare-piece-put-source.ended (λ M. declare-piece-put-source.clauses) declare-piece-put-code.routine (λ κs a r e. contract.declare-piece-put (now (a .0)) (a .1 .0) (now (a .1 .1 .0)) (a .1 .1 .1 .0) r (now (e .1 .1 .0)))
   -- declare_step::start
   pub declare-step-start : Tie declare-step-start-source.ended (λ M. declare-step-start-source.clauses) declare-step-start-code.routine (λ κs a r e. contract.declare-step-start r)
   -- declare_step::step_of
   pub declare-step-step-of : Tie declare-step-step-of-source.ended (λ M. declare-step-step-of-source.clauses) declare-step-step-of-code.routine (λ κs a r e. contract.declare-step-step-of (now (a .0)) (a .1 .0) (now (a .1 .1 .0)) (a .1 .1 .1 .0) (a .1 .1 .1 .1 .0) r)
+  -- declare_token::len
+  pub declare-token-len : Tie declare-token-len-source.ended (λ M. declare-token-len-source.clauses) declare-token-len-code.routine (λ κs a r e. contract.declare-token-len (now (a .0)) (a .1 .0) r)
+  -- declare_token::put
+  pub declare-token-put : Tie declare-token-put-source.ended (λ M. declare-token-put-source.clauses) declare-token-put-code.routine (λ κs a r e. contract.declare-token-put (now (a .0)) (a .1 .0) (now (a .1 .1 .0)) (a .1 .1 .1 .0) r (now (e .1 .1 .0)))
   -- declare_type::declare
   pub declare-type-declare : Tie declare-type-declare-source.ended (λ M. declare-type-declare-source.clauses) declare-type-declare-code.routine (λ κs a r e. contract.declare-type-declare (now (a .0)) (a .1 .0) (now (a .1 .1 .0)) (a .1 .1 .1 .0) (now (a .1 .1 .1 .1 .0)) r (now (e .1 .1 .1 .1 .0)))
   -- declare_walk::measure_declarator

@@ -27,8 +27,8 @@ use Rattle.claim_model.proofs.NextEqual.{number-in, next-equal}
 use Rattle.claim_model.proofs.CreateEqual.{first, iter-equal, create-equal}
 use Rattle.claim_model.proofs.UpdateEqual.{update-equal}
 use Rattle.claim_model.proofs.FindEqual.{find-equal}
-use Rattle.claim_model.specs.Run.{Lent}
-use Rattle.claim_model.proofs.RunEqual.{Accepted, accepted, eighths, eightfold, created-ind, updated-ind, Stood, stood}
+use Rattle.claim_model.specs.Turns.{Lent}
+use Rattle.claim_model.proofs.TurnsEqual.{Accepted, accepted, eighths, eightfold, created-ind, updated-ind, Stood, stood}
 use Rattle.claim_model.specs.Course.{Action, begins, steps, updates, crateBehind, crateUses, crateCourse, portBehind, portUses, portCourse, CoursesEqual}
 
 -- ---- lists of iterators, none for one that has stopped

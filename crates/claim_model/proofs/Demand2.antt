@@ -3,8 +3,8 @@ use Rattle.claim_model.proofs.HeaderEqual.{header}
 use Rattle.claim_model.proofs.NextEqual.{next-alike}
 use Rattle.claim_model.proofs.UpdateEqual.{update-equal}
 use Rattle.claim_model.proofs.FindEqual.{max-equal, find-equal}
-use Rattle.claim_model.proofs.RunEqual.{run-equal}
-use Rattle.claim_model.proofs.RunStays.{run-same}
+use Rattle.claim_model.proofs.TurnsEqual.{turns-equal}
+use Rattle.claim_model.proofs.TurnsStay.{turns-same}
 use Rattle.claim_model.proofs.CourseEqual.{course-equal}
 use Rattle.claim_model.proofs.ItemsEqual.{start-same, creation-same, len-same, is-empty-same, item-len-is, item-is-empty-is, raw-kind-equal}
 use Rattle.claim_model.proofs.PrimitiveEqual.{primitive-same, primitive-equal}
@@ -29,8 +29,8 @@ demand2 = record {
   updates = update-equal;
   lookups = find-equal;
   highest = max-equal;
-  runs = run-equal;
-  reach = run-same;
+  turns = turns-equal;
+  reach = turns-same;
   courses = course-equal;
   primitives = primitive-same;
   every-primitive = primitive-equal;

@@ -26,7 +26,7 @@ use Rattle.claim_model.specs.TpiWords.{pointer-kind, pointer-size}
 use Rattle.claim_model.specs.TpiWords.{pointer-kind-arms as pointer-arms}
 use Rattle.claim_model.specs.TpiHelpers.{parse-optional-id-index, parse-string, pad-byte, padding-loop, parse-padding}
 use Rattle.claim_model.specs.TpiId.{Function, MemberFunction, BuildInfo, StringList, String, UserDefinedTypeSource, Local, Remote, function-id, member-function-id, pushed, build-info, string-list, string-id, source-line, by-leaf, try-from-ctx, parse-id}
-use Rattle.claim_model.specs.Run.{crateRun, turns, portRun}
+use Rattle.claim_model.specs.Turns.{crateTurns, turns, portTurns}
 use Rattle.claim_model.specs.Course.{Action, begins, steps, updates, crateUses, crateCourse, portUses, portCourse}
 
 -- the payloads of E's two records
@@ -40,22 +40,22 @@ abbrev found : ℕ → List ℕ → Rust Item
 found i b = gives (record { index = i; bytes = b })
 
 -- "`find` 4097 in E passes 1 link; 4098 gives 1 with 2 passed; 4099 gives 8; 4095 the marker"
-pub crate-finds : map (crateRun streamE 2) (4096 ∷ 4097 ∷ 4098 ∷ 4099 ∷ 4095 ∷ [])
+pub crate-finds : map (crateTurns streamE 2) (4096 ∷ 4097 ∷ 4098 ∷ 4099 ∷ 4095 ∷ [])
     ≡ found 4096 modifier ∷ found 4097 pointed ∷ errs UnexpectedEof ∷ errs (TypeNotFound 4099) ∷ found 4095 PRIMITIVE-TYPE ∷ []
-unfolding crateRun parse-information parse-header fields iter new resolve max-index update skipped hit miss finder-find next tour len is-empty parse take littleAt
+unfolding crateTurns parse-information parse-header fields iter new resolve max-index update skipped hit miss finder-find next tour len is-empty parse take littleAt
 crate-finds = refl
 
 abbrev port : ℕ → ℕ → ℕ → ℕ → Found
 port i p n k = record { entry = Record (itemAt stream.Types i p n); passed = k }
 
-pub port-finds : map (portRun stream.Types streamE (0 ∷ []) 2) (4096 ∷ 4097 ∷ 4098 ∷ 4099 ∷ 4095 ∷ [])
+pub port-finds : map (portTurns stream.Types streamE (0 ∷ []) 2) (4096 ∷ 4097 ∷ 4098 ∷ 4099 ∷ 4095 ∷ [])
     ≡ answered (port 4096 58 8 0)
     ∷ answered (port 4097 68 10 1)
     ∷ refused 1 (2 ∷ [])
     ∷ refused 8 (4099 ∷ [])
     ∷ answered (record { entry = Marker (indexIn stream.Types 4095); passed = 0 })
     ∷ []
-unfolding portRun createBy begunBy iterOf headerOf turns nextOf updateOf lookOf linkOf chain linkAt maxIndexOf littleAt
+unfolding portTurns createBy begunBy iterOf headerOf turns nextOf updateOf lookOf linkOf chain linkAt maxIndexOf littleAt
 port-finds = refl
 
 -- a header of that size, minimum and maximum, then bytes
@@ -64,7 +64,7 @@ made size minimum maximum rest = (0x0b ∷ 0xca ∷ 0x31 ∷ 0x01 ∷ []) ++ siz
 
 -- an index whose block is not held; a length of one; refused headers; a header that is longer than its stream; a record at index 0xffffffff;
 -- 55 bytes; no bytes
-pub crate-edges : map (λ s. crateRun s 1 4104)
+pub crate-edges : map (λ s. crateTurns s 1 4104)
     (made (four 56 0) (four 0 16) (four 16 16) []
     ∷ made (four 56 0) (four 0 16) (four 16 16) (1 ∷ 0 ∷ 5 ∷ [])
     ∷ made (four 55 0) (four 0 16) (four 16 16) []
@@ -87,12 +87,12 @@ pub crate-edges : map (λ s. crateRun s 1 4104)
     ∷ errs UnexpectedEof
     ∷ errs (TypeNotFound 4104)
     ∷ []
-unfolding crateRun parse-information parse-header fields iter new resolve max-index update skipped hit miss finder-find next tour len is-empty parse take littleAt
+unfolding crateTurns parse-information parse-header fields iter new resolve max-index update skipped hit miss finder-find next tour len is-empty parse take littleAt
 crate-edges = refl
 
 -- "Giving `find` the iterator's length rule: on a chain with a one-byte payload it must still answer"
-pub one-byte : crateRun (made (four 56 0) (four 0 16) (four 16 16) (1 ∷ 0 ∷ 5 ∷ 2 ∷ 0 ∷ 6 ∷ 7 ∷ [])) 0 4097 ≡ found 4097 (6 ∷ 7 ∷ [])
-unfolding crateRun parse-information parse-header fields iter new resolve max-index update skipped hit miss finder-find next tour len is-empty parse take littleAt
+pub one-byte : crateTurns (made (four 56 0) (four 0 16) (four 16 16) (1 ∷ 0 ∷ 5 ∷ 2 ∷ 0 ∷ 6 ∷ 7 ∷ [])) 0 4097 ≡ found 4097 (6 ∷ 7 ∷ [])
+unfolding crateTurns parse-information parse-header fields iter new resolve max-index update skipped hit miss finder-find next tour len is-empty parse take littleAt
 one-byte = refl
 
 -- two iterators: one steps past both records, the other updates behind the first; and an update by a fresh iterator of the empty stream

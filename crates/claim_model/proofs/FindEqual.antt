@@ -1,5 +1,5 @@
 -- A lookup, and the highest index, for any shift from 0 to 6 that both have. The places held fit a u32 when multiplied by the
--- block, as they do in every finder that can be reached (RunEqual.antt). Assumes nothing.
+-- block, as they do in every finder that can be reached (TurnsEqual.antt). Assumes nothing.
 use Prim.Native.Nat.{ℕ, zero, suc, _+_, _-_, _*_, _/_, _%_, _^_, _≤_, _<_}
 use mathlib.Core.Path.{_≡_, refl, sym, ap, _∙_, subst}
 use mathlib.Core.List.{List, [], _∷_}

@@ -34,8 +34,8 @@ use Rattle.claim_model.proofs.BufferLaws.{equal-panics, same-gives, by-
 use Rattle.claim_model.proofs.Compose.{shown-numbered, bind-same, roomy-then}
 use Rattle.claim_model.proofs.HeaderEqual.{header}
 use Rattle.claim_model.proofs.CreateEqual.{first, iter-same, create-same}
-use Rattle.claim_model.specs.Run.{Lent}
-use Rattle.claim_model.proofs.RunEqual.{Accepted, accepted}
+use Rattle.claim_model.specs.Turns.{Lent}
+use Rattle.claim_model.proofs.TurnsEqual.{Accepted, accepted}
 
 -- ---- ItemInformation
 pub start-same : (tag : Stream) (s : List ℕ) → Lent s → Same (_>>=_ (parse-information s) iter) (shownBy (iterShown s) (iterOf tag s))

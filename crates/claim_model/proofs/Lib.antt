@@ -11,8 +11,8 @@ pub mod CreateEqual
 pub mod UpdateEqual
 pub mod LinkEqual
 pub mod FindEqual
-pub mod RunEqual
-pub mod RunStays
+pub mod TurnsEqual
+pub mod TurnsStay
 pub mod CourseEqual
 pub mod ItemsEqual
 pub mod ParseEqual

@@ -27,7 +27,7 @@ use Rattle.claim_model.specs.Shown.{entryShown, primitiveShown, idShown,
 use Rattle.claim_model.specs.EntryShown.{asId, primitiveParsed}
 use Rattle.claim_model.proofs.PrimitiveEqual.{primitive-same}
 use Rattle.claim_model.proofs.IdEqual.{id-same}
-use Rattle.claim_model.specs.Run.{Lent}
+use Rattle.claim_model.specs.Turns.{Lent}
 use Rattle.claim_model.proofs.ItemsEqual.{part-length}
 
 as-id : (b : List ℕ) (a : Answer (List Shown)) → asId b (then a (λ vs. answered (id vs))) ≡ shownBy (idShown b) a

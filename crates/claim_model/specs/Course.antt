@@ -17,7 +17,7 @@ use Rattle.claim_model.specs.TpiHeader.{ItemInformation, parse-informati
 use Rattle.claim_model.specs.TpiItems.{Item, ItemIter as CrateIter, ItemFinder as CrateFinder, iter, finder, next, update, finder-find}
 use Rattle.claim_model.specs.Equal.{Equal}
 use Rattle.claim_model.specs.Shown.{unlinked, Roomy}
-use Rattle.claim_model.specs.Run.{Lent}
+use Rattle.claim_model.specs.Turns.{Lent}
 
 -- a fresh iterator; iterator k steps; the finder is updated with iterator k. The newest iterator is number 0. One that is not there, or has
 -- stopped, does nothing: a further step would move it alone, and so the uses are those in which no update comes from an iterator that had refused

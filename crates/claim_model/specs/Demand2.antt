@@ -48,7 +48,7 @@ use Rattle.claim_model.specs.TpiId.{parse-id}
 use Rattle.claim_model.specs.Equal.{Equal, Same, Replaced, Excepted, Stepwise, shownBy}
 use Rattle.claim_model.specs.Shown.{information, iterShown, nextShown, finderShown, entryShown, unlinked, Roomy, CanStand, readShown, textShown, primitiveShown, idShown, idAnswerShown, LiesIn}
 use Rattle.claim_model.specs.EntryShown.{vecOf, asElement, asId, primitiveParsed}
-use Rattle.claim_model.specs.Run.{Lent, RunsEqual, RunsSame}
+use Rattle.claim_model.specs.Turns.{Lent, TurnsEqual, TurnsSame}
 use Rattle.claim_model.specs.Course.{CoursesEqual}
 
 -- these methods of a word give these bits of it, for every word
@@ -79,8 +79,8 @@ pub record Demand2 : Type 0 where
   pub highest : (s : List ℕ) (σ : State) → σ .finder .shift ≤ 6 → σ .finder .held ≤ length (σ .table) → σ .finder .held * blockOf (σ .finder) < 4294967296
       → Equal (max-index (finderShown s σ)) (answered (maxIndexOf (σ .finder)))
   -- from the header to a lookup, n turns of `next` and `update` between; and how far the domain reaches: minimum + 8 (n + 1) below 2 ^ 32
-  pub runs : RunsEqual
-  pub reach : RunsSame
+  pub turns : TurnsEqual
+  pub reach : TurnsSame
   -- as many iterators as one likes, stepping and updating in any order, each up to its own first refusal, then a lookup
   pub courses : CoursesEqual
   -- "Indices and primitives": every index below 0x1000; from there up the crate panics

@@ -9,6 +9,6 @@ pub mod TpiId
 pub mod Equal
 pub mod Shown
 pub mod EntryShown
-pub mod Run
+pub mod Turns
 pub mod Course
 pub mod Demand2

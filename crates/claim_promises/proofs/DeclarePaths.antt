@@ -13,8 +13,8 @@ use Rattle.declare_node.specs.declared.Node.{Node}
 use Rattle.declare_node.specs.declared.Node.the-variants as node
 use Rattle.declare_node.specs.declared.Arguments.{Arguments}
 use Rattle.declare_node.specs.declared.Arguments.the-variants as arguments
-use Rattle.declare_piece.specs.Pieces.{textOf}
-use Rattle.declare_piece.specs.declared.Piece.the-variants as piece
+use Rattle.declare_token.specs.Tokens.{textOf}
+use Rattle.declare_token.specs.declared.Token.the-variants as token
 use Rattle.declare_step.specs.Steps.{stepBy, inwardStep, aroundFirst}
 use Rattle.declare_step.specs.declared.Around.{Around}
 use Rattle.declare_walk.specs.Walk.{Spelled, printed, stopped, onto, fixedThen, restOf, argumentsOf, overArguments, stepped, walk}
@@ -67,7 +67,7 @@ unfolding fixedThen
 joined-printed (printed a b) w h = (tt, onto-printed [] (a ++ b) w h)
 joined-printed (stopped k x) w h = absurd h
 
--- ---- a row of arguments; f walks one
+-- ---- arguments; f walks one
 
 module _ (f : ℕ → Spelled) (s : List ℕ) where
   first-at : (p : ℕ) → argumentAt s p 0 ≡ indexAt s p .0
@@ -81,17 +81,17 @@ module _ (f : ℕ → Spelled) (s : List ℕ) where
       ap (λ q. indexAt s q .0) e
 
   -- the first argument and n behind it
-  abbrev row : ℕ → ℕ → Spelled
-  row p n = fixedThen (f (indexAt s p .0)) (restOf f s (p + 4) n)
+  abbrev args : ℕ → ℕ → Spelled
+  args p n = fixedThen (f (indexAt s p .0)) (restOf f s (p + 4) n)
 
-  row-stops : (e : Refusal) (p n k : ℕ) → k < suc n → ((o : ℕ) → o < k → IsPrinted (f (argumentAt s p o))) → StopsBy e (f (argumentAt s p k)) → StopsBy e (row p n)
+  args-stops : (e : Refusal) (p n k : ℕ) → k < suc n → ((o : ℕ) → o < k → IsPrinted (f (argumentAt s p o))) → StopsBy e (f (argumentAt s p k)) → StopsBy e (args p n)
   unfolding restOf
-  row-stops e p n zero b all h = joined-first e (f (indexAt s p .0)) _ (rw (first-at p) at h)
-  row-stops e p zero (suc k) b all h = absurd (omega arith)
-  row-stops e p (suc n) (suc k) b all h =
+  args-stops e p n zero b all h = joined-first e (f (indexAt s p .0)) _ (rw (first-at p) at h)
+  args-stops e p zero (suc k) b all h = absurd (omega arith)
+  args-stops e p (suc n) (suc k) b all h =
       joined-second e (f (indexAt s p .0)) (restOf f s (p + 4) (suc n)) (rw (first-at p) at (all 0 (omega arith)))
-      (onto-stops e [] (textOf s piece.Comma) (row (p + 4) n)
-      (row-stops e (p + 4) n k (omega arith) (λ o c. rw (later-at p o) (all (suc o) (omega arith))) (rw (later-at p k) h)))
+      (onto-stops e [] (textOf s token.Comma) (args (p + 4) n)
+      (args-stops e (p + 4) n k (omega arith) (λ o c. rw (later-at p o) (all (suc o) (omega arith))) (rw (later-at p k) h)))
 
   pub record Stopped (e : Refusal) (p n : ℕ) : Type 0 where
     pub k : ℕ
@@ -99,13 +99,13 @@ module _ (f : ℕ → Spelled) (s : List ℕ) where
     pub before : (o : ℕ) → o < k → IsPrinted (f (argumentAt s p o))
     pub there : StopsBy e (f (argumentAt s p k))
 
-  row-stopped : (e : Refusal) (p n : ℕ) → StopsBy e (row p n) → Stopped e p (suc n)
+  args-stopped : (e : Refusal) (p n : ℕ) → StopsBy e (args p n) → Stopped e p (suc n)
   unfolding restOf
-  row-stopped e p zero h = go (joined-stopped e (f (indexAt s p .0)) (printed [] []) h) where
+  args-stopped e p zero h = go (joined-stopped e (f (indexAt s p .0)) (printed [] []) h) where
     go : StopsBy e (f (indexAt s p .0)) ⊎ (IsPrinted (f (indexAt s p .0)) × StopsBy e (printed [] [])) → Stopped e p 1
     go (inl x) = record { k = 0; below = omega arith; before = λ o c. absurd (omega arith); there = rw (first-at p) x }
     go (inr x) = absurd (x .1)
-  row-stopped e p (suc n) h = go (joined-stopped e (f (indexAt s p .0)) (restOf f s (p + 4) (suc n)) h) (λ x. row-stopped e (p + 4) n x) where
+  args-stopped e p (suc n) h = go (joined-stopped e (f (indexAt s p .0)) (restOf f s (p + 4) (suc n)) h) (λ x. args-stopped e (p + 4) n x) where
     more : IsPrinted (f (indexAt s p .0)) → Stopped e (p + 4) (suc n) → Stopped e p (suc (suc n))
     more y x = record { k = suc (x .k); below = omega (arith, x .below); before = earlier; there = rw (sym (later-at p (x .k))) (x .there) } where
       earlier : (o : ℕ) → o < suc (x .k) → IsPrinted (f (argumentAt s p o))
@@ -113,45 +113,45 @@ module _ (f : ℕ → Spelled) (s : List ℕ) where
       earlier (suc o) c = rw (sym (later-at p o)) (x .before o (omega arith))
 
     go : StopsBy e (f (indexAt s p .0)) ⊎ (IsPrinted (f (indexAt s p .0)) × StopsBy e (restOf f s (p + 4) (suc n)))
-        → (StopsBy e (row (p + 4) n) → Stopped e (p + 4) (suc n)) → Stopped e p (suc (suc n))
+        → (StopsBy e (args (p + 4) n) → Stopped e (p + 4) (suc n)) → Stopped e p (suc (suc n))
     go (inl x) later = record { k = 0; below = omega arith; before = λ o c. absurd (omega arith); there = rw (first-at p) x }
-    go (inr x) later = more (x .0) (later (onto-stopped e [] (textOf s piece.Comma) (row (p + 4) n) (x .1)))
+    go (inr x) later = more (x .0) (later (onto-stopped e [] (textOf s token.Comma) (args (p + 4) n) (x .1)))
 
-  row-prints : (p n : ℕ) → ((o : ℕ) → o < suc n → IsPrinted (f (argumentAt s p o))) → IsPrinted (row p n)
+  args-prints : (p n : ℕ) → ((o : ℕ) → o < suc n → IsPrinted (f (argumentAt s p o))) → IsPrinted (args p n)
   unfolding restOf
-  row-prints p zero all = joined-prints (f (indexAt s p .0)) (printed [] []) (rw (first-at p) at (all 0 (omega arith))) tt
-  row-prints p (suc n) all =
+  args-prints p zero all = joined-prints (f (indexAt s p .0)) (printed [] []) (rw (first-at p) at (all 0 (omega arith))) tt
+  args-prints p (suc n) all =
       joined-prints (f (indexAt s p .0)) (restOf f s (p + 4) (suc n)) (rw (first-at p) at (all 0 (omega arith)))
-      (onto-prints [] (textOf s piece.Comma) (row (p + 4) n) (row-prints (p + 4) n (λ o c. rw (later-at p o) (all (suc o) (omega arith)))))
+      (onto-prints [] (textOf s token.Comma) (args (p + 4) n) (args-prints (p + 4) n (λ o c. rw (later-at p o) (all (suc o) (omega arith)))))
 
-  row-printed : (p n : ℕ) → IsPrinted (row p n) → (o : ℕ) → o < suc n → IsPrinted (f (argumentAt s p o))
+  args-printed : (p n : ℕ) → IsPrinted (args p n) → (o : ℕ) → o < suc n → IsPrinted (f (argumentAt s p o))
   unfolding restOf
-  row-printed p n h zero c = rw (first-at p) (joined-printed (f (indexAt s p .0)) (restOf f s (p + 4) n) h .0)
-  row-printed p zero h (suc o) c = absurd (omega arith)
-  row-printed p (suc n) h (suc o) c =
+  args-printed p n h zero c = rw (first-at p) (joined-printed (f (indexAt s p .0)) (restOf f s (p + 4) n) h .0)
+  args-printed p zero h (suc o) c = absurd (omega arith)
+  args-printed p (suc n) h (suc o) c =
       rw (sym (later-at p o))
-      (row-printed (p + 4) n (onto-printed [] (textOf s piece.Comma) (row (p + 4) n) (joined-printed (f (indexAt s p .0)) (restOf f s (p + 4) (suc n)) h .1)) o (omega arith))
+      (args-printed (p + 4) n (onto-printed [] (textOf s token.Comma) (args (p + 4) n) (joined-printed (f (indexAt s p .0)) (restOf f s (p + 4) (suc n)) h .1)) o (omega arith))
 
   -- of a whole list
   pub list-stops : (e : Refusal) (p n k : ℕ) → k < n → ((o : ℕ) → o < k → IsPrinted (f (argumentAt s p o))) → StopsBy e (f (argumentAt s p k)) → StopsBy e (argumentsOf f s p n)
   unfolding argumentsOf
   list-stops e p zero k b all h = absurd (omega arith)
-  list-stops e p (suc n) k b all h = row-stops e p n k b all h
+  list-stops e p (suc n) k b all h = args-stops e p n k b all h
 
   pub list-stopped : (e : Refusal) (p n : ℕ) → StopsBy e (argumentsOf f s p n) → Stopped e p n
   unfolding argumentsOf
   list-stopped e p zero h = absurd h
-  list-stopped e p (suc n) h = row-stopped e p n h
+  list-stopped e p (suc n) h = args-stopped e p n h
 
   pub list-prints : (p n : ℕ) → ((o : ℕ) → o < n → IsPrinted (f (argumentAt s p o))) → IsPrinted (argumentsOf f s p n)
   unfolding argumentsOf
   list-prints p zero all = tt
-  list-prints p (suc n) all = row-prints p n all
+  list-prints p (suc n) all = args-prints p n all
 
   pub list-printed : (p n : ℕ) → IsPrinted (argumentsOf f s p n) → (o : ℕ) → o < n → IsPrinted (f (argumentAt s p o))
   unfolding argumentsOf
   list-printed p zero h o c = absurd (omega arith)
-  list-printed p (suc n) h o c = row-printed p n h o c
+  list-printed p (suc n) h o c = args-printed p n h o c
 
 -- ---- walks
 
@@ -168,19 +168,19 @@ module _ (s : List ℕ) (σ : State) where
   inside-prints d i j (of-modifier h) f a = rw h (onto-prints _ _ _ (f _))
   inside-prints d i j (of-array h) f a = rw h (onto-prints _ _ _ (f _))
 
-  -- the row of a procedure's arguments
-  abbrev rowOf : ℕ → ℕ → ℕ → Spelled
-  rowOf d p n = argumentsOf (λ j. walk s σ d j aroundFirst) s p n
+  -- a procedure's arguments
+  abbrev argsOf : ℕ → ℕ → ℕ → Spelled
+  argsOf d p n = argumentsOf (λ j. walk s σ d j aroundFirst) s p n
 
-  call-first : (e : Refusal) (d i p n j : ℕ) → Calls s σ i p n j → StopsBy e (rowOf d p n) → (a : Around) → StopsBy e (walk s σ (suc d) i a)
+  call-first : (e : Refusal) (d i p n j : ℕ) → Calls s σ i p n j → StopsBy e (argsOf d p n) → (a : Around) → StopsBy e (walk s σ (suc d) i a)
   unfolding walk inwardStep stepped overArguments
   call-first e d i p n j (of-procedure h m) f a = rw (h, m) (onto-stops e _ _ _ (joined-first e _ _ f))
 
-  call-second : (e : Refusal) (d i p n j : ℕ) → Calls s σ i p n j → IsPrinted (rowOf d p n) → ((b : Around) → StopsBy e (walk s σ d j b)) → (a : Around) → StopsBy e (walk s σ (suc d) i a)
+  call-second : (e : Refusal) (d i p n j : ℕ) → Calls s σ i p n j → IsPrinted (argsOf d p n) → ((b : Around) → StopsBy e (walk s σ d j b)) → (a : Around) → StopsBy e (walk s σ (suc d) i a)
   unfolding walk inwardStep stepped overArguments
   call-second e d i p n j (of-procedure h m) f g a = rw (h, m) (onto-stops e _ _ _ (joined-second e _ _ f (onto-stops e _ _ _ (g _))))
 
-  call-prints : (d i p n j : ℕ) → Calls s σ i p n j → IsPrinted (rowOf d p n) → ((b : Around) → IsPrinted (walk s σ d j b)) → (a : Around) → IsPrinted (walk s σ (suc d) i a)
+  call-prints : (d i p n j : ℕ) → Calls s σ i p n j → IsPrinted (argsOf d p n) → ((b : Around) → IsPrinted (walk s σ d j b)) → (a : Around) → IsPrinted (walk s σ (suc d) i a)
   unfolding walk inwardStep stepped overArguments
   call-prints d i p n j (of-procedure h m) f g a = rw (h, m) (onto-prints _ _ _ (joined-prints _ _ f (onto-prints _ _ _ (g _))))
 

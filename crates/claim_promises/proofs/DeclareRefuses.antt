@@ -35,8 +35,8 @@ use Rattle.declare_node.specs.declared.Node.{Node}
 use Rattle.declare_node.specs.declared.Node.the-variants as node
 use Rattle.declare_node.specs.declared.Arguments.{Arguments}
 use Rattle.declare_node.specs.declared.Arguments.the-variants as arguments
-use Rattle.declare_piece.specs.Pieces.{textOf}
-use Rattle.declare_piece.specs.declared.Piece.the-variants as piece
+use Rattle.declare_token.specs.Tokens.{textOf}
+use Rattle.declare_token.specs.declared.Token.the-variants as token
 use Rattle.declare_step.specs.Steps.{stepBy, inwardStep, aroundFirst}
 use Rattle.declare_step.specs.declared.Around.{Around}
 use Rattle.declare_step.specs.declared.Step.{Step}
@@ -378,7 +378,7 @@ rest-good : (f : ℕ → Spelled) (s : List ℕ) (p n : ℕ) → ((j : ℕ) → 
 unfolding restOf
 rest-good f s p zero g = tt
 rest-good f s p (suc n) g =
-    onto-good [] (textOf s piece.Comma) (fixedThen (f (indexAt s p .0)) (restOf f s (p + 4) n)) (joined-good (f (indexAt s p .0)) (restOf f s (p + 4) n) (g _) (rest-good f s (p + 4) n g))
+    onto-good [] (textOf s token.Comma) (fixedThen (f (indexAt s p .0)) (restOf f s (p + 4) n)) (joined-good (f (indexAt s p .0)) (restOf f s (p + 4) n) (g _) (rest-good f s (p + 4) n g))
 
 arguments-good : (f : ℕ → Spelled) (s : List ℕ) (O : Type 0) (l : Arguments) → ListRight O l → ((j : ℕ) → GoodWalk (f j)) → GoodWalk (listedArguments f s l)
 unfolding listedArguments argumentsOf

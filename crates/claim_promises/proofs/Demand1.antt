@@ -8,7 +8,7 @@ use Rattle.stream_places.specs.File.{narrow, fileFormOf}
 use Rattle.stream_places.specs.Places.{loadOf, loadWideOf, formFor, saveOf, saveWideOf}
 use Rattle.record_list.specs.Lists.{stepOf}
 use Rattle.claim_promises.proofs.ReadingRefuses.{fixed-refuses, signed-refuses, optional-refuses, string-refuses, counted-refuses, string-of-refuses, bytes-refuses, padding-refuses, numeral-refuses, sized-refuses}
-use Rattle.claim_promises.proofs.StreamRefuses.{primitive-refuses, kind-refuses, mode-refuses, to-member-refuses, reference-refuses, pointer-size-refuses, header-refuses, iter-refuses, len-refuses, is-empty-refuses, next-refuses, view-refuses, raw-kind-refuses, fit-refuses, create-refuses, run-refuses, create-by-refuses, update-refuses, find-refuses, turn-refuses, type-refuses, id-refuses, member-refuses, method-refuses, start-refuses, step-refuses, element-by-refuses, element-refuses, element-ids-refuses, parse-refuses}
+use Rattle.claim_promises.proofs.StreamRefuses.{primitive-refuses, kind-refuses, mode-refuses, to-member-refuses, reference-refuses, pointer-size-refuses, header-refuses, iter-refuses, len-refuses, is-empty-refuses, next-refuses, view-refuses, raw-kind-refuses, fit-refuses, create-refuses, begun-in-refuses, create-by-refuses, update-refuses, find-refuses, turn-refuses, type-refuses, id-refuses, member-refuses, method-refuses, start-refuses, step-refuses, element-by-refuses, element-refuses, element-ids-refuses, parse-refuses}
 use Rattle.claim_promises.proofs.LeftAlone.{leaves-alone, changes-nothing, leads-nowhere, steps-nowhere, saves-nothing}
 use Rattle.declare_type.specs.Declares.{declareOf}
 use Rattle.claim_promises.proofs.DeclareRefuses.{declares-nothing}
@@ -51,7 +51,7 @@ demand1 = record {
   raw-kinds = raw-kind-refuses;
   creations = create-refuses;
   creations-by = create-by-refuses;
-  beginnings = run-refuses;
+  beginnings = begun-in-refuses;
   updates = update-refuses;
   finds = find-refuses;
   turns = turn-refuses;
@@ -89,7 +89,7 @@ demand1 = record {
   pieces-filled = filled-laid-refuses;
   pieces-recorded = pieces-laid-refuses;
   create-keeps = λ shift s t. leaves-alone t (createBy shift s t);
-  begin-keeps = λ shift t run. leaves-alone t (begunIn shift t run);
+  begin-keeps = λ shift t records. leaves-alone t (begunIn shift t records);
   update-keeps = λ f t c. leaves-alone t (updateOf (state f t) c);
   load-keeps = λ s f t. leaves-alone t (loadOf s f t);
   save-keeps = λ s σ o. saves-nothing o (saveOf s σ (length o));

@@ -19,11 +19,11 @@ use Rattle.stream_item.specs.Iterator.{iterOf, yielded, nextOf}
 use Rattle.stream_item.specs.declared.iter.ItemIter.{ItemIter}
 use Rattle.stream_item.proofs.NextLaws.{Yields, yields, passed}
 use Rattle.stream_item.proofs.Examples.{cursor}
-use Rattle.stream_finder.specs.Finder.{State, state, runOf, begunIn, begunBy, createBy, updateOf, after}
+use Rattle.stream_finder.specs.Finder.{State, state, headerRecords, begunIn, begunBy, createBy, updateOf, after}
 use Rattle.stream_finder.specs.declared.ItemFinder.{ItemFinder}
 use Rattle.stream_finder.specs.Demand.{Premises, looked, Demand3By, Demand3Every, NotIndexedBy, NotIndexedEvery}
 use Rattle.stream_finder.specs.Shared.{Roamed, begun, called, Updated, untouched, by, Serves, SharedBy, Shared}
-use Rattle.stream_finder.specs.Runs.{iterAfter, startIn}
+use Rattle.stream_finder.specs.OfRecords.{iterAfter, startIn}
 use Rattle.stream_finder.proofs.DemandProof.{created-in, fresh-iter, demand3-every, not-indexed-every}
 use Rattle.stream_finder.proofs.SharedProof.{shared}
 use Rattle.stream_finder.proofs.Examples.{finderTo}
@@ -73,7 +73,7 @@ module _ (tag : Stream) (s : List ℕ) (h : Header) (σ : State) (e : headerOf s
 module _ (shift : ℕ) (tag : Stream) (s t : List ℕ) (h : Header) (r : Tour) (t′ : List ℕ) (e : headerOf s ≡ answered h) (w : WholeBy shift tag s t r t′) where
   small : shift ≤ 6
   small =
-      let q : begunIn shift t (runOf h) ≡ answered (w .fresh) = created-in shift s h t (w .fresh) e (w .created) in
+      let q : begunIn shift t (headerRecords h) ≡ answered (w .fresh) = created-in shift s h t (w .fresh) e (w .created) in
       ltb-false 6 shift (passed (ltb 6 shift) 26 _ _ q .0)
 
   serves : Serves tag s h (state (r .finder) t′)

@@ -57,7 +57,7 @@ use Rattle.section_finder.specs.Finders as sections
 use Rattle.section_finder.proofs.OneOutcome.{one-indexes as one-section}
 use Rattle.section_stream.specs.Streams.{sectionStream}
 use Rattle.write_list.specs.Rows.{memberRows, methodRows}
-use Rattle.declare_piece.specs.Pieces.{textOf}
+use Rattle.declare_token.specs.Tokens.{textOf}
 use Rattle.declare_word.specs.Spellings.{kindText, byText, modeText, qualsText}
 use Rattle.declare_word.proofs.OneOutcome.{one-spells}
 use Rattle.answer_name.specs.Names.{nameText}
@@ -150,8 +150,8 @@ one-outcome = record {
   declare-node-node-of = λ s f t i r q a b. a ∙ sym b;
   declare-node-list-of = λ s f t i r q a b. a .0 ∙ sym (b .0);
   declare-node-index-at = λ s p r q a b. a ∙ sym b;
-  declare-piece-len = λ s p r q a b. a ∙ sym b;
-  declare-piece-put = λ s p out at. one-lays out at (textOf s p);
+  declare-token-len = λ s p r q a b. a ∙ sym b;
+  declare-token-put = λ s p out at. one-lays out at (textOf s p);
   declare-step-start = λ r q a b. a ∙ sym b;
   declare-step-step-of = λ s f t i x r q a b. a ∙ sym b;
   declare-type-declare = λ s f t i out. one-declares (declareOf s (state f t) (i .0) (length out)) out;

@@ -18,7 +18,7 @@ use Rattle.stream_item.specs.declared.iter.ItemIter.{ItemIter}
 use Rattle.stream_finder.specs.Finder.{State, begunIn}
 use Rattle.section_item.specs.Sections.{first, sectionStart, sectionOn, walkBy, lastOf, countOf}
 use Rattle.section_item.proofs.SectionLaws.{start-long, start-short, start-signature, start-first, count-refused, counted}
-use Rattle.section_finder.specs.Finders.{sectionRun, sectionCreateBy}
+use Rattle.section_finder.specs.Finders.{sectionRecords, sectionCreateBy}
 use Rattle.section_finder.proofs.FinderLaws.{create-is}
 use Rattle.section_read.specs.Readers.{readerAt, sortedOf, readOf}
 use Rattle.section_stream.specs.Streams.{streamBytes, sectionStream}
@@ -35,7 +35,7 @@ use Rattle.claim_promises.proofs.Given.{off, at-stop, at-pick, at-then,
 use Rattle.claim_promises.proofs.CreatedWhen.{begins-26, begins-13}
 use Rattle.claim_promises.proofs.GivenStreams.{nexts-16}
 use Rattle.claim_promises.proofs.LeftAlone.{leaves-alone}
-use Rattle.claim_promises.proofs.StreamRefuses.{next-refuses, run-refuses, parse-refuses, start-refuses}
+use Rattle.claim_promises.proofs.StreamRefuses.{next-refuses, begun-in-refuses, parse-refuses, start-refuses}
 
 -- ---- demand 1
 
@@ -62,7 +62,7 @@ counts s = by-then (wider refl (starts s)) (λ c. by-then (wider refl (walks (su
 
 creations : (shift : ℕ) (s t : List ℕ) → Refuses (16 ∷ 1 ∷ 25 ∷ 6 ∷ 7 ∷ 26 ∷ 13 ∷ []) (sectionCreateBy shift s t)
 unfolding sectionCreateBy within among
-creations shift s t = by-then (wider refl (counts s)) (λ n. wider refl (run-refuses shift t (sectionRun n)))
+creations shift s t = by-then (wider refl (counts s)) (λ n. wider refl (begun-in-refuses shift t (sectionRecords n)))
 
 made : (s : List ℕ) → Refuses (16 ∷ 1 ∷ 25 ∷ 6 ∷ 7 ∷ []) (sectionStream s)
 unfolding sectionStream fits among listed find inTable refusals
@@ -118,19 +118,19 @@ module _ (s : List ℕ) where
   starts-25 = record { when = λ (a, b, c). start-signature s a b c; only = start-ways 25 (λ _. off) (λ _ _. off) (λ a b c _. (a, b, c)) }
 
 module _ (shift : ℕ) (s t : List ℕ) (n : ℕ) (e : countOf s ≡ answered n) where
-  created : sectionCreateBy shift s t ≡ begunIn shift t (sectionRun n)
+  created : sectionCreateBy shift s t ≡ begunIn shift t (sectionRecords n)
   created = create-is shift s t (answered n) e
 
   creations-else : Refuses (26 ∷ 13 ∷ []) (sectionCreateBy shift s t)
-  creations-else = rw created (run-refuses shift t (sectionRun n))
+  creations-else = rw created (begun-in-refuses shift t (sectionRecords n))
 
   creations-26 : Given 26 [] (sectionCreateBy shift s t) (6 < shift)
-  creations-26 = rw created (begins-26 shift t (sectionRun n))
+  creations-26 = rw created (begins-26 shift t (sectionRecords n))
 
   creations-13 : Given 13 [] (sectionCreateBy shift s t) ((shift ≤ 6) × (0 < n) × (length t ≡ 0))
   creations-13 = record {
-    when = λ (a, b, c). created ∙ begins-13 shift t (sectionRun n) .when (a, (let w : 4096 < 4096 + n = omega arith in w), c);
-    only = λ y. let (a, b, c) = begins-13 shift t (sectionRun n) .only (ap (by 13) (sym created) ∙ y) in (a, (let x : 0 < n = omega arith in x), c);
+    when = λ (a, b, c). created ∙ begins-13 shift t (sectionRecords n) .when (a, (let w : 4096 < 4096 + n = omega arith in w), c);
+    only = λ y. let (a, b, c) = begins-13 shift t (sectionRecords n) .only (ap (by 13) (sym created) ∙ y) in (a, (let x : 0 < n = omega arith in x), c);
   }
 
 -- 16 comes from a length alone: of a step, of a walk, of a count

@@ -33,8 +33,8 @@ use Rattle.stream_item.specs.declared.Entry.the-variants as entry
 use Rattle.stream_item.specs.declared.iter.ItemIter.{ItemIter}
 use Rattle.stream_item.specs.declared.link.Hit.{Hit}
 use Rattle.stream_item.specs.declared.link.Hit.the-variants.{Landed, Missed}
-use Rattle.stream_finder.specs.declared.Run.{Run}
-use Rattle.stream_finder.specs.Finder.{State, blockOf, distance, runOf, begunIn, begunBy, createOf, createBy, due, updateOf, landed, maxIndexOf, lookOf, findOf}
+use Rattle.stream_finder.specs.declared.Records.{Records}
+use Rattle.stream_finder.specs.Finder.{State, blockOf, distance, headerRecords, begunIn, begunBy, createOf, createBy, due, updateOf, landed, maxIndexOf, lookOf, findOf}
 use Rattle.stream_index.specs.Walk.{Turn, updating, turnOf}
 use Rattle.record_layout.specs.Fields.{Field, id, run, types, ids, readFields, Shown}
 use Rattle.record_layout.specs.Values.{nth, numberIn as countIn, stringIn}
@@ -176,16 +176,16 @@ create-refuses s t = by-then (wider refl (header-refuses s)) (λ h. begun-refuse
 abbrev pub ofCreationBy : List ℕ
 ofCreationBy = 16 ∷ 1 ∷ 2 ∷ 3 ∷ 4 ∷ 5 ∷ 26 ∷ 13 ∷ []
 
--- of any run
-pub run-refuses : (shift : ℕ) (t : List ℕ) (r : Run) → Refuses (26 ∷ 13 ∷ []) (begunIn shift t r)
+-- of any records
+pub begun-in-refuses : (shift : ℕ) (t : List ℕ) (r : Records) → Refuses (26 ∷ 13 ∷ []) (begunIn shift t r)
 unfolding fits among listed find inTable refusals
-run-refuses shift t r =
+begun-in-refuses shift t r =
     by-stop (ltb 6 shift) 26 refl
     (by-pick (ltb (r .minimum) (r .maximum)) (by-stop (leb (length t) 0) 13 refl gives) gives)
 
 begun-by-refuses : (shift : ℕ) (t : List ℕ) (h : Header) → Refuses ofCreationBy (begunBy shift t h)
 unfolding begunBy within among
-begun-by-refuses shift t h = wider refl (run-refuses shift t (runOf h))
+begun-by-refuses shift t h = wider refl (begun-in-refuses shift t (headerRecords h))
 
 pub create-by-refuses : (shift : ℕ) (s t : List ℕ) → Refuses ofCreationBy (createBy shift s t)
 unfolding createBy within among

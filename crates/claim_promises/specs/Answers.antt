@@ -39,7 +39,7 @@ use Rattle.stream_finder.specs.Finder.{Fills, begunIn, createBy as createBy-of-
 use Rattle.stream_finder.specs.Lent.{Updates}
 use Rattle.stream_finder.specs.declared.FinderAnswer.{FinderAnswer}
 use Rattle.stream_finder.specs.declared.ItemFinder.{ItemFinder}
-use Rattle.stream_finder.specs.declared.Run.{Run}
+use Rattle.stream_finder.specs.declared.Records.{Records}
 use Rattle.stream_finder.specs.declared.lent.UpdateAnswer.{UpdateAnswer}
 use Rattle.stream_header.specs.Header.{headerOf, saidHeader}
 use Rattle.stream_header.specs.declared.Header.{Header}
@@ -76,7 +76,7 @@ use Rattle.write_layout.specs.Fields.{givenAll}
 use Rattle.write_layout.specs.Types.{writtenLeaves}
 use Rattle.write_cells.specs.Cells.{cellValues}
 use Rattle.write_pieces.specs.Pieces.{piecesOf, saidWrite}
-use Rattle.write_pieces.specs.declared.Piece.{Piece as Piece-of-write-pieces}
+use Rattle.write_pieces.specs.declared.Piece.{Piece}
 use Rattle.write_pieces.specs.declared.WriteAnswer.{WriteAnswer}
 use Rattle.write_list.specs.Rows.{memberRows, methodRows}
 use Rattle.field.specs.declared.index.ItemIndex.the-variants as item-index
@@ -114,7 +114,7 @@ pub record Answers : Type 1 where
   -- streams: header, count, iterator, items; the finder, by value and lent; places that are kept; reports; what the roots reach
   pub stream-finder-create : (s : List ℕ) (t : List ℕ) (r : FinderAnswer) (t′ : List ℕ) → contract.stream-finder-create s t r t′ → Fills t (createOf-of-stream-finder s t) r t′
   pub stream-finder-create-by : (s : List ℕ) (t : List ℕ) (shift : ℕ) (r : FinderAnswer) (t′ : List ℕ) → contract.stream-finder-create-by s t shift r t′ → Fills t (createBy-of-stream-finder shift s t) r t′
-  pub stream-finder-begin : (t : List ℕ) (records : Run) (shift : ℕ) (r : FinderAnswer) (t′ : List ℕ) → contract.stream-finder-begin t records shift r t′ → Fills t (begunIn shift t records) r t′
+  pub stream-finder-begin : (t : List ℕ) (records : Records) (shift : ℕ) (r : FinderAnswer) (t′ : List ℕ) → contract.stream-finder-begin t records shift r t′ → Fills t (begunIn shift t records) r t′
   pub stream-finder-update : (f : ItemFinder) (t : List ℕ) (c : ItemIter) (r : FinderAnswer) (t′ : List ℕ) → contract.stream-finder-update f t c r t′ → Fills t (updateOf (state f t) c) r t′
   pub stream-finder-item-finder-max-type-index : (self : ItemFinder) → Says (contract.stream-finder-item-finder-max-type-index self) (λ r. r .0) (maxIndexOf self)
   pub stream-finder-item-finder-max-id-index : (self : ItemFinder) → Says (contract.stream-finder-item-finder-max-id-index self) (λ r. r .0) (maxIndexOf self)
@@ -178,8 +178,8 @@ pub record Answers : Type 1 where
   pub write-list-write-method-list : (text : List ℕ) (rows : List (List ℕ)) (out : List ℕ) (at : ℕ) (r : WriteAnswer) (out′ : List ℕ) → contract.write-list-write-method-list text rows out at r out′ → Writes out (lay (methodListBytes (methodRows text rows)) out at) (saidWrite r) out′
   pub write-cells-write-type : (text : List ℕ) (leaf : ℕ) (row : List ℕ) (out : List ℕ) (at : ℕ) (r : WriteAnswer) (out′ : List ℕ) → contract.write-cells-write-type text leaf row out at r out′ → Writes out (lay (writeRecord writtenLeaves (givenAll text (cellValues leaf row))) out at) (saidWrite r) out′
   pub write-cells-write-id : (text : List ℕ) (leaf : ℕ) (row : List ℕ) (out : List ℕ) (at : ℕ) (r : WriteAnswer) (out′ : List ℕ) → contract.write-cells-write-id text leaf row out at r out′ → Writes out (lay (writeRecord idLeaves (givenAll text (cellValues leaf row))) out at) (saidWrite r) out′
-  pub write-pieces-write-plain : (text : List ℕ) (xs : List Piece-of-write-pieces) (out : List ℕ) (at : ℕ) (r : WriteAnswer) (out′ : List ℕ) → contract.write-pieces-write-plain text xs out at r out′ → Writes out (lay (limited (piecesOf text xs)) out at) (saidWrite r) out′
-  pub write-pieces-write-filled : (text : List ℕ) (xs : List Piece-of-write-pieces) (out : List ℕ) (at : ℕ) (r : WriteAnswer) (out′ : List ℕ) → contract.write-pieces-write-filled text xs out at r out′ → Writes out (lay (limited (filledEach (piecesOf text xs))) out at) (saidWrite r) out′
+  pub write-pieces-write-plain : (text : List ℕ) (xs : List Piece) (out : List ℕ) (at : ℕ) (r : WriteAnswer) (out′ : List ℕ) → contract.write-pieces-write-plain text xs out at r out′ → Writes out (lay (limited (piecesOf text xs)) out at) (saidWrite r) out′
+  pub write-pieces-write-filled : (text : List ℕ) (xs : List Piece) (out : List ℕ) (at : ℕ) (r : WriteAnswer) (out′ : List ℕ) → contract.write-pieces-write-filled text xs out at r out′ → Writes out (lay (limited (filledEach (piecesOf text xs))) out at) (saidWrite r) out′
   -- attribute words: the crate's own methods
   pub word-attributes-type-properties-packed : (self : TypeProperties) → Says (contract.word-attributes-type-properties-packed self) (λ r. r) (crate.packed (self .0))
   pub word-attributes-type-properties-constructors : (self : TypeProperties) → Says (contract.word-attributes-type-properties-constructors self) (λ r. r) (crate.constructors (self .0))

@@ -20,11 +20,11 @@ use Rattle.declare_node.specs.Inside.{ListInside}
 use Rattle.declare_node.specs.Nodes.{indexAt, listOf, nodeOf}
 use Rattle.declare_node.specs.declared.Arguments.{Arguments}
 use Rattle.declare_node.specs.declared.Node.{Node}
-use Rattle.declare_piece.specs.Pieces.{textOf}
-use Rattle.declare_piece.specs.declared.Piece.{Piece as Piece-of-declare-piece}
 use Rattle.declare_step.specs.Steps.{aroundFirst, inwardStep}
 use Rattle.declare_step.specs.declared.Around.{Around}
 use Rattle.declare_step.specs.declared.Step.{Step}
+use Rattle.declare_token.specs.Tokens.{textOf}
+use Rattle.declare_token.specs.declared.Token.{Token}
 use Rattle.declare_type.specs.Declares.{Declares, declareOf}
 use Rattle.declare_type.specs.declared.DeclareAnswer.{DeclareAnswer}
 use Rattle.declare_walk.specs.Walk.{capped, walk}
@@ -130,7 +130,7 @@ use Rattle.stream_finder.specs.Lent.{Updates}
 use Rattle.stream_finder.specs.declared.FindAnswer.{FindAnswer}
 use Rattle.stream_finder.specs.declared.FinderAnswer.{FinderAnswer}
 use Rattle.stream_finder.specs.declared.ItemFinder.{ItemFinder}
-use Rattle.stream_finder.specs.declared.Run.{Run}
+use Rattle.stream_finder.specs.declared.Records.{Records}
 use Rattle.stream_finder.specs.declared.lent.UpdateAnswer.{UpdateAnswer}
 use Rattle.stream_fit.specs.Fit.{fitOf, saidFit}
 use Rattle.stream_fit.specs.declared.FitAnswer.{FitAnswer}
@@ -191,7 +191,7 @@ use Rattle.write_list.specs.Rows.{memberRows, methodRows, rowOfMember, rowOfMet
 use Rattle.write_pieces.specs.Fit.{halfPiece, naturalPiece}
 use Rattle.write_pieces.specs.Pieces.{pieceOf, piecesOf, saidMeasure, saidWrite}
 use Rattle.write_pieces.specs.declared.Measure.{Measure}
-use Rattle.write_pieces.specs.declared.Piece.{Piece as Piece-of-write-pieces}
+use Rattle.write_pieces.specs.declared.Piece.{Piece}
 use Rattle.write_pieces.specs.declared.WriteAnswer.{WriteAnswer}
 
 -- answer::Refusal::number
@@ -218,14 +218,6 @@ declare-node-list-of s f t i r = (r ≡ listOf s (state f t) (i .0)) × ListInsi
 abbrev pub declare-node-index-at : (s : List ℕ) (p : ℕ) → TypeIndex → Type 0
 declare-node-index-at s p r = r ≡ indexAt s p
 
--- declare_piece::len
-abbrev pub declare-piece-len : (s : List ℕ) (p : Piece-of-declare-piece) → ℕ → Type 0
-declare-piece-len s p r = r ≡ length (textOf s p)
-
--- declare_piece::put
-abbrev pub declare-piece-put : (s : List ℕ) (p : Piece-of-declare-piece) (out : List ℕ) (at : ℕ) → ℕ → List ℕ → Type 0
-declare-piece-put s p out at r out′ = Lays out at (textOf s p) r out′
-
 -- declare_step::start
 abbrev pub declare-step-start : Around → Type 0
 declare-step-start r = r ≡ aroundFirst
@@ -233,6 +225,14 @@ declare-step-start r = r ≡ aroundFirst
 -- declare_step::step_of
 abbrev pub declare-step-step-of : (s : List ℕ) (f : ItemFinder) (t : List ℕ) (i : TypeIndex) (a : Around) → Step → Type 0
 declare-step-step-of s f t i a r = r ≡ inwardStep s (state f t) (i .0) a
+
+-- declare_token::len
+abbrev pub declare-token-len : (s : List ℕ) (p : Token) → ℕ → Type 0
+declare-token-len s p r = r ≡ length (textOf s p)
+
+-- declare_token::put
+abbrev pub declare-token-put : (s : List ℕ) (p : Token) (out : List ℕ) (at : ℕ) → ℕ → List ℕ → Type 0
+declare-token-put s p out at r out′ = Lays out at (textOf s p) r out′
 
 -- declare_type::declare
 abbrev pub declare-type-declare : (s : List ℕ) (f : ItemFinder) (t : List ℕ) (i : TypeIndex) (out : List ℕ) → DeclareAnswer → List ℕ → Type 0
@@ -751,7 +751,7 @@ abbrev pub stream-finder-create-by : (s : List ℕ) (t : List ℕ) (shift : ℕ)
 stream-finder-create-by s t shift r t′ = Fills t (createBy shift s t) r t′
 
 -- stream_finder::begin
-abbrev pub stream-finder-begin : (t : List ℕ) (records : Run) (shift : ℕ) → FinderAnswer → List ℕ → Type 0
+abbrev pub stream-finder-begin : (t : List ℕ) (records : Records) (shift : ℕ) → FinderAnswer → List ℕ → Type 0
 stream-finder-begin t records shift r t′ = Fills t (begunIn shift t records) r t′
 
 -- stream_finder::update
@@ -1075,25 +1075,25 @@ abbrev pub write-pieces-capped-sum : (n : ℕ) (k : ℕ) → ℕ → Type 0
 write-pieces-capped-sum n k r = r ≡ min (n + k) 65536
 
 -- write_pieces::measured
-abbrev pub write-pieces-measured : (text : List ℕ) (xs : List Piece-of-write-pieces) → Measure → Type 0
+abbrev pub write-pieces-measured : (text : List ℕ) (xs : List Piece) → Measure → Type 0
 write-pieces-measured text xs r = saidMeasure r ≡ then (piecesOf text xs) (λ bs. answered (min (length bs) 65536))
 
 -- write_pieces::write_plain
-abbrev pub write-pieces-write-plain : (text : List ℕ) (xs : List Piece-of-write-pieces) (out : List ℕ) (at : ℕ) → WriteAnswer → List ℕ → Type 0
+abbrev pub write-pieces-write-plain : (text : List ℕ) (xs : List Piece) (out : List ℕ) (at : ℕ) → WriteAnswer → List ℕ → Type 0
 write-pieces-write-plain text xs out at r out′ = Writes out (lay (limited (piecesOf text xs)) out at) (saidWrite r) out′
 
 -- write_pieces::write_filled
-abbrev pub write-pieces-write-filled : (text : List ℕ) (xs : List Piece-of-write-pieces) (out : List ℕ) (at : ℕ) → WriteAnswer → List ℕ → Type 0
+abbrev pub write-pieces-write-filled : (text : List ℕ) (xs : List Piece) (out : List ℕ) (at : ℕ) → WriteAnswer → List ℕ → Type 0
 write-pieces-write-filled text xs out at r out′ = Writes out (lay (limited (filledEach (piecesOf text xs))) out at) (saidWrite r) out′
 
 -- write_pieces::fields::two_bytes
-abbrev pub write-pieces-fields-two-bytes : (x : ℕ) → Piece-of-write-pieces → Type 0
+abbrev pub write-pieces-fields-two-bytes : (x : ℕ) → Piece → Type 0
 write-pieces-fields-two-bytes x r = (r ≡ halfPiece x) × ((t : List ℕ) → pieceOf t r ≡ fixedBytes 2 x)
 
 -- write_pieces::fields::natural
-abbrev pub write-pieces-fields-natural : (n : ℕ) → Piece-of-write-pieces → Type 0
+abbrev pub write-pieces-fields-natural : (n : ℕ) → Piece → Type 0
 write-pieces-fields-natural n r = (r ≡ naturalPiece n) × ((t : List ℕ) → pieceOf t r ≡ numericBytes (pos n))
 
 -- write_pieces::fields::unnamed
-abbrev pub write-pieces-fields-unnamed : Piece-of-write-pieces → Type 0
+abbrev pub write-pieces-fields-unnamed : Piece → Type 0
 write-pieces-fields-unnamed r = (r ≡ halfPiece 0) × ((t : List ℕ) → pieceOf t r ≡ answered (bytes-of-field 2 0))

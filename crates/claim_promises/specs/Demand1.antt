@@ -32,7 +32,7 @@ use Rattle.stream_item.specs.declared.iter.ItemIter.{ItemIter}
 use Rattle.stream_finder.specs.Finder.{State, state, saidFinder, begunIn, createOf, createBy, updateOf, findOf, Fills}
 use Rattle.stream_finder.specs.Lent.{saidUpdate, Updates}
 use Rattle.stream_finder.specs.declared.ItemFinder.{ItemFinder}
-use Rattle.stream_finder.specs.declared.Run.{Run}
+use Rattle.stream_finder.specs.declared.Records.{Records}
 use Rattle.stream_finder.specs.declared.FinderAnswer.{FinderAnswer}
 use Rattle.stream_finder.specs.declared.lent.UpdateAnswer.{UpdateAnswer}
 use Rattle.stream_index.specs.Walk.{saidTurn, turnOf, Leads, Walks, IndexesBy}
@@ -126,7 +126,7 @@ pub record Demand1 : Type 0 where
   -- the finder, by its own shift, which `create` makes 3; 1 has links passed from `find` only
   pub creations : (s t : List ℕ) → Refuses (16 ∷ 1 ∷ 2 ∷ 3 ∷ 4 ∷ 5 ∷ 13 ∷ []) (createOf s t)
   pub creations-by : (shift : ℕ) (s t : List ℕ) → Refuses (16 ∷ 1 ∷ 2 ∷ 3 ∷ 4 ∷ 5 ∷ 26 ∷ 13 ∷ []) (createBy shift s t)
-  pub beginnings : (shift : ℕ) (t : List ℕ) (r : Run) → Refuses (26 ∷ 13 ∷ []) (begunIn shift t r)
+  pub beginnings : (shift : ℕ) (t : List ℕ) (r : Records) → Refuses (26 ∷ 13 ∷ []) (begunIn shift t r)
   pub updates : (σ : State) (c : ItemIter) → Refuses (16 ∷ 26 ∷ 13 ∷ 14 ∷ []) (updateOf σ c)
   pub finds : (s : List ℕ) (σ : State) (i : ItemIndex) → FindRefuses (16 ∷ 26 ∷ 13 ∷ 8 ∷ 9 ∷ 1 ∷ []) (findOf s σ i)
   pub turns : (s : List ℕ) (σ : State) (c : ItemIter) → Refuses (16 ∷ 1 ∷ 6 ∷ 7 ∷ 26 ∷ 13 ∷ 14 ∷ []) (turnOf s σ c)
@@ -183,7 +183,7 @@ pub record Demand1 : Type 0 where
 
   -- the table, lent to creation with any shift, to `update` by value, to a turn and to a walk
   pub create-keeps : (shift : ℕ) (s t : List ℕ) (r : FinderAnswer) (t′ : List ℕ) (n : ℕ) (d : List ℕ) → Fills t (createBy shift s t) r t′ → saidFinder r ≡ refused n d → t′ ≡ t
-  pub begin-keeps : (shift : ℕ) (t : List ℕ) (run : Run) (r : FinderAnswer) (t′ : List ℕ) (n : ℕ) (d : List ℕ) → Fills t (begunIn shift t run) r t′ → saidFinder r ≡ refused n d → t′ ≡ t
+  pub begin-keeps : (shift : ℕ) (t : List ℕ) (records : Records) (r : FinderAnswer) (t′ : List ℕ) (n : ℕ) (d : List ℕ) → Fills t (begunIn shift t records) r t′ → saidFinder r ≡ refused n d → t′ ≡ t
   pub update-keeps : (f : ItemFinder) (t : List ℕ) (c : ItemIter) (r : FinderAnswer) (t′ : List ℕ) (n : ℕ) (d : List ℕ)
       → Fills t (updateOf (state f t) c) r t′ → saidFinder r ≡ refused n d → t′ ≡ t
   -- the table, lent to `load`, and the buffer, lent to `save`

@@ -7,8 +7,8 @@ use mathlib.Core.Bool.{Bool}
 use mathlib.Core.List.{List}
 use mathlib.Core.Path.{_≡_}
 use Rattle.answer.specs.declared.Refusal.{Refusal}
-use Rattle.declare_piece.specs.declared.Piece.{Piece as Piece-of-declare-piece}
 use Rattle.declare_step.specs.declared.Around.{Around}
+use Rattle.declare_token.specs.declared.Token.{Token}
 use Rattle.declare_word.specs.declared.Quals.{Quals}
 use Rattle.field.specs.declared.index.IdIndex.{IdIndex}
 use Rattle.field.specs.declared.index.ItemIndex.{ItemIndex}
@@ -23,7 +23,7 @@ use Rattle.record_member.specs.declared.Member.{Member}
 use Rattle.record_member.specs.declared.MethodListEntry.{MethodListEntry}
 use Rattle.record_reader.specs.declared.ListReader.{ListReader}
 use Rattle.stream_finder.specs.declared.ItemFinder.{ItemFinder}
-use Rattle.stream_finder.specs.declared.Run.{Run}
+use Rattle.stream_finder.specs.declared.Records.{Records}
 use Rattle.stream_header.specs.declared.Header.{Header}
 use Rattle.stream_index.specs.declared.Tour.{Tour}
 use Rattle.stream_item.specs.declared.Entry.{Entry}
@@ -37,7 +37,7 @@ use Rattle.word_attributes.specs.declared.PointerAttributes.{PointerAttributes}
 use Rattle.word_attributes.specs.declared.TypeProperties.{TypeProperties}
 use Rattle.word_primitive.specs.declared.Indirection.{Indirection}
 use Rattle.word_primitive.specs.declared.PrimitiveKind.{PrimitiveKind}
-use Rattle.write_pieces.specs.declared.Piece.{Piece as Piece-of-write-pieces}
+use Rattle.write_pieces.specs.declared.Piece.{Piece}
 use Rattle.claim_promises.specs.Contracts as contract
 
 -- the contract C admits one answer
@@ -65,12 +65,12 @@ pub record OneOutcome : Type 1 where
   pub declare-node-node-of : (s : List ℕ) (f : ItemFinder) (t : List ℕ) (i : TypeIndex) → Once (contract.declare-node-node-of s f t i)
   pub declare-node-list-of : (s : List ℕ) (f : ItemFinder) (t : List ℕ) (i : TypeIndex) → Once (contract.declare-node-list-of s f t i)
   pub declare-node-index-at : (s : List ℕ) (p : ℕ) → Once (contract.declare-node-index-at s p)
-  -- declare_piece
-  pub declare-piece-len : (s : List ℕ) (p : Piece-of-declare-piece) → Once (contract.declare-piece-len s p)
-  pub declare-piece-put : (s : List ℕ) (p : Piece-of-declare-piece) (out : List ℕ) (at : ℕ) → OnceLent (contract.declare-piece-put s p out at)
   -- declare_step
   pub declare-step-start : Once (contract.declare-step-start)
   pub declare-step-step-of : (s : List ℕ) (f : ItemFinder) (t : List ℕ) (i : TypeIndex) (a : Around) → Once (contract.declare-step-step-of s f t i a)
+  -- declare_token
+  pub declare-token-len : (s : List ℕ) (p : Token) → Once (contract.declare-token-len s p)
+  pub declare-token-put : (s : List ℕ) (p : Token) (out : List ℕ) (at : ℕ) → OnceLent (contract.declare-token-put s p out at)
   -- declare_type
   pub declare-type-declare : (s : List ℕ) (f : ItemFinder) (t : List ℕ) (i : TypeIndex) (out : List ℕ) → OnceLent (contract.declare-type-declare s f t i out)
   -- declare_walk
@@ -235,7 +235,7 @@ pub record OneOutcome : Type 1 where
   -- stream_finder
   pub stream-finder-create : (s : List ℕ) (t : List ℕ) → OnceLent (contract.stream-finder-create s t)
   pub stream-finder-create-by : (s : List ℕ) (t : List ℕ) (shift : ℕ) → OnceLent (contract.stream-finder-create-by s t shift)
-  pub stream-finder-begin : (t : List ℕ) (records : Run) (shift : ℕ) → OnceLent (contract.stream-finder-begin t records shift)
+  pub stream-finder-begin : (t : List ℕ) (records : Records) (shift : ℕ) → OnceLent (contract.stream-finder-begin t records shift)
   pub stream-finder-update : (f : ItemFinder) (t : List ℕ) (c : ItemIter) → OnceLent (contract.stream-finder-update f t c)
   pub stream-finder-item-finder-max-type-index : (self : ItemFinder) → Once (contract.stream-finder-item-finder-max-type-index self)
   pub stream-finder-item-finder-max-id-index : (self : ItemFinder) → Once (contract.stream-finder-item-finder-max-id-index self)
@@ -329,9 +329,9 @@ pub record OneOutcome : Type 1 where
   pub write-list-rows-of-method : (m : MethodListEntry) → Once (contract.write-list-rows-of-method m)
   -- write_pieces
   pub write-pieces-capped-sum : (n : ℕ) (k : ℕ) → Once (contract.write-pieces-capped-sum n k)
-  pub write-pieces-measured : (text : List ℕ) (xs : List Piece-of-write-pieces) → Once (contract.write-pieces-measured text xs)
-  pub write-pieces-write-plain : (text : List ℕ) (xs : List Piece-of-write-pieces) (out : List ℕ) (at : ℕ) → OnceLent (contract.write-pieces-write-plain text xs out at)
-  pub write-pieces-write-filled : (text : List ℕ) (xs : List Piece-of-write-pieces) (out : List ℕ) (at : ℕ) → OnceLent (contract.write-pieces-write-filled text xs out at)
+  pub write-pieces-measured : (text : List ℕ) (xs : List Piece) → Once (contract.write-pieces-measured text xs)
+  pub write-pieces-write-plain : (text : List ℕ) (xs : List Piece) (out : List ℕ) (at : ℕ) → OnceLent (contract.write-pieces-write-plain text xs out at)
+  pub write-pieces-write-filled : (text : List ℕ) (xs : List Piece) (out : List ℕ) (at : ℕ) → OnceLent (contract.write-pieces-write-filled text xs out at)
   pub write-pieces-fields-two-bytes : (x : ℕ) → Once (contract.write-pieces-fields-two-bytes x)
   pub write-pieces-fields-natural : (n : ℕ) → Once (contract.write-pieces-fields-natural n)
   pub write-pieces-fields-unnamed : Once (contract.write-pieces-fields-unnamed)

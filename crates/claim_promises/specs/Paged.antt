@@ -5,11 +5,11 @@ use mathlib.Core.List.{List}
 use Rattle.answer.specs.Answer.{answered}
 use Rattle.field.specs.declared.index.Stream.the-variants.{Types}
 use Rattle.stream_finder.specs.Finder.{State, state}
-use Rattle.stream_finder.specs.Runs.{UpdatedIn}
+use Rattle.stream_finder.specs.OfRecords.{UpdatedIn}
 use Rattle.stream_index.specs.declared.Tour.{Tour}
 use Rattle.stream_index.specs.declared.IndexAnswer.the-variants as walk
 use Rattle.section_item.specs.Sections.{countOf}
-use Rattle.section_finder.specs.Finders.{sectionRun, sectionCreateBy, SectionIndexesBy}
+use Rattle.section_finder.specs.Finders.{sectionRecords, sectionCreateBy, SectionIndexesBy}
 use Rattle.pane.specs.Tally.{AllFound, passedUp, tally}
 
 pub record SectionTally : Type 0 where
@@ -17,7 +17,7 @@ pub record SectionTally : Type 0 where
   pub shared : (shift : ℕ) (s : List ℕ) (n : ℕ) (t : List ℕ) (σ τ : State) (c : ℕ)
       → countOf s ≡ answered n
       → sectionCreateBy shift s t ≡ answered σ
-      → UpdatedIn s (sectionRun n) σ τ
+      → UpdatedIn s (sectionRecords n) σ τ
       → AllFound Types s τ 4096 c
       → passedUp Types s τ 4096 c ≡ tally (2 ^ shift) c
   -- of one that `index_all_by` has left, however its walk ended

@@ -22,7 +22,7 @@ use Rattle.stream_finder.specs.Finder.{saidFind, saidFinder}
 use Rattle.stream_finder.specs.Lent.{saidUpdate}
 use Rattle.stream_finder.specs.declared.FinderAnswer.{FinderAnswer}
 use Rattle.stream_finder.specs.declared.ItemFinder.{ItemFinder}
-use Rattle.stream_finder.specs.declared.Run.{Run}
+use Rattle.stream_finder.specs.declared.Records.{Records}
 use Rattle.stream_finder.specs.declared.lent.UpdateAnswer.{UpdateAnswer}
 use Rattle.stream_header.specs.Header.{saidHeader}
 use Rattle.stream_header.specs.declared.Header.{Header}
@@ -45,7 +45,7 @@ use Rattle.word_attributes.specs.Said.{saidFlag, saidKind, saidMode, saidPointe
 use Rattle.word_attributes.specs.declared.PointerAttributes.{PointerAttributes}
 use Rattle.word_primitive.specs.Primitive.{saidPrimitive}
 use Rattle.write_pieces.specs.Pieces.{saidWrite}
-use Rattle.write_pieces.specs.declared.Piece.{Piece as Piece-of-write-pieces}
+use Rattle.write_pieces.specs.declared.Piece.{Piece}
 use Rattle.write_pieces.specs.declared.WriteAnswer.{WriteAnswer}
 use Rattle.answer.specs.Answer.{Answer}
 use Rattle.claim_promises.specs.ByTable.{Refuses, FindRefuses}
@@ -113,7 +113,7 @@ pub record EachRefusedBy : Type 0 where
 
   pub stream-finder-create : (s : List ℕ) (t : List ℕ) (r : FinderAnswer) (t′ : List ℕ) → contract.stream-finder-create s t r t′ → Refuses (16 ∷ 1 ∷ 2 ∷ 3 ∷ 4 ∷ 5 ∷ 13 ∷ []) (saidFinder r)
   pub stream-finder-create-by : (s : List ℕ) (t : List ℕ) (shift : ℕ) (r : FinderAnswer) (t′ : List ℕ) → contract.stream-finder-create-by s t shift r t′ → Refuses (16 ∷ 1 ∷ 2 ∷ 3 ∷ 4 ∷ 5 ∷ 26 ∷ 13 ∷ []) (saidFinder r)
-  pub stream-finder-begin : (t : List ℕ) (records : Run) (shift : ℕ) (r : FinderAnswer) (t′ : List ℕ) → contract.stream-finder-begin t records shift r t′ → Refuses (26 ∷ 13 ∷ []) (saidFinder r)
+  pub stream-finder-begin : (t : List ℕ) (records : Records) (shift : ℕ) (r : FinderAnswer) (t′ : List ℕ) → contract.stream-finder-begin t records shift r t′ → Refuses (26 ∷ 13 ∷ []) (saidFinder r)
   pub stream-finder-update : (f : ItemFinder) (t : List ℕ) (c : ItemIter) (r : FinderAnswer) (t′ : List ℕ) → contract.stream-finder-update f t c r t′ → Refuses (16 ∷ 26 ∷ 13 ∷ 14 ∷ []) (saidFinder r)
   pub stream-finder-lent-item-finder-update : (self : ItemFinder) (t : List ℕ) (c : ItemIter) (r : UpdateAnswer) (self′ : ItemFinder) (t′ : List ℕ) → contract.stream-finder-lent-item-finder-update self t c r self′ t′ → Refuses (16 ∷ 26 ∷ 13 ∷ 14 ∷ []) (saidUpdate r)
   pub stream-index-next-and-update : (s : List ℕ) (f : ItemFinder) (t : List ℕ) (c : ItemIter) (r : TurnAnswer) (t′ : List ℕ) → contract.stream-index-next-and-update s f t c r t′ → Refuses (16 ∷ 1 ∷ 6 ∷ 7 ∷ 26 ∷ 13 ∷ 14 ∷ []) (saidTurn r t′)
@@ -132,5 +132,5 @@ pub record EachRefusedBy : Type 0 where
   pub write-list-write-method-list : (text : List ℕ) (rows : List (List ℕ)) (out : List ℕ) (at : ℕ) (r : WriteAnswer) (out′ : List ℕ) → contract.write-list-write-method-list text rows out at r out′ → Refuses (17 ∷ 18 ∷ 19 ∷ []) (saidWrite r)
   pub write-cells-write-type : (text : List ℕ) (leaf : ℕ) (row : List ℕ) (out : List ℕ) (at : ℕ) (r : WriteAnswer) (out′ : List ℕ) → contract.write-cells-write-type text leaf row out at r out′ → Refuses (17 ∷ 18 ∷ 19 ∷ []) (saidWrite r)
   pub write-cells-write-id : (text : List ℕ) (leaf : ℕ) (row : List ℕ) (out : List ℕ) (at : ℕ) (r : WriteAnswer) (out′ : List ℕ) → contract.write-cells-write-id text leaf row out at r out′ → Refuses (17 ∷ 18 ∷ 19 ∷ []) (saidWrite r)
-  pub write-pieces-write-plain : (text : List ℕ) (xs : List Piece-of-write-pieces) (out : List ℕ) (at : ℕ) (r : WriteAnswer) (out′ : List ℕ) → contract.write-pieces-write-plain text xs out at r out′ → Refuses (17 ∷ 18 ∷ 19 ∷ []) (saidWrite r)
-  pub write-pieces-write-filled : (text : List ℕ) (xs : List Piece-of-write-pieces) (out : List ℕ) (at : ℕ) (r : WriteAnswer) (out′ : List ℕ) → contract.write-pieces-write-filled text xs out at r out′ → Refuses (17 ∷ 18 ∷ 19 ∷ []) (saidWrite r)
+  pub write-pieces-write-plain : (text : List ℕ) (xs : List Piece) (out : List ℕ) (at : ℕ) (r : WriteAnswer) (out′ : List ℕ) → contract.write-pieces-write-plain text xs out at r out′ → Refuses (17 ∷ 18 ∷ 19 ∷ []) (saidWrite r)
+  pub write-pieces-write-filled : (text : List ℕ) (xs : List Piece) (out : List ℕ) (at : ℕ) (r : WriteAnswer) (out′ : List ℕ) → contract.write-pieces-write-filled text xs out at r out′ → Refuses (17 ∷ 18 ∷ 19 ∷ []) (saidWrite r)

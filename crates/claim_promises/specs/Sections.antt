@@ -15,7 +15,7 @@ use Rattle.stream_finder.specs.declared.FinderAnswer.{FinderAnswer}
 use Rattle.stream_index.specs.declared.IndexAnswer.the-variants as walk
 use Rattle.record_list.specs.Lists as lists
 use Rattle.section_item.specs.Sections.{first, sectionStart, countOf}
-use Rattle.section_finder.specs.Finders.{sectionRun, sectionCreateBy, SectionIndexesBy}
+use Rattle.section_finder.specs.Finders.{sectionRecords, sectionCreateBy, SectionIndexesBy}
 use Rattle.section_read.specs.Readers.{readerAt, readOf}
 use Rattle.section_stream.specs.Streams.{sectionStream}
 use Rattle.write_layout.specs.Buffer.{lay, Writes}
@@ -51,9 +51,9 @@ pub record SectionsWhen : Type 0 where
   pub creations-own : (shift : ℕ) (s t : List ℕ) → RefusedAs (16 ∷ 1 ∷ 25 ∷ 6 ∷ 7 ∷ []) (sectionCreateBy shift s t) (countOf s)
   pub creations-26 : (shift : ℕ) (s t : List ℕ) (n : ℕ) → countOf s ≡ answered n → Given 26 [] (sectionCreateBy shift s t) (6 < shift)
   pub creations-13 : (shift : ℕ) (s t : List ℕ) (n : ℕ) → countOf s ≡ answered n → Given 13 [] (sectionCreateBy shift s t) ((shift ≤ 6) × (0 < n) × (length t ≡ 0))
-  -- and nothing else where the records are counted: creation is then that of their run, which CreatedWhen.antt has whole
+  -- and nothing else where the records are counted: creation is then `begunIn` of them, which CreatedWhen.antt has whole
   pub creations-else : (shift : ℕ) (s t : List ℕ) (n : ℕ) → countOf s ≡ answered n → Refuses (26 ∷ 13 ∷ []) (sectionCreateBy shift s t)
-  pub creations-begun : (shift : ℕ) (s t : List ℕ) (n : ℕ) → countOf s ≡ answered n → sectionCreateBy shift s t ≡ begunIn shift t (sectionRun n)
+  pub creations-begun : (shift : ℕ) (s t : List ℕ) (n : ℕ) → countOf s ≡ answered n → sectionCreateBy shift s t ≡ begunIn shift t (sectionRecords n)
   -- of a stream: 16 where it would be too long, the count's own refusal, and 19 where the buffer is shorter than the section and 52
   pub streams-16 : (s : List ℕ) → Given 16 [] (sectionStream s) (longest < length s + 52)
   pub streams-own : (s o : List ℕ) → length s + 52 ≤ longest → RefusedAs (1 ∷ 25 ∷ 6 ∷ 7 ∷ []) (lay (sectionStream s) o 0) (countOf s)

@@ -10,8 +10,8 @@ use Rattle.declare_node.specs.Nodes.{nodeOf}
 use Rattle.declare_word.specs.declared.Quals.{Quals}
 use Rattle.declare_node.specs.declared.Node.{Node}
 use Rattle.declare_node.specs.declared.Node.the-variants as node
-use Rattle.declare_piece.specs.declared.Piece.{Piece}
-use Rattle.declare_piece.specs.declared.Piece.the-variants as piece
+use Rattle.declare_token.specs.declared.Token.{Token}
+use Rattle.declare_token.specs.declared.Token.the-variants as token
 use Rattle.declare_step.specs.declared.Around.{Around}
 use Rattle.declare_step.specs.declared.Step.{Step}
 use Rattle.declare_step.specs.declared.Step.the-variants as step
@@ -37,34 +37,34 @@ abbrev pub aroundFirst : Around
 aroundFirst = record { quals = none; under = false; last = true; bare = true }
 
 -- an array or a procedure that stands directly under a pointer puts the pointer in parentheses
-abbrev pub opening : Bool → Piece
-opening true = piece.Open
-opening false = piece.Nothing
+abbrev pub opening : Bool → Token
+opening true = token.Open
+opening false = token.Nothing
 
 -- a primitive's indirection takes the qualifiers as a pointer does
-abbrev pub primitivePiece : PrimitiveKind → Indirection → Around → Piece
-primitivePiece k by.Direct a = piece.Primitive k (a .quals) (a .bare)
-primitivePiece k by.Near16 a = piece.Pointed k by.Near16 (a .quals) (a .last)
-primitivePiece k by.Far16 a = piece.Pointed k by.Far16 (a .quals) (a .last)
-primitivePiece k by.Huge16 a = piece.Pointed k by.Huge16 (a .quals) (a .last)
-primitivePiece k by.Near32 a = piece.Pointed k by.Near32 (a .quals) (a .last)
-primitivePiece k by.Far32 a = piece.Pointed k by.Far32 (a .quals) (a .last)
-primitivePiece k by.Near64 a = piece.Pointed k by.Near64 (a .quals) (a .last)
-primitivePiece k by.Near128 a = piece.Pointed k by.Near128 (a .quals) (a .last)
+abbrev pub primitiveToken : PrimitiveKind → Indirection → Around → Token
+primitiveToken k by.Direct a = token.Primitive k (a .quals) (a .bare)
+primitiveToken k by.Near16 a = token.Pointed k by.Near16 (a .quals) (a .last)
+primitiveToken k by.Far16 a = token.Pointed k by.Far16 (a .quals) (a .last)
+primitiveToken k by.Huge16 a = token.Pointed k by.Huge16 (a .quals) (a .last)
+primitiveToken k by.Near32 a = token.Pointed k by.Near32 (a .quals) (a .last)
+primitiveToken k by.Far32 a = token.Pointed k by.Far32 (a .quals) (a .last)
+primitiveToken k by.Near64 a = token.Pointed k by.Near64 (a .quals) (a .last)
+primitiveToken k by.Near128 a = token.Pointed k by.Near128 (a .quals) (a .last)
 
 -- Qualifiers wait for the next pointer, procedure or base inward, and go through arrays and modifiers. A modifier adds nothing else, so that a
 -- pointer outside of it stays directly outside. Under a pointer the left side is not empty, so that a ( changes nothing there.
 abbrev pub stepBy : Node → Around → Step
-stepBy (node.Primitive k y) a = step.Last (primitivePiece k y a)
-stepBy (node.Named p n) a = step.Last (piece.Tag p n (a .quals) (a .bare))
+stepBy (node.Primitive k y) a = step.Last (primitiveToken k y a)
+stepBy (node.Named p n) a = step.Last (token.Tag p n (a .quals) (a .bare))
 stepBy (node.Pointer i m q) a =
-    step.Inward (piece.Pointer m (union (a .quals) q) (a .last)) piece.Nothing i (record { quals = none; under = true; last = false; bare = false })
+    step.Inward (token.Pointer m (union (a .quals) q) (a .last)) token.Nothing i (record { quals = none; under = true; last = false; bare = false })
 stepBy (node.Modifier i q) a =
-    step.Inward piece.Nothing piece.Nothing i (record { quals = union (a .quals) q; under = a .under; last = a .last; bare = a .bare })
+    step.Inward token.Nothing token.Nothing i (record { quals = union (a .quals) q; under = a .under; last = a .last; bare = a .bare })
 stepBy (node.Array i e) a =
-    step.Inward (opening (a .under)) (piece.Length (a .under) e) i (record { quals = a .quals; under = false; last = a .last; bare = false })
+    step.Inward (opening (a .under)) (token.Length (a .under) e) i (record { quals = a .quals; under = false; last = a .last; bare = false })
 stepBy (node.Procedure i l) a =
-    step.Call (opening (a .under)) (piece.Begin (a .under)) (piece.End (a .quals)) l i (record { quals = none; under = false; last = a .last; bare = false })
+    step.Call (opening (a .under)) (token.Begin (a .under)) (token.End (a .quals)) l i (record { quals = none; under = false; last = a .last; bare = false })
 stepBy (node.Refused e) a = step.Refused e
 
 unfoldable pub inwardStep : List ℕ → State → ℕ → Around → Step

@@ -2,10 +2,10 @@
 // each kind of type.
 ghost use mathlib.Core.Path.{_≡_};
 ghost use Rattle.stream_finder.specs.Finder.{state};
-ghost use Rattle.declare_step.specs.Steps.{or, none, union, aroundFirst, opening, primitivePiece, inwardStep};
+ghost use Rattle.declare_step.specs.Steps.{or, none, union, aroundFirst, opening, primitiveToken, inwardStep};
 use answer::Refusal;
 use declare_node::Node;
-use declare_piece::Piece;
+use declare_token::Token;
 use declare_word::Quals;
 use field::index::TypeIndex;
 use stream_finder::ItemFinder;
@@ -23,12 +23,12 @@ pub struct Around {
 
 // What a type adds, and where the walk goes on.
 pub enum Step {
-    // A last piece on the left.
-    Last(Piece),
-    // A piece on the left, one on the right, the type inward, and what stands around that.
-    Inward(Piece, Piece, TypeIndex, Around),
-    // The same with arguments before the type inward: the piece before them, the piece behind them, their list.
-    Call(Piece, Piece, Piece, TypeIndex, TypeIndex, Around),
+    // A last token on the left.
+    Last(Token),
+    // A token on the left, one on the right, the type inward, and what stands around that.
+    Inward(Token, Token, TypeIndex, Around),
+    // The same with arguments before the type inward: the token before them, the token behind them, their list.
+    Call(Token, Token, Token, TypeIndex, TypeIndex, Around),
     Refused(Refusal),
 }
 
@@ -75,45 +75,45 @@ pub fn start() -> Around
     }
 }
 
-fn open(under: bool) -> Piece
+fn open(under: bool) -> Token
     ensures { λ r. ⌜ r ≡ opening under ⌝ }
 {
     if under {
-        return Piece::Open;
+        return Token::Open;
     }
-    Piece::Nothing
+    Token::Nothing
 }
 
-fn primitive_piece(k: PrimitiveKind, y: Indirection, a: Around) -> Piece
-    ensures { λ r. ⌜ r ≡ primitivePiece k y a ⌝ }
+fn primitive_token(k: PrimitiveKind, y: Indirection, a: Around) -> Token
+    ensures { λ r. ⌜ r ≡ primitiveToken k y a ⌝ }
 {
     let q = a.quals;
     let last = a.last;
     let bare = a.bare;
     match y {
         Indirection::Direct => {
-            return Piece::Primitive(k, q, bare);
+            return Token::Primitive(k, q, bare);
         }
         Indirection::Near16 => {
-            return Piece::Pointed(k, y, q, last);
+            return Token::Pointed(k, y, q, last);
         }
         Indirection::Far16 => {
-            return Piece::Pointed(k, y, q, last);
+            return Token::Pointed(k, y, q, last);
         }
         Indirection::Huge16 => {
-            return Piece::Pointed(k, y, q, last);
+            return Token::Pointed(k, y, q, last);
         }
         Indirection::Near32 => {
-            return Piece::Pointed(k, y, q, last);
+            return Token::Pointed(k, y, q, last);
         }
         Indirection::Far32 => {
-            return Piece::Pointed(k, y, q, last);
+            return Token::Pointed(k, y, q, last);
         }
         Indirection::Near64 => {
-            return Piece::Pointed(k, y, q, last);
+            return Token::Pointed(k, y, q, last);
         }
         Indirection::Near128 => {
-            return Piece::Pointed(k, y, q, last);
+            return Token::Pointed(k, y, q, last);
         }
     }
 }
@@ -128,11 +128,11 @@ pub fn step_of(s: &[u8], f: ItemFinder, t: &[u32], i: TypeIndex, a: Around) -> S
     let bare = a.bare;
     match declare_node::node_of(s, f, t, i) {
         Node::Primitive(k, y) => {
-            let base = primitive_piece(k, y, a);
+            let base = primitive_token(k, y, a);
             return Step::Last(base);
         }
         Node::Named(p, n) => {
-            return Step::Last(Piece::Tag(p, n, quals, bare));
+            return Step::Last(Token::Tag(p, n, quals, bare));
         }
         Node::Pointer(j, m, own) => {
             let all = union_of(quals, own);
@@ -142,7 +142,7 @@ pub fn step_of(s: &[u8], f: ItemFinder, t: &[u32], i: TypeIndex, a: Around) -> S
                 last: false,
                 bare: false,
             };
-            return Step::Inward(Piece::Pointer(m, all, last), Piece::Nothing, j, around);
+            return Step::Inward(Token::Pointer(m, all, last), Token::Nothing, j, around);
         }
         Node::Modifier(j, own) => {
             let all = union_of(quals, own);
@@ -152,7 +152,7 @@ pub fn step_of(s: &[u8], f: ItemFinder, t: &[u32], i: TypeIndex, a: Around) -> S
                 last: last,
                 bare: bare,
             };
-            return Step::Inward(Piece::Nothing, Piece::Nothing, j, around);
+            return Step::Inward(Token::Nothing, Token::Nothing, j, around);
         }
         Node::Array(j, e) => {
             let around = Around {
@@ -162,7 +162,7 @@ pub fn step_of(s: &[u8], f: ItemFinder, t: &[u32], i: TypeIndex, a: Around) -> S
                 bare: false,
             };
             let left = open(under);
-            return Step::Inward(left, Piece::Length(under, e), j, around);
+            return Step::Inward(left, Token::Length(under, e), j, around);
         }
         Node::Procedure(j, g) => {
             let around = Around {
@@ -172,7 +172,7 @@ pub fn step_of(s: &[u8], f: ItemFinder, t: &[u32], i: TypeIndex, a: Around) -> S
                 bare: false,
             };
             let left = open(under);
-            return Step::Call(left, Piece::Begin(under), Piece::End(quals), g, j, around);
+            return Step::Call(left, Token::Begin(under), Token::End(quals), g, j, around);
         }
         Node::Refused(e) => {
             return Step::Refused(e);

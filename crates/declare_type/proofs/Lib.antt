@@ -1,6 +1,6 @@
 pub mod PutLaws
 pub mod SideLaws
-pub mod RowLaws
+pub mod ArgumentLaws
 pub mod WriteLaws
 pub mod DeclareLaws
 pub mod OneOutcome

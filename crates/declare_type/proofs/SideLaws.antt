@@ -1,4 +1,4 @@
--- The two sides of a declaration, written piece by piece from the outside inward. Assumes nothing.
+-- The two sides of a declaration, written token by token from the outside inward. Assumes nothing.
 use Prim.Native.Nat.{ℕ, zero, suc, _+_, _-_, _*_, _≤_, _<_}
 use native.Mathlib.Omega.{arith}
 use mathlib.Core.Path.{_≡_, refl, ap, sym, _∙_}
@@ -7,10 +7,10 @@ use mathlib.Core.List.{List, [], _∷_, _++_, append-nil, append-assoc}
 use lib.ListN.{length, length-append}
 use Rattle.declare_walk.specs.Walk.{Spelled, printed, stopped, onto, fixedThen, wholeText}
 use Rattle.field_put.specs.Bytes.{put, Puts, Room}
-use Rattle.declare_type.specs.Sides.{isPrinted, leftOf, rightOf, SideRoom, Both, RowRoom, Rest}
+use Rattle.declare_type.specs.Sides.{isPrinted, leftOf, rightOf, SideRoom, Both, WholeRoom, Rest}
 use Rattle.declare_type.proofs.PutLaws.{put-append, put-comm, length-put}
 
--- ---- a piece on each side
+-- ---- a token on each side
 
 module _ (a b : List ℕ) (left right : ℕ) (n : List ℕ) where
   pub room-left : (w : Spelled) → SideRoom (onto a b w) left right n → length a ≤ left
@@ -77,18 +77,18 @@ module _ (b : List ℕ) (left right : ℕ) (n : List ℕ) where
 -- ---- a whole text on the right
 
 module _ (left right : ℕ) (n : List ℕ) where
-  pub row-room : (v w : Spelled) → SideRoom (fixedThen v w) left right n → RowRoom v right n
+  pub joined-room : (v w : Spelled) → SideRoom (fixedThen v w) left right n → WholeRoom v right n
   unfolding fixedThen
-  row-room (printed a b) w h = record { prints = refl; high = text-right (a ++ b) left right n w h }
-  row-room (stopped k e) w h = absurd (false≢true (h .prints))
+  joined-room (printed a b) w h = record { prints = refl; high = text-right (a ++ b) left right n w h }
+  joined-room (stopped k e) w h = absurd (false≢true (h .prints))
 
-  pub row-in : (v w : Spelled) (e : ℕ) → e ≡ right + length (wholeText v) → SideRoom (fixedThen v w) left right n → SideRoom w left e n
+  pub joined-in : (v w : Spelled) (e : ℕ) → e ≡ right + length (wholeText v) → SideRoom (fixedThen v w) left right n → SideRoom w left e n
   unfolding fixedThen
-  row-in (printed a b) w e g h = text-in (a ++ b) left right n w e g h
-  row-in (stopped k q) w e g h = absurd (false≢true (h .prints))
+  joined-in (printed a b) w e g h = text-in (a ++ b) left right n w e g h
+  joined-in (stopped k q) w e g h = absurd (false≢true (h .prints))
 
-  pub row-both :
+  pub joined-both :
       (v w : Spelled) (l₀ l₁ l₂ : List ℕ) (e r : ℕ) → SideRoom (fixedThen v w) left right n → Puts l₀ right (wholeText v) e l₁ → Both w l₁ left e r l₂ → Both (fixedThen v w) l₀ left right r l₂
   unfolding fixedThen
-  row-both (printed a b) w l₀ l₁ l₂ e r h p z = text-both (a ++ b) left right n w l₀ l₁ l₂ e r h p z
-  row-both (stopped k q) w l₀ l₁ l₂ e r h p z = absurd (false≢true (h .prints))
+  joined-both (printed a b) w l₀ l₁ l₂ e r h p z = text-both (a ++ b) left right n w l₀ l₁ l₂ e r h p z
+  joined-both (stopped k q) w l₀ l₁ l₂ e r h p z = absurd (false≢true (h .prints))

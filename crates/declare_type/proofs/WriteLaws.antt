@@ -14,20 +14,20 @@ use Rattle.declare_node.specs.Nodes.{indexAt, listOf}
 use Rattle.answer.specs.declared.Refusal.{Refusal}
 use Rattle.answer.specs.declared.Refusal.the-variants as refusal
 use Rattle.declare_step.specs.declared.Around.{Around}
-use Rattle.declare_piece.specs.declared.Piece.{Piece}
-use Rattle.declare_piece.specs.declared.Piece.the-variants as piece
+use Rattle.declare_token.specs.declared.Token.{Token}
+use Rattle.declare_token.specs.declared.Token.the-variants as token
 use Rattle.declare_step.specs.declared.Step.{Step}
 use Rattle.declare_step.specs.declared.Step.the-variants as step
 use Rattle.declare_walk.specs.declared.Measured.{Measured}
 use Rattle.declare_walk.specs.declared.Measured.the-variants as measured
-use Rattle.declare_piece.specs.Pieces.{textOf}
+use Rattle.declare_token.specs.Tokens.{textOf}
 use Rattle.declare_step.specs.Steps.{aroundFirst, inwardStep}
 use Rattle.declare_walk.specs.Walk.{Spelled, printed, stopped, onto, fixedThen, overArguments, stepped, walk, capped, wholeText}
 use Rattle.field_put.specs.Bytes.{put, Puts, Room}
-use Rattle.declare_type.specs.Sides.{isPrinted, leftOf, rightOf, SideRoom, Both, RowRoom}
+use Rattle.declare_type.specs.Sides.{isPrinted, leftOf, rightOf, SideRoom, Both, WholeRoom}
 use Rattle.declare_walk.proofs.WalkLaws.{walk-is, argsIn}
 use Rattle.declare_type.proofs.PutLaws.{put-append, length-put}
-use Rattle.declare_type.proofs.SideLaws.{room-left, room-right, room-in, both-in, text-right, text-in, text-both, row-room, row-in, row-both}
+use Rattle.declare_type.proofs.SideLaws.{room-left, room-right, room-in, both-in, text-right, text-in, text-both, joined-room, joined-in, joined-both}
 
 pub room-as : (v w : Spelled) (left right : ℕ) (n : List ℕ) → v ≡ w → SideRoom v left right n → SideRoom w left right n
 room-as v w left right n e h = rw e at h
@@ -55,15 +55,15 @@ module _ (s : List ℕ) (t : State) (d i : ℕ) (a : Around) (h : 0 < d) (o : St
   unfolding stepped
   refused-eq q f = is f
 
-  pub last-eq : (p : Piece) → o ≡ step.Last p → walk s t d i a ≡ printed (textOf s p) []
+  pub last-eq : (p : Token) → o ≡ step.Last p → walk s t d i a ≡ printed (textOf s p) []
   unfolding stepped
   last-eq p f = is f
 
-  pub inward-eq : (l r : Piece) (j : TypeIndex) (b : Around) → o ≡ step.Inward l r j b → walk s t d i a ≡ onto (textOf s l) (textOf s r) (walk s t (d - 1) (j .0) b)
+  pub inward-eq : (l r : Token) (j : TypeIndex) (b : Around) → o ≡ step.Inward l r j b → walk s t d i a ≡ onto (textOf s l) (textOf s r) (walk s t (d - 1) (j .0) b)
   unfolding stepped
   inward-eq l r j b f = is f
 
-  pub call-eq : (l r z : Piece) (g j : TypeIndex) (b : Around) → o ≡ step.Call l r z g j b
+  pub call-eq : (l r z : Token) (g j : TypeIndex) (b : Around) → o ≡ step.Call l r z g j b
       → walk s t d i a ≡ onto (textOf s l) (textOf s r) (fixedThen (argsIn s t (d - 1) (g .0)) (onto [] (textOf s z) (walk s t (d - 1) (j .0) b)))
   unfolding stepped
   call-eq l r z g j b f = is f
@@ -73,7 +73,7 @@ module _ (s : List ℕ) (t : State) (d i : ℕ) (a : Around) (h : 0 < d) (o : St
 pub no-room : {A : Type 0} (w : Spelled) (k : ℕ) (q : Refusal) (left right : ℕ) (n : List ℕ) → w ≡ stopped k q → SideRoom w left right n → A
 no-room w k q left right n e h = absurd (false≢true (rw e at (h .prints)))
 
--- ---- the last piece
+-- ---- the last token
 
 module _ (w : Spelled) (text l : List ℕ) (left right : ℕ) (h : SideRoom w left right l) (e : w ≡ printed text []) where
   pub last-small : length text ≤ left
@@ -86,7 +86,7 @@ module _ (w : Spelled) (text l : List ℕ) (left right : ℕ) (h : SideRoom w le
   unfolding put
   last-both x y m f p = rw e (record { end = omega arith; after = p .left ∙ ap (λ k. put l (left - k) text) f })
 
--- ---- a piece on each side
+-- ---- a token on each side
 
 module _ (a b : List ℕ) (w : Spelled) (left right : ℕ) (l₀ : List ℕ) (h : SideRoom (onto a b w) left right l₀) where
   pub left-small : length a ≤ left
@@ -111,12 +111,12 @@ module _ (a b : List ℕ) (w : Spelled) (left right : ℕ) (l₀ : List ℕ) (h 
 -- ---- arguments, and what closes them
 
 module _ (v w : Spelled) (c : List ℕ) (left right : ℕ) (l₀ : List ℕ) (h : SideRoom (fixedThen v (onto [] c w)) left right l₀) where
-  pub args-room : RowRoom v right l₀
-  args-room = row-room left right l₀ v (onto [] c w) h
+  pub args-room : WholeRoom v right l₀
+  args-room = joined-room left right l₀ v (onto [] c w) h
 
   module _ (f : ℕ) (l₁ : List ℕ) (p : Puts l₀ right (wholeText v) f l₁) where
     mid : SideRoom (onto [] c w) left f l₀
-    mid = row-in left right l₀ v (onto [] c w) f (p .next) h
+    mid = joined-in left right l₀ v (onto [] c w) f (p .next) h
 
     pub close-fits : Room l₁ f c
     close-fits = record { room = omega (arith, text-right c left f l₀ w mid, put-length l₀ l₁ (wholeText v) right f p) }
@@ -128,7 +128,7 @@ module _ (v w : Spelled) (c : List ℕ) (left right : ℕ) (l₀ : List ℕ) (h 
           room-len w left g l₀ l₂ n (text-in c left f l₀ w g (q .next) mid)
 
       pub after-both : (r : ℕ) (l₃ : List ℕ) → Both w l₂ left g r l₃ → Both (fixedThen v (onto [] c w)) l₀ left right r l₃
-      after-both r l₃ z = row-both left right l₀ v (onto [] c w) l₀ l₁ l₃ f r h p (text-both c left f l₀ w l₁ l₂ l₃ g r mid q z)
+      after-both r l₃ z = joined-both left right l₀ v (onto [] c w) l₀ l₁ l₃ f r h p (text-both c left f l₀ w l₁ l₂ l₃ g r mid q z)
 
 -- ---- an argument
 
@@ -147,7 +147,7 @@ length-whole : (w : Spelled) → length (wholeText w) ≡ length (leftOf w) + le
 length-whole (printed l r) = length-append l r
 length-whole (stopped k q) = refl
 
-module _ (w : Spelled) (at : ℕ) (l : List ℕ) (h : RowRoom w at l) where
+module _ (w : Spelled) (at : ℕ) (l : List ℕ) (h : WholeRoom w at l) where
   pub argument-fits : (m n : ℕ) → measured.Fits m n ≡ capped (length l - at) w → at + m ≤ length l
   argument-fits m n e = let s = sides (length l - at) m n w e in omega (arith, h .high, length-whole w, s .1)
 
@@ -163,7 +163,7 @@ module _ (w : Spelled) (at : ℕ) (l : List ℕ) (h : RowRoom w at l) where
 
   pub argument-puts : (m n r : ℕ) (l₁ : List ℕ) → measured.Fits m n ≡ capped (length l - at) w → Both w l (at + m) (at + m) r l₁ → Puts l at (wholeText w) r l₁
   argument-puts m n r l₁ e z = go w h (sides (length l - at) m n w e) z where
-    go : (w : Spelled) → RowRoom w at l → (isPrinted w ≡ true) × (m ≡ length (leftOf w)) × (n ≡ length (rightOf w)) → Both w l (at + m) (at + m) r l₁ → Puts l at (wholeText w) r l₁
+    go : (w : Spelled) → WholeRoom w at l → (isPrinted w ≡ true) × (m ≡ length (leftOf w)) × (n ≡ length (rightOf w)) → Both w l (at + m) (at + m) r l₁ → Puts l at (wholeText w) r l₁
     go (printed a b) k s y =
         let i : at + m - length a ≡ at = omega (arith, s .1) in
         let j : at + m ≡ at + length a = omega (arith, s .1) in
@@ -176,7 +176,7 @@ module _ (w : Spelled) (at : ℕ) (l : List ℕ) (h : RowRoom w at l) where
   pub argument-never : {A : Type 0} (q : Refusal) → measured.Refused q ≡ capped (length l - at) w → A
   unfolding capped
   argument-never q e = absurd (go w h e) where
-    go : (w : Spelled) → RowRoom w at l → measured.Refused q ≡ capped (length l - at) w → ⊥
+    go : (w : Spelled) → WholeRoom w at l → measured.Refused q ≡ capped (length l - at) w → ⊥
     go (printed a b) k e₁ =
         let f : ltb (length l - at) (length a + length b) ≡ false = le-ltb (length l - at) (length a + length b) (omega (arith, k .high, length-append a b)) in
         let g : measured.Refused q ≡ measured.Fits (length a) (length b) = e₁ ∙ rw f in

@@ -32,11 +32,11 @@ pub record Both (w : Spelled) (l : List ℕ) (left right r : ℕ) (l′ : List �
   pub after : l′ ≡ put (put l (left - length (leftOf w)) (leftOf w)) right (rightOf w)
 
 -- it is printed, and its whole text has room in l from place `at` on
-pub record RowRoom (w : Spelled) (at : ℕ) (l : List ℕ) : Type 0 where
+pub record WholeRoom (w : Spelled) (at : ℕ) (l : List ℕ) : Type 0 where
   pub prints : isPrinted w ≡ true
   pub high : at + length (wholeText w) ≤ length l
 
--- the rest w of a row v: with it, what is written in l becomes the row in l₀
+-- the rest w of arguments v: with it, what is written in l becomes their whole text in l₀
 pub record Rest (w v : Spelled) (l : List ℕ) (e : ℕ) (l₀ : List ℕ) (at : ℕ) : Type 0 where
   pub prints : isPrinted w ≡ true
   pub flat : leftOf w ≡ []

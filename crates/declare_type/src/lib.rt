@@ -4,16 +4,16 @@ ghost use Rattle.stream_finder.specs.Finder.{state};
 ghost use Rattle.field_put.specs.Bytes.{Room, Puts};
 ghost use lib.ListN.{length};
 ghost use Rattle.declare_node.specs.Nodes.{listOf};
-ghost use Rattle.declare_piece.specs.Pieces.{textOf};
+ghost use Rattle.declare_token.specs.Tokens.{textOf};
 ghost use Rattle.declare_step.specs.Steps.{aroundFirst};
 ghost use Rattle.declare_walk.specs.Walk.{walk, overArguments, wholeText};
-ghost use Rattle.declare_type.specs.Sides.{SideRoom, Both, RowRoom};
+ghost use Rattle.declare_type.specs.Sides.{SideRoom, Both, WholeRoom};
 ghost use Rattle.declare_type.specs.Declares.{declareOf, Declares};
 use answer::Refusal;
 use declare_node::Arguments;
-use declare_piece::Piece;
 use declare_step::Around;
 use declare_step::Step;
+use declare_token::Token;
 use declare_walk::Measured;
 use field::index::TypeIndex;
 use stream_finder::ItemFinder;
@@ -48,12 +48,12 @@ pub fn declare(s: &[u8], f: ItemFinder, t: &[u32], i: TypeIndex, out: &mut [u8])
     }
 }
 
-// A piece from a place on, where there is room.
-fn piece(s: &[u8], p: Piece, out: &mut [u8], at: usize) -> usize
+// A token from a place on, where there is room.
+fn token(s: &[u8], p: Token, out: &mut [u8], at: usize) -> usize
     requires { ⌜ Room (now out) at (textOf (now s) p) ⌝ }
     ensures { λ r. ⌜ Puts (now (out .entry)) at (textOf (now (s .entry)) p) r (now (out .exit)) ⌝ }
 {
-    declare_piece::put(s, p, out, at)
+    declare_token::put(s, p, out, at)
 }
 
 // The declaration of type i, with d types left to nest, where it is known to have room: what goes left of what stands around it ends at one
@@ -77,25 +77,25 @@ fn write_declarator(
     }
     match declare_step::step_of(s, f, t, i, a) {
         Step::Last(p) => {
-            let n = declare_piece::len(s, p);
+            let n = declare_token::len(s, p);
             let at = left - n;
-            piece(s, p, out, at);
+            token(s, p, out, at);
             return right;
         }
         Step::Inward(l, r, j, b) => {
-            let n = declare_piece::len(s, l);
+            let n = declare_token::len(s, l);
             let at = left - n;
-            piece(s, l, out, at);
-            let e = piece(s, r, out, right);
+            token(s, l, out, at);
+            let e = token(s, r, out, right);
             return write_declarator(s, f, t, j, d - 1, b, out, at, e);
         }
         Step::Call(l, r, z, g, j, b) => {
-            let n = declare_piece::len(s, l);
+            let n = declare_token::len(s, l);
             let at = left - n;
-            piece(s, l, out, at);
-            let e = piece(s, r, out, right);
+            token(s, l, out, at);
+            let e = token(s, r, out, right);
             let k = write_arguments(s, f, t, g.0, d - 1, out, e);
-            let c = piece(s, z, out, k);
+            let c = token(s, z, out, k);
             return write_declarator(s, f, t, j, d - 1, b, out, at, c);
         }
         Step::Refused(_) => {
@@ -114,20 +114,20 @@ fn write_arguments(
     out: &mut [u8],
     at: usize,
 ) -> usize
-    requires { ⌜ RowRoom (overArguments (λ j. walk (now s) (state f (now t)) d j aroundFirst) (now s) (listOf (now s) (state f (now t)) g)) at (now out) ⌝ }
+    requires { ⌜ WholeRoom (overArguments (λ j. walk (now s) (state f (now t)) d j aroundFirst) (now s) (listOf (now s) (state f (now t)) g)) at (now out) ⌝ }
     ensures { λ r. ⌜ Puts (now (out .entry)) at (wholeText (overArguments (λ j. walk (now (s .entry)) (state f (now (t .entry))) d j aroundFirst) (now (s .entry)) (listOf (now (s .entry)) (state f (now (t .entry))) g))) r (now (out .exit)) ⌝ }
 {
     match declare_node::list_of(s, f, t, TypeIndex(g)) {
         Arguments::At(p, n) => {
             if n == 0 {
-                return piece(s, Piece::Void, out, at);
+                return token(s, Token::Void, out, at);
             }
             let first = declare_node::index_at(s, p);
             let mut e = write_argument(s, f, t, first, d, out, at);
             let mut q = p + 4;
             let mut left = n - 1;
             while left > 0 {
-                let k = piece(s, Piece::Comma, out, e);
+                let k = token(s, Token::Comma, out, e);
                 let next = declare_node::index_at(s, q);
                 e = write_argument(s, f, t, next, d, out, k);
                 q = q + 4;
@@ -151,7 +151,7 @@ fn write_argument(
     out: &mut [u8],
     at: usize,
 ) -> usize
-    requires { ⌜ RowRoom (walk (now s) (state f (now t)) d (i .0) aroundFirst) at (now out) ⌝ }
+    requires { ⌜ WholeRoom (walk (now s) (state f (now t)) d (i .0) aroundFirst) at (now out) ⌝ }
     ensures { λ r. ⌜ Puts (now (out .entry)) at (wholeText (walk (now (s .entry)) (state f (now (t .entry))) d (i .0) aroundFirst)) r (now (out .exit)) ⌝ }
 {
     let around = declare_step::start();

@@ -16,13 +16,13 @@ use Rattle.answer.specs.declared.Refusal.the-variants as refusal
 use Rattle.declare_node.specs.declared.Arguments.{Arguments}
 use Rattle.declare_node.specs.declared.Arguments.the-variants as arguments
 use Rattle.declare_step.specs.declared.Around.{Around}
-use Rattle.declare_piece.specs.declared.Piece.{Piece}
-use Rattle.declare_piece.specs.declared.Piece.the-variants as piece
+use Rattle.declare_token.specs.declared.Token.{Token}
+use Rattle.declare_token.specs.declared.Token.the-variants as token
 use Rattle.declare_step.specs.declared.Step.{Step}
 use Rattle.declare_step.specs.declared.Step.the-variants as step
 use Rattle.declare_walk.specs.declared.Measured.{Measured}
 use Rattle.declare_walk.specs.declared.Measured.the-variants as measured
-use Rattle.declare_piece.specs.Pieces.{textOf}
+use Rattle.declare_token.specs.Tokens.{textOf}
 use Rattle.declare_step.specs.Steps.{aroundFirst, inwardStep}
 use Rattle.declare_walk.specs.Walk.{Spelled, printed, stopped, onto, fixedThen, restOf, argumentsOf, overArguments, stepped, walk, capped}
 use Rattle.declare_walk.proofs.RoomLaws.{grown, over, within, within-right, joined-fits, joined-refused}
@@ -51,15 +51,15 @@ module _ (s : List ℕ) (t : State) (d i room : ℕ) (a : Around) (h : 0 < d) (o
   unfolding stepped capped
   refused-is q f = rw (by f, le-ltb room 0 (omega arith))
 
-  pub last-over : (p : Piece) → o ≡ step.Last p → room < length (textOf s p) → measured.Refused refusal.NoRoom ≡ capped room (walk s t d i a)
+  pub last-over : (p : Token) → o ≡ step.Last p → room < length (textOf s p) → measured.Refused refusal.NoRoom ≡ capped room (walk s t d i a)
   unfolding stepped capped
   last-over p f k = rw (by f, lt-ltb room (length (textOf s p) + 0) (omega arith))
 
-  pub last-fits : (p : Piece) (n : ℕ) → o ≡ step.Last p → n ≡ length (textOf s p) → n ≤ room → measured.Fits n 0 ≡ capped room (walk s t d i a)
+  pub last-fits : (p : Token) (n : ℕ) → o ≡ step.Last p → n ≡ length (textOf s p) → n ≤ room → measured.Fits n 0 ≡ capped room (walk s t d i a)
   unfolding stepped capped
   last-fits p n f g k = rw (by f, le-ltb room (length (textOf s p) + 0) (omega arith), g)
 
-  module _ (l r : Piece) (j : TypeIndex) (b : Around) (f : o ≡ step.Inward l r j b) where
+  module _ (l r : Token) (j : TypeIndex) (b : Around) (f : o ≡ step.Inward l r j b) where
     pub inward-over : room < length (textOf s l) + length (textOf s r) → measured.Refused refusal.NoRoom ≡ capped room (walk s t d i a)
     unfolding stepped
     inward-over k = sym (by f ∙ over room (textOf s l) (textOf s r) (walk s t (d - 1) (j .0) b) k)
@@ -69,7 +69,7 @@ module _ (s : List ℕ) (t : State) (d i room : ℕ) (a : Around) (h : 0 < d) (o
     unfolding stepped
     inward-is x y m ex ey k g = ap (grown x y) g ∙ sym (by f ∙ within room x y (textOf s l) (textOf s r) (walk s t (d - 1) (j .0) b) ex ey k)
 
-  module _ (l r z : Piece) (g j : TypeIndex) (b : Around) (f : o ≡ step.Call l r z g j b) where
+  module _ (l r z : Token) (g j : TypeIndex) (b : Around) (f : o ≡ step.Call l r z g j b) where
     pub call-over : room < length (textOf s l) + length (textOf s r) → measured.Refused refusal.NoRoom ≡ capped room (walk s t d i a)
     unfolding stepped
     call-over k = sym (by f ∙ over room (textOf s l) (textOf s r) _ k)
@@ -145,7 +145,7 @@ module _ (f : ℕ → Spelled) (s : List ℕ) (room fixed at left : ℕ) (w : Me
       let e : fixed + 0 ≡ fixed = omega arith in
       rw (i, z, le-ltb (room - fixed) 0 (omega arith), e)
 
-  next : 0 < left → w ≡ grown 0 fixed (capped (room - fixed) (onto [] (textOf s piece.Comma) (fixedThen (f (indexAt s at .0)) (restOf f s (at + 4) (left - 1)))))
+  next : 0 < left → w ≡ grown 0 fixed (capped (room - fixed) (onto [] (textOf s token.Comma) (fixedThen (f (indexAt s at .0)) (restOf f s (at + 4) (left - 1)))))
   unfolding restOf
   next z =
       let m : left ≡ suc (left - 1) = omega arith in
@@ -153,12 +153,12 @@ module _ (f : ℕ → Spelled) (s : List ℕ) (room fixed at left : ℕ) (w : Me
 
   pub rest-over : 0 < left → room - fixed < 2 → measured.Refused refusal.NoRoom ≡ w
   unfolding textOf
-  rest-over z k = sym (next z ∙ ap (grown 0 fixed) (over (room - fixed) [] (textOf s piece.Comma) _ k))
+  rest-over z k = sym (next z ∙ ap (grown 0 fixed) (over (room - fixed) [] (textOf s token.Comma) _ k))
 
   comma : 0 < left → 2 ≤ room - fixed → w ≡ grown 0 (fixed + 2) (capped (room - fixed - 2) (fixedThen (f (indexAt s at .0)) (restOf f s (at + 4) (left - 1))))
   unfolding textOf
   comma z k =
-      next z ∙ ap (grown 0 fixed) (within-right (room - fixed) 2 (textOf s piece.Comma) (fixedThen (f (indexAt s at .0)) (restOf f s (at + 4) (left - 1))) refl k)
+      next z ∙ ap (grown 0 fixed) (within-right (room - fixed) 2 (textOf s token.Comma) (fixedThen (f (indexAt s at .0)) (restOf f s (at + 4) (left - 1))) refl k)
       ∙ twice fixed 2 (capped (room - fixed - 2) (fixedThen (f (indexAt s at .0)) (restOf f s (at + 4) (left - 1))))
 
   pub rest-refused : (q : Refusal) → 0 < left → 2 ≤ room - fixed → measured.Refused q ≡ capped (room - fixed - 2) (f (indexAt s at .0)) → measured.Refused q ≡ w

@@ -10,8 +10,8 @@ use Rattle.stream_finder.specs.Finder.{State}
 use Rattle.declare_node.specs.Nodes.{indexAt, listOf}
 use Rattle.declare_node.specs.declared.Arguments.{Arguments}
 use Rattle.declare_node.specs.declared.Arguments.the-variants as arguments
-use Rattle.declare_piece.specs.Pieces.{textOf}
-use Rattle.declare_piece.specs.declared.Piece.the-variants as piece
+use Rattle.declare_token.specs.Tokens.{textOf}
+use Rattle.declare_token.specs.declared.Token.the-variants as token
 use Rattle.declare_step.specs.declared.Around.{Around}
 use Rattle.declare_step.specs.declared.Step.{Step}
 use Rattle.declare_step.specs.declared.Step.the-variants as step
@@ -38,11 +38,11 @@ fixedThen (stopped k e) w = stopped k e
 -- the other n arguments, whose indices start at place p; f prints one
 unfoldable pub restOf : (ℕ → Spelled) → List ℕ → ℕ → ℕ → Spelled
 restOf f s p zero = printed [] []
-restOf f s p (suc n) = onto [] (textOf s piece.Comma) (fixedThen (f (indexAt s p .0)) (restOf f s (p + 4) n))
+restOf f s p (suc n) = onto [] (textOf s token.Comma) (fixedThen (f (indexAt s p .0)) (restOf f s (p + 4) n))
 
 -- n arguments from left to right: none is void
 unfoldable pub argumentsOf : (ℕ → Spelled) → List ℕ → ℕ → ℕ → Spelled
-argumentsOf f s p zero = printed [] (textOf s piece.Void)
+argumentsOf f s p zero = printed [] (textOf s token.Void)
 argumentsOf f s p (suc n) = fixedThen (f (indexAt s p .0)) (restOf f s (p + 4) n)
 
 unfoldable pub overArguments : (ℕ → Spelled) → List ℕ → Arguments → Spelled

@@ -36,18 +36,18 @@ pub fn measure_declarator(
     }
     match declare_step::step_of(s, f, t, i, a) {
         Step::Last(p) => {
-            let n = declare_piece::len(s, p);
+            let n = declare_token::len(s, p);
             if room < n {
                 return Measured::Refused(Refusal::NoRoom);
             }
             return Measured::Fits(n, 0);
         }
         Step::Inward(l, r, j, b) => {
-            let x = declare_piece::len(s, l);
+            let x = declare_token::len(s, l);
             if room < x {
                 return Measured::Refused(Refusal::NoRoom);
             }
-            let y = declare_piece::len(s, r);
+            let y = declare_token::len(s, r);
             if room - x < y {
                 return Measured::Refused(Refusal::NoRoom);
             }
@@ -63,11 +63,11 @@ pub fn measure_declarator(
             }
         }
         Step::Call(l, r, e, g, j, b) => {
-            let x = declare_piece::len(s, l);
+            let x = declare_token::len(s, l);
             if room < x {
                 return Measured::Refused(Refusal::NoRoom);
             }
-            let y = declare_piece::len(s, r);
+            let y = declare_token::len(s, r);
             if room - x < y {
                 return Measured::Refused(Refusal::NoRoom);
             }
@@ -75,7 +75,7 @@ pub fn measure_declarator(
                 Measured::Fits(u, v) => {
                     let w = u + v;
                     let more = room - x - y - w;
-                    let z = declare_piece::len(s, e);
+                    let z = declare_token::len(s, e);
                     if more < z {
                         return Measured::Refused(Refusal::NoRoom);
                     }

@@ -64,7 +64,7 @@ kindText kind.Bool32 = quoted "__bool32"
 kindText kind.Bool64 = quoted "__bool64"
 kindText kind.HRESULT = quoted "HRESULT"
 
--- the indirections, each the piece that stands before what the primitive declares
+-- the indirections, each as it stands before what the primitive declares
 unfoldable pub byText : Indirection → List ℕ
 byText by.Direct = []
 byText by.Near16 = quoted "__near *"

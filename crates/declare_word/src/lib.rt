@@ -27,7 +27,7 @@ pub struct Word {
     pub n: usize,
 }
 
-// An indirection, as the piece that stands before what the primitive declares.
+// An indirection, as it stands before what the primitive declares.
 pub fn indirection(y: Indirection) -> Word
     ensures { λ r. ⌜ Spells r (byText y) ⌝ }
 {

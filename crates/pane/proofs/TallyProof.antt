@@ -20,10 +20,10 @@ use Rattle.field.specs.declared.index.ItemIndex.{ItemIndex}
 use Rattle.stream_item.specs.declared.iter.ItemIter.{ItemIter}
 use Rattle.stream_item.specs.declared.link.Hit.{Hit}
 use Rattle.stream_item.specs.declared.link.Hit.the-variants.{Landed, Missed}
-use Rattle.stream_finder.specs.Finder.{State, state, blockOf, distance, runOf, holdingIn, begunIn, begunBy, createBy, updateOf, after, Found, landed, lookOf, findOf}
+use Rattle.stream_finder.specs.Finder.{State, state, blockOf, distance, headerRecords, holdingIn, begunIn, begunBy, createBy, updateOf, after, Found, landed, lookOf, findOf}
 use Rattle.stream_finder.specs.Demand.{Walked, none, more}
 use Rattle.stream_finder.specs.Shared.{Updated, untouched, by}
-use Rattle.stream_finder.specs.declared.Run.{Run}
+use Rattle.stream_finder.specs.declared.Records.{Records}
 use Rattle.stream_finder.proofs.FinderLaws.{create-is}
 use Rattle.stream_finder.proofs.PlaceLaws.{update-ind}
 use Rattle.stream_places.specs.File.{FileForm, narrow, wordsAt, trailerBy, fileFormOf}
@@ -106,7 +106,7 @@ tallied tag s τ m shift c k f =
 pub update-kept : (m shift : ℕ) (τ : State) (c : ItemIter) → Kept m shift τ → Kept m shift (after τ (updateOf τ c))
 update-kept m shift τ c k = update-ind τ c (Kept m shift) k (λ st. record { minimum = k .minimum; shift-is = k .shift-is })
 
-pub begun-kept : (shift : ℕ) (t : List ℕ) (r : Run) (σ : State) → begunIn shift t r ≡ answered σ → Kept (r .minimum) shift σ
+pub begun-kept : (shift : ℕ) (t : List ℕ) (r : Records) (σ : State) → begunIn shift t r ≡ answered σ → Kept (r .minimum) shift σ
 begun-kept shift t r σ e = go (ltb 6 shift) (ltb (r .minimum) (r .maximum)) (leb (length t) 0) e
   where
     go : (x y z : Bool) → stop x 26 (pick y (stop z 13 (answered (state (holdingIn r shift 1) (set t 0 (r .start))))) (answered (state (holdingIn r shift 0) t))) ≡ answered σ
@@ -118,7 +118,7 @@ begun-kept shift t r σ e = go (ltb 6 shift) (ltb (r .minimum) (r .maximum)) (le
 
 created-kept : (shift : ℕ) (s t : List ℕ) (h : Header) (σ : State) → headerOf s ≡ answered h → createBy shift s t ≡ answered σ → Kept (h .«minimum_index») shift σ
 unfolding begunBy
-created-kept shift s t h σ e c = begun-kept shift t (runOf h) σ (sym (create-is shift s t (answered h) e) ∙ c)
+created-kept shift s t h σ e c = begun-kept shift t (headerRecords h) σ (sym (create-is shift s t (answered h) e) ∙ c)
 
 walked-kept : (m shift : ℕ) (s : List ℕ) (c : ItemIter) (σ : State) (n : ℕ) (d : ItemIter) (τ : State) → Kept m shift σ → Walked s c σ n d τ → Kept m shift τ
 walked-kept m shift s c σ zero d τ k none = k

@@ -9,14 +9,14 @@ use Rattle.field.specs.Fields.{littleAt}
 use Rattle.stream_header.specs.Header.{longest}
 use Rattle.field.specs.declared.index.Stream.the-variants.{Types}
 use Rattle.stream_finder.specs.Finder.{State, state}
-use Rattle.stream_finder.specs.Runs.{PremisesIn, Demand3In, NotIndexedIn, SharedIn}
+use Rattle.stream_finder.specs.OfRecords.{PremisesIn, Demand3In, NotIndexedIn, SharedIn}
 use Rattle.stream_finder.proofs.DemandProof.{demand3-in, not-indexed-in}
 use Rattle.stream_finder.proofs.SharedProof.{shared-in}
 use Rattle.stream_index.specs.declared.Tour.{Tour}
-use Rattle.stream_index.proofs.WalkedWhole.{turns-walked, run-premises}
+use Rattle.stream_index.proofs.WalkedWhole.{turns-walked, records-premises}
 use Rattle.section_item.specs.Sections.{first, sectionStart, countOf}
 use Rattle.section_item.proofs.SectionLaws.{counted, start-first}
-use Rattle.section_finder.specs.Finders.{sectionRun, sectionCreateBy, SectionWholeBy}
+use Rattle.section_finder.specs.Finders.{sectionRecords, sectionCreateBy, SectionWholeBy}
 use Rattle.section_finder.specs.Demand.{SectionPremises, SectionDemand3, SectionNotIndexed, SectionShared, SectionIndexed, OfSections}
 use Rattle.section_finder.proofs.FinderLaws.{created-in}
 
@@ -24,7 +24,7 @@ use Rattle.section_finder.proofs.FinderLaws.{created-in}
 short : (s : List ℕ) (n : ℕ) → countOf s ≡ answered n → length s ≤ longest
 short s n e = counted s n e .begun .short
 
-premises-in : (shift : ℕ) (s : List ℕ) (n : ℕ) (t : List ℕ) (N : ℕ) (τ : State) (d : ℕ) → SectionPremises shift s n t N τ d → PremisesIn shift Types s (sectionRun n) t N τ d
+premises-in : (shift : ℕ) (s : List ℕ) (n : ℕ) (t : List ℕ) (N : ℕ) (τ : State) (d : ℕ) → SectionPremises shift s n t N τ d → PremisesIn shift Types s (sectionRecords n) t N τ d
 premises-in shift s n t N τ d p = record {
   short = short s n (p .accepted);
   counts = omega (arith, p .counts);
@@ -38,15 +38,15 @@ premises-in shift s n t N τ d p = record {
 
 section-demand3 : SectionDemand3
 unfolding SectionDemand3 Demand3In
-section-demand3 shift small s n t N τ d p = demand3-in shift small Types s (sectionRun n) t N τ d (premises-in shift s n t N τ d p)
+section-demand3 shift small s n t N τ d p = demand3-in shift small Types s (sectionRecords n) t N τ d (premises-in shift s n t N τ d p)
 
 section-not-indexed : SectionNotIndexed
 unfolding SectionNotIndexed NotIndexedIn
-section-not-indexed shift small s n t N τ d p = not-indexed-in shift small Types s (sectionRun n) t N τ d (premises-in shift s n t N τ d p)
+section-not-indexed shift small s n t N τ d p = not-indexed-in shift small Types s (sectionRecords n) t N τ d (premises-in shift s n t N τ d p)
 
 section-shared : SectionShared
 unfolding SectionShared SharedIn
-section-shared shift small s n t σ τ e c w = shared-in shift small Types s (sectionRun n) t σ τ (short s n e) (created-in shift s t n σ e c) w
+section-shared shift small s n t σ τ e c w = shared-in shift small Types s (sectionRecords n) t σ τ (short s n e) (created-in shift s t n σ e c) w
 
 begun : (s : List ℕ) (n : ℕ) → countOf s ≡ answered n → sectionStart s ≡ answered first
 begun s n e = let k = counted s n e in start-first s (k .begun .short) (k .begun .four) (k .begun .signature)
@@ -55,8 +55,8 @@ section-indexed : SectionIndexed
 unfolding SectionIndexed
 section-indexed shift small s t n r t′ e l w d u =
     let c = created-in shift s t n (w .fresh) e (w .created) in
-    let p : PremisesIn shift Types s (sectionRun n) t (w .walks .turns) (state (r .finder) t′) d =
-    run-premises shift small Types s t (sectionRun n) (w .fresh) r t′ (short s n e) (omega arith) c (w .walks) d (omega arith) in
+    let p : PremisesIn shift Types s (sectionRecords n) t (w .walks .turns) (state (r .finder) t′) d =
+    records-premises shift small Types s t (sectionRecords n) (w .fresh) r t′ (short s n e) (omega arith) c (w .walks) d (omega arith) in
     record {
       accepted = e;
       counts = l;

@@ -7,14 +7,14 @@ use Rattle.answer.specs.Answer.{Answer, answered, then}
 use Rattle.stream_finder.specs.Finder.{State, begunIn}
 use Rattle.section_item.specs.Sections.{countOf}
 use Rattle.section_item.proofs.SectionLaws.{counted}
-use Rattle.section_finder.specs.Finders.{sectionRun, sectionCreateBy}
+use Rattle.section_finder.specs.Finders.{sectionRecords, sectionCreateBy}
 
-pub create-is : (shift : ℕ) (s t : List ℕ) (a : Answer ℕ) → countOf s ≡ a → sectionCreateBy shift s t ≡ then a (λ n. begunIn shift t (sectionRun n))
+pub create-is : (shift : ℕ) (s t : List ℕ) (a : Answer ℕ) → countOf s ≡ a → sectionCreateBy shift s t ≡ then a (λ n. begunIn shift t (sectionRecords n))
 unfolding sectionCreateBy
 create-is shift s t a e = rw e
 
--- a counted section's creation is that of its run
-pub created-in : (shift : ℕ) (s t : List ℕ) (n : ℕ) (σ : State) → countOf s ≡ answered n → sectionCreateBy shift s t ≡ answered σ → begunIn shift t (sectionRun n) ≡ answered σ
+-- a counted section's creation is that of its records
+pub created-in : (shift : ℕ) (s t : List ℕ) (n : ℕ) (σ : State) → countOf s ≡ answered n → sectionCreateBy shift s t ≡ answered σ → begunIn shift t (sectionRecords n) ≡ answered σ
 created-in shift s t n σ e c = sym (create-is shift s t (answered n) e) ∙ c
 
 -- 4096 plus the records is a u32

@@ -6,7 +6,7 @@ use mathlib.Core.List.{List}
 use Rattle.answer.specs.Answer.{Answer, answered, then}
 use Rattle.answer.specs.Refusals.{no}
 use Rattle.stream_finder.specs.Finder.{State, begunIn}
-use Rattle.stream_finder.specs.declared.Run.{Run}
+use Rattle.stream_finder.specs.declared.Records.{Records}
 use Rattle.stream_index.specs.Walk.{Walks}
 use Rattle.stream_index.specs.declared.Tour.{Tour}
 use Rattle.stream_index.specs.declared.IndexAnswer.{IndexAnswer}
@@ -14,12 +14,12 @@ use Rattle.stream_index.specs.declared.IndexAnswer.the-variants as walk
 use Rattle.section_item.specs.Sections.{first, countOf}
 
 -- "4 for header_size, 4096 for the minimum and 4096 plus the records for the maximum"
-abbrev pub sectionRun : ℕ → Run
-sectionRun n = record { start = 4; minimum = 4096; maximum = 4096 + n }
+abbrev pub sectionRecords : ℕ → Records
+sectionRecords n = record { start = 4; minimum = 4096; maximum = 4096 + n }
 
--- 16, 1, 25 and the iterator's own, while the records are counted; then a fresh finder of their run: 26, 13
+-- 16, 1, 25 and the iterator's own, while the records are counted; then a fresh finder of them: 26, 13
 unfoldable pub sectionCreateBy : ℕ → List ℕ → List ℕ → Answer State
-sectionCreateBy shift s t = then (countOf s) (λ n. begunIn shift t (sectionRun n))
+sectionCreateBy shift s t = then (countOf s) (λ n. begunIn shift t (sectionRecords n))
 
 -- without a shift it is 3
 abbrev pub sectionCreateOf : List ℕ → List ℕ → Answer State

@@ -7,7 +7,7 @@ use field::index::Stream;
 use section_item::FIRST;
 use section_item::START;
 use stream_finder::FinderAnswer;
-use stream_finder::Run;
+use stream_finder::Records;
 use stream_index::IndexAnswer;
 use stream_item::information::LenAnswer;
 use stream_item::iter::ItemIter;
@@ -25,12 +25,12 @@ pub fn create_by(s: &[u8], t: &mut [u32], shift: u32) -> FinderAnswer
 {
     match section_item::len(s) {
         LenAnswer::Answered(n) => {
-            let run = Run {
+            let records = Records {
                 start: START,
                 minimum: FIRST,
                 maximum: FIRST + n,
             };
-            stream_finder::begin(t, run, shift)
+            stream_finder::begin(t, records, shift)
         }
         LenAnswer::Refused(e) => FinderAnswer::Refused(e),
     }

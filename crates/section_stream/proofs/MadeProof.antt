@@ -33,7 +33,7 @@ use Rattle.write_header.specs.Headers.{headerFields, headerBytes, Narrow}
 use Rattle.write_header.proofs.HeaderBack.{header-reads-back}
 use Rattle.section_item.specs.Sections.{first, countOf}
 use Rattle.section_item.proofs.SectionLaws.{Counted, counted}
-use Rattle.section_finder.specs.Finders.{sectionRun}
+use Rattle.section_finder.specs.Finders.{sectionRecords}
 use Rattle.section_finder.specs.Demand.{SectionPremises, SectionDemand3}
 use Rattle.section_finder.proofs.DemandProof.{of-sections}
 use Rattle.section_stream.specs.Streams.{headerFor, streamBytes, sectionStream}
@@ -244,7 +244,7 @@ module _ (s : List ℕ) (n : ℕ) (e : countOf s ≡ answered n) (short : length
   unfolding Demand3Every Demand3By SectionDemand3
   agree shift N d t u σ τ small p q =
       demand3-every shift small Types (streamBytes n s) (headerFor n (length s - 4)) u N τ d q
-      ∙ looked-up s (streamBytes n s) (holdingIn (sectionRun n) shift (1 + N / 2 ^ shift)) d (hit-up s (streamBytes n s) h d)
+      ∙ looked-up s (streamBytes n s) (holdingIn (sectionRecords n) shift (1 + N / 2 ^ shift)) d (hit-up s (streamBytes n s) h d)
       ∙ ap upFound (sym (of-sections .demand3 shift small s n t N σ d p))
 
   made : SectionMade s (streamBytes n s) n

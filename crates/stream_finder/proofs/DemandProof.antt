@@ -1,4 +1,4 @@
--- Demand 3, over the shift and the run; a stream's is the run of its header. The invariant: after n turns the finder holds 1 + n / 2^shift places, each the start of its block, and the cursor stands on the chain.
+-- Demand 3, over the shift and the records; a stream's are those of its header. The invariant: after n turns the finder holds 1 + n / 2^shift places, each the start of its block, and the cursor stands on the chain.
 -- Assumes nothing.
 use Prim.Native.Nat.{ℕ, zero, suc, _+_, _-_, _*_, _/_, _%_, _^_, _≤_, _<_}
 use mathlib.Core.Path.{_≡_, refl, sym, ap, _∙_, subst}
@@ -26,13 +26,13 @@ use Rattle.field.specs.declared.index.ItemIndex.{ItemIndex}
 use Rattle.stream_item.specs.declared.iter.ItemIter.{ItemIter}
 use Rattle.stream_item.specs.declared.link.Hit.{Hit}
 use Rattle.stream_item.specs.declared.link.Hit.the-variants.{Landed, Missed}
-use Rattle.stream_finder.specs.Finder.{State, state, blockOf, runOf, holdingIn, begunIn, createBy, due, updateOf, after, Found, maxIndexOf, findOf}
+use Rattle.stream_finder.specs.Finder.{State, state, blockOf, headerRecords, holdingIn, begunIn, createBy, due, updateOf, after, Found, maxIndexOf, findOf}
 use Rattle.stream_finder.specs.Places.{Placed, Ready}
 use Rattle.stream_finder.specs.Demand.{Walked, none, more, gives, looked, Premises, Demand3By, Demand3Every, Demand3, numberGiven, NotIndexedBy, NotIndexedEvery, NotIndexed}
-use Rattle.stream_finder.specs.Runs.{startIn, PremisesIn, Demand3In, NotIndexedIn}
-use Rattle.stream_finder.specs.declared.Run.{Run}
+use Rattle.stream_finder.specs.OfRecords.{startIn, PremisesIn, Demand3In, NotIndexedIn}
+use Rattle.stream_finder.specs.declared.Records.{Records}
 use Rattle.stream_finder.specs.declared.ItemFinder.{ItemFinder}
-use Rattle.stream_finder.proofs.FinderLaws.{run-full, run-some, begun-is, create-is, Open, update-keeps, update-full, update-stores, due-yes, due-rest}
+use Rattle.stream_finder.proofs.FinderLaws.{begun-in-full, begun-in-some, begun-is, create-is, Open, update-keeps, update-full, update-stores, due-yes, due-rest}
 use Rattle.stream_finder.proofs.Accepted.{accepted}
 use Rattle.stream_finder.proofs.PlaceLaws.{OnChain, update-ind, placed-update, on-start, on-next, find-placed}
 
@@ -66,14 +66,14 @@ module _ (b n : ℕ) (z : 0 < b) where
       go false q = omega (arith, same-block (eqb-false _ _ q))
 
 -- ---- after n turns
-pub record Stage (shift : ℕ) (s : List ℕ) (r : Run) (t : List ℕ) (n : ℕ) (c : ItemIter) (τ : State) : Type 0 where
+pub record Stage (shift : ℕ) (s : List ℕ) (r : Records) (t : List ℕ) (n : ℕ) (c : ItemIter) (τ : State) : Type 0 where
   pub finder : τ .finder ≡ holdingIn r shift (1 + n / 2 ^ shift)
   pub room : length (τ .table) ≡ length t
   pub placed : Placed s (r .start) τ
   pub cursor : OnChain s (r .start) (r .minimum) c
   pub index : c .index ≡ r .minimum + n
 
-module _ (shift : ℕ) (small : shift ≤ 6) (s : List ℕ) (r : Run) (t : List ℕ) where
+module _ (shift : ℕ) (small : shift ≤ 6) (s : List ℕ) (r : Records) (t : List ℕ) where
   abbrev b : ℕ
   b = 2 ^ shift
 
@@ -180,28 +180,28 @@ module _ (shift : ℕ) (small : shift ≤ 6) (s : List ℕ) (r : Run) (t : List 
       turn n d ρ i c l (stages c₀ σ n d ρ g (omega arith) w) e
 
 -- ---- what is fresh
-pub fresh-finder : (shift : ℕ) (r : Run) (t : List ℕ) (σ : State) → shift ≤ 6 → r .minimum < r .maximum → 0 < length t → begunIn shift t r ≡ answered σ
+pub fresh-finder : (shift : ℕ) (r : Records) (t : List ℕ) (σ : State) → shift ≤ 6 → r .minimum < r .maximum → 0 < length t → begunIn shift t r ≡ answered σ
     → state (holdingIn r shift 1) (set t 0 (r .start)) ≡ σ
-fresh-finder shift r t σ z l o e = cc (run-some shift t r z l o)
+fresh-finder shift r t σ z l o e = cc (begun-in-some shift t r z l o)
 
 -- a creation that was answered had room
-pub fresh-room : (shift : ℕ) (r : Run) (t : List ℕ) (σ : State) → shift ≤ 6 → r .minimum < r .maximum → begunIn shift t r ≡ answered σ → 0 < length t
+pub fresh-room : (shift : ℕ) (r : Records) (t : List ℕ) (σ : State) → shift ≤ 6 → r .minimum < r .maximum → begunIn shift t r ≡ answered σ → 0 < length t
 fresh-room shift r t σ z l e = go (leb (length t) 0) refl
   where
     go : (x : Bool) → leb (length t) 0 ≡ x → 0 < length t
     go true q =
-        let full : begunIn shift t r ≡ refused 13 [] = run-full shift t r z l (leb-true _ _ q) in
+        let full : begunIn shift t r ≡ refused 13 [] = begun-in-full shift t r z l (leb-true _ _ q) in
         let w : _≡_ {A = ℕ} 0 1 = cc in
         absurd (omega arith)
     go false q = leb-false _ _ q
 
 -- the first stage of a finder that was begun with room
-pub stage-first : (shift : ℕ) (small : shift ≤ 6) (tag : Stream) (s : List ℕ) (r : Run) (t : List ℕ) (σ : State) → r .minimum < r .maximum → 0 < length t
+pub stage-first : (shift : ℕ) (small : shift ≤ 6) (tag : Stream) (s : List ℕ) (r : Records) (t : List ℕ) (σ : State) → r .minimum < r .maximum → 0 < length t
     → begunIn shift t r ≡ answered σ → Stage shift s r t 0 (startIn tag r) σ
 stage-first shift small tag s r t σ l o e =
     subst (λ (ρ : State). Stage shift s r t 0 (startIn tag r) ρ) (fresh-finder shift r t σ small l o e) (stage-none shift small s r t tag o)
 
--- ---- demand 3 of a run
+-- ---- demand 3 of any records
 
 pub demand3-in : (shift : ℕ) → shift ≤ 6 → Demand3In shift
 unfolding Demand3In
@@ -216,19 +216,19 @@ demand3-in shift small tag s r t N τ d p =
     subst (λ (f : ItemFinder). findOf s τ (indexIn tag (f .«minimum_index» + d)) ≡ looked tag s (r .start) f d) (g .finder)
     (find-placed tag s (r .start) τ d o (g .placed) (omega (arith, mi, ma, p .upto)))
 
--- ---- demand 3 of a stream: its run is its header's
+-- ---- demand 3 of a stream: its records are its header's
 
--- a stream's finder is begun on its run
+-- a stream's finder is begun on its records
 pub created-in : (shift : ℕ) (s : List ℕ) (h : Header) (t : List ℕ) (σ : State) → headerOf s ≡ answered h → createBy shift s t ≡ answered σ
-    → begunIn shift t (runOf h) ≡ answered σ
+    → begunIn shift t (headerRecords h) ≡ answered σ
 created-in shift s h t σ e c = sym (begun-is shift t h) ∙ sym (create-is shift s t (answered h) e) ∙ c
 
 -- and so is its iterator
-pub fresh-iter : (tag : Stream) (s : List ℕ) (h : Header) (c : ItemIter) → headerOf s ≡ answered h → iterOf tag s ≡ answered c → startIn tag (runOf h) ≡ c
+pub fresh-iter : (tag : Stream) (s : List ℕ) (h : Header) (c : ItemIter) → headerOf s ≡ answered h → iterOf tag s ≡ answered c → startIn tag (headerRecords h) ≡ c
 fresh-iter tag s h c e i = cc (iter-is tag s h e)
 
 pub premises-in : (shift : ℕ) (tag : Stream) (s : List ℕ) (h : Header) (t : List ℕ) (N : ℕ) (τ : State) (d : ℕ)
-    → Premises shift tag s h t N τ d → PremisesIn shift tag s (runOf h) t N τ d
+    → Premises shift tag s h t N τ d → PremisesIn shift tag s (headerRecords h) t N τ d
 premises-in shift tag s h t N τ d p = record {
   short = accepted s h (p .accepted) (p .counts) .short;
   counts = p .counts;
@@ -242,7 +242,7 @@ premises-in shift tag s h t N τ d p = record {
 
 pub demand3-every : Demand3Every
 unfolding Demand3Every Demand3By Demand3In
-demand3-every shift small tag s h t N τ d p = demand3-in shift small tag s (runOf h) t N τ d (premises-in shift tag s h t N τ d p)
+demand3-every shift small tag s h t N τ d p = demand3-in shift small tag s (headerRecords h) t N τ d (premises-in shift tag s h t N τ d p)
 
 pub demand3 : Demand3
 unfolding Demand3 Demand3Every
@@ -266,7 +266,7 @@ not-indexed-in shift small tag s r t N τ d p =
 
 pub not-indexed-every : NotIndexedEvery
 unfolding NotIndexedEvery NotIndexedBy NotIndexedIn
-not-indexed-every shift small tag s h t N τ d p = not-indexed-in shift small tag s (runOf h) t N τ d (premises-in shift tag s h t N τ d p)
+not-indexed-every shift small tag s h t N τ d p = not-indexed-in shift small tag s (headerRecords h) t N τ d (premises-in shift tag s h t N τ d p)
 
 pub not-indexed : NotIndexed
 unfolding NotIndexed NotIndexedEvery

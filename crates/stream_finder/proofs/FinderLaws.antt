@@ -17,44 +17,44 @@ use Rattle.stream_item.specs.Links.{linkOf}
 use Rattle.field.specs.declared.index.ItemIndex.{ItemIndex}
 use Rattle.stream_item.specs.declared.Entry.the-variants as entry
 use Rattle.stream_item.specs.declared.iter.ItemIter.{ItemIter}
-use Rattle.stream_finder.specs.Finder.{State, state, blockOf, runOf, holdingIn, holding, begunIn, begunBy, createBy, due, stored, updateOf, Found, maxIndexOf, landed, lookOf, findOf, saidFinder, finderOf, tableAfter, Fills}
+use Rattle.stream_finder.specs.Finder.{State, state, blockOf, headerRecords, holdingIn, holding, begunIn, begunBy, createBy, due, stored, updateOf, Found, maxIndexOf, landed, lookOf, findOf, saidFinder, finderOf, tableAfter, Fills}
 use Rattle.stream_finder.specs.Places.{Ready}
-use Rattle.stream_finder.specs.declared.Run.{Run}
+use Rattle.stream_finder.specs.declared.Records.{Records}
 use Rattle.stream_finder.specs.declared.ItemFinder.{ItemFinder}
 use Rattle.stream_finder.specs.declared.FinderAnswer.{FinderAnswer}
 
 -- ---- creation
-module _ (shift : ℕ) (t : List ℕ) (r : Run) where
-  pub run-shift : 6 < shift → begunIn shift t r ≡ refused 26 []
-  run-shift a = simp (lt-ltb _ _ a)
+module _ (shift : ℕ) (t : List ℕ) (r : Records) where
+  pub begun-in-shift : 6 < shift → begunIn shift t r ≡ refused 26 []
+  begun-in-shift a = simp (lt-ltb _ _ a)
 
-  pub run-none : shift ≤ 6 → r .maximum ≤ r .minimum → begunIn shift t r ≡ answered (state (holdingIn r shift 0) t)
-  run-none a b = simp (le-ltb _ _ a, le-ltb _ _ b)
+  pub begun-in-none : shift ≤ 6 → r .maximum ≤ r .minimum → begunIn shift t r ≡ answered (state (holdingIn r shift 0) t)
+  begun-in-none a b = simp (le-ltb _ _ a, le-ltb _ _ b)
 
-  pub run-full : shift ≤ 6 → r .minimum < r .maximum → length t ≤ 0 → begunIn shift t r ≡ refused 13 []
-  run-full a b l = simp (le-ltb _ _ a, lt-ltb _ _ b, le-leb _ _ l)
+  pub begun-in-full : shift ≤ 6 → r .minimum < r .maximum → length t ≤ 0 → begunIn shift t r ≡ refused 13 []
+  begun-in-full a b l = simp (le-ltb _ _ a, lt-ltb _ _ b, le-leb _ _ l)
 
-  pub run-some : shift ≤ 6 → r .minimum < r .maximum → 0 < length t → begunIn shift t r ≡ answered (state (holdingIn r shift 1) (set t 0 (r .start)))
-  run-some a b l = simp (le-ltb _ _ a, lt-ltb _ _ b, lt-leb _ _ l)
+  pub begun-in-some : shift ≤ 6 → r .minimum < r .maximum → 0 < length t → begunIn shift t r ≡ answered (state (holdingIn r shift 1) (set t 0 (r .start)))
+  begun-in-some a b l = simp (le-ltb _ _ a, lt-ltb _ _ b, lt-leb _ _ l)
 
 -- of a header's stream
 module _ (shift : ℕ) (t : List ℕ) (h : Header) where
-  pub begun-is : begunBy shift t h ≡ begunIn shift t (runOf h)
+  pub begun-is : begunBy shift t h ≡ begunIn shift t (headerRecords h)
   unfolding begunBy
   begun-is = refl
 
   pub begun-shift : 6 < shift → begunBy shift t h ≡ refused 26 []
-  begun-shift a = begun-is ∙ run-shift shift t (runOf h) a
+  begun-shift a = begun-is ∙ begun-in-shift shift t (headerRecords h) a
 
   pub begun-none : shift ≤ 6 → h .«maximum_index» ≤ h .«minimum_index» → begunBy shift t h ≡ answered (state (holding h shift 0) t)
-  begun-none a b = begun-is ∙ run-none shift t (runOf h) a b
+  begun-none a b = begun-is ∙ begun-in-none shift t (headerRecords h) a b
 
   pub begun-full : shift ≤ 6 → h .«minimum_index» < h .«maximum_index» → length t ≤ 0 → begunBy shift t h ≡ refused 13 []
-  begun-full a b l = begun-is ∙ run-full shift t (runOf h) a b l
+  begun-full a b l = begun-is ∙ begun-in-full shift t (headerRecords h) a b l
 
   pub begun-some : shift ≤ 6 → h .«minimum_index» < h .«maximum_index» → 0 < length t
       → begunBy shift t h ≡ answered (state (holding h shift 1) (set t 0 (h .«header_size»)))
-  begun-some a b l = begun-is ∙ run-some shift t (runOf h) a b l
+  begun-some a b l = begun-is ∙ begun-in-some shift t (headerRecords h) a b l
 
 pub create-is : (shift : ℕ) (s t : List ℕ) (a : Answer Header) → headerOf s ≡ a → createBy shift s t ≡ then a (begunBy shift t)
 unfolding createBy

@@ -1,4 +1,4 @@
--- Cursors that share a finder, over the shift and the run: the invariant is that of demand 3 without the count. Assumes nothing.
+-- Cursors that share a finder, over the shift and the records: the invariant is that of demand 3 without the count. Assumes nothing.
 use Prim.Native.Nat.{ℕ, _+_, _*_, _/_, _%_, _≤_, _<_}
 use mathlib.Core.Bool.{Bool, true, false}
 use mathlib.Core.Path.{_≡_, refl, sym, ap, subst, _∙_}
@@ -16,14 +16,14 @@ use Rattle.stream_item.specs.Iterator.{Next, done, yielded, nextOf}
 use Rattle.field.specs.declared.index.Stream.{Stream}
 use Rattle.stream_item.specs.declared.iter.ItemIter.{ItemIter}
 use Rattle.stream_item.proofs.NextLaws.{passed}
-use Rattle.stream_finder.specs.Finder.{State, state, blockOf, runOf, holdingIn, begunIn, updateOf, after, maxIndexOf, Found, findOf}
+use Rattle.stream_finder.specs.Finder.{State, state, blockOf, headerRecords, holdingIn, begunIn, updateOf, after, maxIndexOf, Found, findOf}
 use Rattle.stream_finder.specs.Places.{Placed}
 use Rattle.stream_finder.specs.Demand.{looked, numberGiven}
-use Rattle.stream_finder.specs.Runs as runs
-use Rattle.stream_finder.specs.Runs.{iterAfter, RoamedIn, UpdatedIn, SharedIn, OfRuns}
+use Rattle.stream_finder.specs.OfRecords as any
+use Rattle.stream_finder.specs.OfRecords.{iterAfter, RoamedIn, UpdatedIn, SharedIn, OfRecords}
 use Rattle.stream_finder.specs.Shared.{Roamed, begun, called, Updated, untouched, by, SharedBy, Shared}
-use Rattle.stream_finder.specs.declared.Run.{Run}
-use Rattle.stream_finder.proofs.FinderLaws.{run-none}
+use Rattle.stream_finder.specs.declared.Records.{Records}
+use Rattle.stream_finder.proofs.FinderLaws.{begun-in-none}
 use Rattle.stream_finder.proofs.PlaceLaws.{OnChain, update-ind, placed-update, on-start, on-next, find-placed}
 use Rattle.stream_finder.proofs.DemandProof.{looked-number, begun-placed, fresh-finder, fresh-room, fresh-iter, created-in, demand3-in, not-indexed-in}
 
@@ -34,22 +34,22 @@ on-call s p m c (answered done) e on = on
 on-call s p m c (answered (yielded i d)) e on = on-next s p m c i d on e
 on-call s p m c (refused n x) e on = on
 
-roamed : (s : List ℕ) (r : Run) (c : ItemIter) → RoamedIn s r c → OnChain s (r .start) (r .minimum) c
-roamed s r c (runs.begun tag) = on-start tag s (r .start) (r .minimum)
-roamed s r c (runs.called {c = d} w) = on-call s (r .start) (r .minimum) d (nextOf s d) refl (roamed s r d w)
+roamed : (s : List ℕ) (r : Records) (c : ItemIter) → RoamedIn s r c → OnChain s (r .start) (r .minimum) c
+roamed s r c (any.begun tag) = on-start tag s (r .start) (r .minimum)
+roamed s r c (any.called {c = d} w) = on-call s (r .start) (r .minimum) d (nextOf s d) refl (roamed s r d w)
 
 -- ---- what every update keeps
 
-pub record Kept (shift : ℕ) (s : List ℕ) (r : Run) (τ : State) : Type 0 where
+pub record Kept (shift : ℕ) (s : List ℕ) (r : Records) (τ : State) : Type 0 where
   pub minimum : τ .finder .«minimum_index» ≡ r .minimum
   pub maximum : τ .finder .«maximum_index» ≡ r .maximum
   pub shift-is : τ .finder .shift ≡ shift
   pub held : τ .finder .held ≤ length (τ .table)
   pub placed : Placed s (r .start) τ
 
-updated : (shift : ℕ) (s : List ℕ) (r : Run) (σ τ : State) → Kept shift s r σ → UpdatedIn s r σ τ → Kept shift s r τ
-updated shift s r σ τ k runs.untouched = k
-updated shift s r σ τ k (runs.by {τ = ρ} {c = c} w o) = step (updated shift s r σ ρ k w)
+updated : (shift : ℕ) (s : List ℕ) (r : Records) (σ τ : State) → Kept shift s r σ → UpdatedIn s r σ τ → Kept shift s r τ
+updated shift s r σ τ k any.untouched = k
+updated shift s r σ τ k (any.by {τ = ρ} {c = c} w o) = step (updated shift s r σ ρ k w)
   where
     step : Kept shift s r ρ → Kept shift s r (after ρ (updateOf ρ c))
     step g = record {
@@ -60,9 +60,9 @@ updated shift s r σ τ k (runs.by {τ = ρ} {c = c} w o) = step (updated shift 
       placed = placed-update s (r .start) ρ c (g .placed) (subst (λ (m : ℕ). OnChain s (r .start) m c) (sym (g .minimum)) (roamed s r c o));
     }
 
--- ---- what is fresh: one place, or none where the run counts no record
+-- ---- what is fresh: one place, or none where there is no record
 
-module _ (shift : ℕ) (s : List ℕ) (r : Run) (t : List ℕ) (σ : State) (small : shift ≤ 6) (new : begunIn shift t r ≡ answered σ) where
+module _ (shift : ℕ) (s : List ℕ) (r : Records) (t : List ℕ) (σ : State) (small : shift ≤ 6) (new : begunIn shift t r ≡ answered σ) where
   some-kept : r .minimum < r .maximum → Kept shift s r σ
   some-kept l =
       let room : 0 < length t = fresh-room shift r t σ small l new in
@@ -71,7 +71,7 @@ module _ (shift : ℕ) (s : List ℕ) (r : Run) (t : List ℕ) (σ : State) (sma
 
   none-kept : r .maximum ≤ r .minimum → Kept shift s r σ
   none-kept l =
-      let b : state (holdingIn r shift 0) t ≡ σ = cc (run-none shift t r small l) in
+      let b : state (holdingIn r shift 0) t ≡ σ = cc (begun-in-none shift t r small l) in
       subst (λ (ρ : State). Kept shift s r ρ) b
       (record { minimum = refl; maximum = refl; shift-is = refl; held = omega arith; placed = λ k lt. absurd (omega arith) })
 
@@ -82,7 +82,7 @@ module _ (shift : ℕ) (s : List ℕ) (r : Run) (t : List ℕ) (σ : State) (sma
       go true q = some-kept (ltb-true _ _ q)
       go false q = none-kept (ltb-false _ _ q)
 
--- ---- R-11 of a run
+-- ---- R-11 of any records
 
 pub shared-in : (shift : ℕ) → shift ≤ 6 → SharedIn shift
 unfolding SharedIn
@@ -102,15 +102,15 @@ shared-in shift small tag s r t σ τ short new w = record {
         subst (λ (m : ℕ). findOf s τ (indexIn tag (m + d)) ≡ looked tag s (r .start) (τ .finder) d) (k .minimum)
         (find-placed tag s (r .start) τ d (record { short = short; shift = omega (arith, k .shift-is); held = k .held }) (k .placed) (omega (arith, k .minimum, k .maximum)))
 
--- ---- R-11 of a stream: its cursors are those of its header's run
+-- ---- R-11 of a stream: its cursors are those of its header's records
 
-roamed-in : (s : List ℕ) (h : Header) (c : ItemIter) → headerOf s ≡ answered h → Roamed s c → RoamedIn s (runOf h) c
-roamed-in s h c e (begun tag q) = subst (λ (x : ItemIter). RoamedIn s (runOf h) x) (fresh-iter tag s h c e q) (runs.begun tag)
-roamed-in s h c e (called {c = d} w) = runs.called (roamed-in s h d e w)
+roamed-in : (s : List ℕ) (h : Header) (c : ItemIter) → headerOf s ≡ answered h → Roamed s c → RoamedIn s (headerRecords h) c
+roamed-in s h c e (begun tag q) = subst (λ (x : ItemIter). RoamedIn s (headerRecords h) x) (fresh-iter tag s h c e q) (any.begun tag)
+roamed-in s h c e (called {c = d} w) = any.called (roamed-in s h d e w)
 
-updated-in : (s : List ℕ) (h : Header) (σ τ : State) → headerOf s ≡ answered h → Updated s σ τ → UpdatedIn s (runOf h) σ τ
-updated-in s h σ τ e untouched = runs.untouched
-updated-in s h σ τ e (by {τ = ρ} {c = c} w o) = runs.by (updated-in s h σ ρ e w) (roamed-in s h c e o)
+updated-in : (s : List ℕ) (h : Header) (σ τ : State) → headerOf s ≡ answered h → Updated s σ τ → UpdatedIn s (headerRecords h) σ τ
+updated-in s h σ τ e untouched = any.untouched
+updated-in s h σ τ e (by {τ = ρ} {c = c} w o) = any.by (updated-in s h σ ρ e w) (roamed-in s h c e o)
 
 accepted-short : (s : List ℕ) (h : Header) → headerOf s ≡ answered h → length s ≤ longest
 unfolding headerOf
@@ -119,7 +119,7 @@ accepted-short s h e = ltb-false _ _ (passed (ltb longest (length s)) 16 _ _ e .
 pub shared : Shared
 unfolding Shared SharedBy SharedIn
 shared shift small tag s h t σ τ e new w =
-    shared-in shift small tag s (runOf h) t σ τ (accepted-short s h e) (created-in shift s h t σ e new) (updated-in s h σ τ e w)
+    shared-in shift small tag s (headerRecords h) t σ τ (accepted-short s h e) (created-in shift s h t σ e new) (updated-in s h σ τ e w)
 
-pub of-runs : OfRuns
-of-runs = record { demand3 = demand3-in; not-indexed = not-indexed-in; shared = shared-in }
+pub of-records : OfRecords
+of-records = record { demand3 = demand3-in; not-indexed = not-indexed-in; shared = shared-in }

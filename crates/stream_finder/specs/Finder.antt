@@ -18,7 +18,7 @@ use Rattle.stream_item.specs.declared.Entry.the-variants as entry
 use Rattle.stream_item.specs.declared.iter.ItemIter.{ItemIter}
 use Rattle.stream_item.specs.declared.link.Hit.{Hit}
 use Rattle.stream_item.specs.declared.link.Hit.the-variants.{Landed, Missed}
-use Rattle.stream_finder.specs.declared.Run.{Run}
+use Rattle.stream_finder.specs.declared.Records.{Records}
 use Rattle.stream_finder.specs.declared.ItemFinder.{ItemFinder}
 use Rattle.stream_finder.specs.declared.FinderAnswer.{FinderAnswer}
 use Rattle.stream_finder.specs.declared.FinderAnswer.the-variants as finder
@@ -43,20 +43,20 @@ distance f n = n - f .«minimum_index»
 
 -- ---- creation
 
--- a run of records has three numbers: where link 0 starts, the least index, and the one behind the last. A stream's are its header's
-abbrev pub runOf : Header → Run
-runOf h = record { start = h .«header_size»; minimum = h .«minimum_index»; maximum = h .«maximum_index» }
+-- records are three numbers to a finder: where link 0 starts, the least index, and the one behind the last. A stream's are its header's
+abbrev pub headerRecords : Header → Records
+headerRecords h = record { start = h .«header_size»; minimum = h .«minimum_index»; maximum = h .«maximum_index» }
 
--- the finder of a run that has this shift and holds n places
-abbrev pub holdingIn : Run → ℕ → ℕ → ItemFinder
+-- the finder of these records that has this shift and holds n places
+abbrev pub holdingIn : Records → ℕ → ℕ → ItemFinder
 holdingIn r shift n = record { «minimum_index» = r .minimum; «maximum_index» = r .maximum; held = n; shift = shift }
 
 -- that of a header's stream
 abbrev pub holding : Header → ℕ → ℕ → ItemFinder
-holding h = holdingIn (runOf h)
+holding h = holdingIn (headerRecords h)
 
 -- 26 whether or not there are records; then where link 0 starts in place 0 if the count is positive (13 if there is no room), else none
-abbrev pub begunIn : ℕ → List ℕ → Run → Answer State
+abbrev pub begunIn : ℕ → List ℕ → Records → Answer State
 begunIn shift t r =
     stop (ltb 6 shift) 26
     (pick (ltb (r .minimum) (r .maximum))
@@ -65,7 +65,7 @@ begunIn shift t r =
 
 -- of a header's stream: header_size in place 0
 unfoldable pub begunBy : ℕ → List ℕ → Header → Answer State
-begunBy shift t h = begunIn shift t (runOf h)
+begunBy shift t h = begunIn shift t (headerRecords h)
 
 -- 16, the header's own, 26, then 13
 unfoldable pub createBy : ℕ → List ℕ → List ℕ → Answer State

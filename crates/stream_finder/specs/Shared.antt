@@ -10,8 +10,8 @@ use Rattle.stream_header.specs.declared.Header.{Header}
 use Rattle.stream_item.specs.Iterator.{iterOf, nextOf}
 use Rattle.field.specs.declared.index.Stream.{Stream}
 use Rattle.stream_item.specs.declared.iter.ItemIter.{ItemIter}
-use Rattle.stream_finder.specs.Finder.{State, runOf, createBy, updateOf, after}
-use Rattle.stream_finder.specs.Runs.{iterAfter, ServesIn}
+use Rattle.stream_finder.specs.Finder.{State, headerRecords, createBy, updateOf, after}
+use Rattle.stream_finder.specs.OfRecords.{iterAfter, ServesIn}
 
 -- a cursor that was started fresh on the stream and advanced by `next` alone
 pub data Roamed (s : List ℕ) : ItemIter → Type 0 where
@@ -25,7 +25,7 @@ pub data Updated (s : List ℕ) (σ : State) : State → Type 0 where
 
 -- what is then true of the state, h being the stream's header
 abbrev pub Serves : Stream → List ℕ → Header → State → Type 0
-Serves tag s h = ServesIn tag s (runOf h)
+Serves tag s h = ServesIn tag s (headerRecords h)
 
 unfoldable pub SharedBy : ℕ → Type 0
 SharedBy shift =

@@ -34,9 +34,9 @@ pub const SHIFT: u32 = 3;
 // The largest shift: blocks of 64 links.
 const LARGEST_SHIFT: u32 = 6;
 
-// A run of records, by three numbers: where its first link starts, the least index, and the index behind the last. A stream's are its
-// header's.
-pub struct Run {
+// The records that a finder is made for, by three numbers: where their first link starts, the least index, and the index behind the last. A
+// stream's are its header's.
+pub struct Records {
     pub start: u32,
     pub minimum: u32,
     pub maximum: u32,
@@ -75,19 +75,19 @@ pub fn create_by(s: &[u8], t: &mut [u32], shift: u32) -> FinderAnswer
 {
     match Header::parse(s) {
         HeaderAnswer::Answered(h) => {
-            let run = Run {
+            let records = Records {
                 start: h.header_size,
                 minimum: h.minimum_index,
                 maximum: h.maximum_index,
             };
-            begin(t, run, shift)
+            begin(t, records, shift)
         }
         HeaderAnswer::Refused(e) => FinderAnswer::Refused(e),
     }
 }
 
-// A fresh finder of a run of records: what is fresh is the same wherever the run starts.
-pub fn begin(t: &mut [u32], records: Run, shift: u32) -> FinderAnswer
+// A fresh finder of any records: what is fresh is the same wherever they start.
+pub fn begin(t: &mut [u32], records: Records, shift: u32) -> FinderAnswer
     ensures { λ r. ⌜ Fills (now (t .entry)) (begunIn shift (now (t .entry)) records) r (now (t .exit)) ⌝ }
 {
     let minimum = records.minimum;

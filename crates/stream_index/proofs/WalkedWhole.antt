@@ -11,11 +11,11 @@ use Rattle.stream_header.specs.Header.{longest, headerOf}
 use Rattle.stream_header.specs.declared.Header.{Header}
 use Rattle.field.specs.declared.index.Stream.{Stream}
 use Rattle.stream_item.specs.declared.iter.ItemIter.{ItemIter}
-use Rattle.stream_finder.specs.Finder.{State, state, runOf, holdingIn, holding, begunIn, updateOf, after}
+use Rattle.stream_finder.specs.Finder.{State, state, headerRecords, holdingIn, holding, begunIn, updateOf, after}
 use Rattle.stream_finder.specs.Demand as demand
 use Rattle.stream_finder.specs.Demand.{Walked, Premises}
-use Rattle.stream_finder.specs.Runs.{startIn, PremisesIn}
-use Rattle.stream_finder.specs.declared.Run.{Run}
+use Rattle.stream_finder.specs.OfRecords.{startIn, PremisesIn}
+use Rattle.stream_finder.specs.declared.Records.{Records}
 use Rattle.stream_finder.proofs.Accepted.{accepted}
 use Rattle.stream_finder.proofs.DemandProof.{Stage, stage-first, turn, turn-room, fresh-room, fresh-iter, created-in}
 use Rattle.stream_index.specs.Walk.{Turns, none, more, Walks, WholeBy}
@@ -33,11 +33,11 @@ turns-walked s c σ (suc n) d τ (more {d = d₀} {τ = τ₀} w e) =
     subst (λ (ρ : State). Walked s c σ (suc n) d ρ) (settled τ₀ τ d (m .update)) (demand.more (turns-walked s c σ n d₀ τ₀ w) (m .yield))
 
 -- after n turns, with the room that they had
-record Stood (shift : ℕ) (s : List ℕ) (r : Run) (t : List ℕ) (n : ℕ) (c : ItemIter) (τ : State) : Type 0 where
+record Stood (shift : ℕ) (s : List ℕ) (r : Records) (t : List ℕ) (n : ℕ) (c : ItemIter) (τ : State) : Type 0 where
   pub stage : Stage shift s r t n c τ
   pub room : 1 + n / 2 ^ shift ≤ length t
 
-stood : (shift : ℕ) (small : shift ≤ 6) (s : List ℕ) (r : Run) (t : List ℕ) (c : ItemIter) (σ : State) (n : ℕ) (d : ItemIter) (τ : State)
+stood : (shift : ℕ) (small : shift ≤ 6) (s : List ℕ) (r : Records) (t : List ℕ) (c : ItemIter) (σ : State) (n : ℕ) (d : ItemIter) (τ : State)
     → Stood shift s r t 0 c σ → Turns s c σ n d τ → Stood shift s r t n d τ
 stood shift small s r t c σ zero d τ g none = g
 stood shift small s r t c σ (suc n) d τ g (more {d = d₀} {τ = τ₀} w e) = step (stood shift small s r t c σ n d₀ τ₀ g w) (turn-back s τ₀ d₀ τ d e)
@@ -50,8 +50,8 @@ stood shift small s r t c σ (suc n) d τ g (more {d = d₀} {τ = τ₀} w e) =
           room = o;
         }
 
--- ---- the two theorems, over a walk of a run from what is fresh, with any shift from 0 to 6
-module _ (shift : ℕ) (small : shift ≤ 6) (tag : Stream) (s t : List ℕ) (r : Run) (σ : State) (q : Tour) (t′ : List ℕ)
+-- ---- the two theorems, over a walk of any records from what is fresh, with any shift from 0 to 6
+module _ (shift : ℕ) (small : shift ≤ 6) (tag : Stream) (s t : List ℕ) (r : Records) (σ : State) (q : Tour) (t′ : List ℕ)
     (short : length s ≤ longest) (l : r .minimum < r .maximum) (new : begunIn shift t r ≡ answered σ) (w : Walks s (startIn tag r) σ q t′) where
   first-stood : Stood shift s r t 0 (startIn tag r) σ
   first-stood =
@@ -62,12 +62,12 @@ module _ (shift : ℕ) (small : shift ≤ 6) (tag : Stream) (s t : List ℕ) (r 
   last-stood = stood shift small s r t (startIn tag r) σ (w .turns) (q .cursor) (state (q .finder) t′) first-stood (w .led)
 
   -- a walk of N turns holds 1 + N / 2^shift places
-  pub run-holds : q .finder ≡ holdingIn r shift (1 + w .turns / 2 ^ shift)
-  run-holds = last-stood .stage .finder
+  pub records-hold : q .finder ≡ holdingIn r shift (1 + w .turns / 2 ^ shift)
+  records-hold = last-stood .stage .finder
 
   -- and meets the premises of demand 3
-  pub run-premises : (d : ℕ) → r .minimum + d ≤ r .maximum → PremisesIn shift tag s r t (w .turns) (state (q .finder) t′) d
-  run-premises d u = record {
+  pub records-premises : (d : ℕ) → r .minimum + d ≤ r .maximum → PremisesIn shift tag s r t (w .turns) (state (q .finder) t′) d
+  records-premises d u = record {
     short = short;
     counts = l;
     room = last-stood .room;
@@ -78,10 +78,10 @@ module _ (shift : ℕ) (small : shift ≤ 6) (tag : Stream) (s t : List ℕ) (r 
     upto = u;
   }
 
--- ---- of a stream: its run is its header's
+-- ---- of a stream: its records are its header's
 module _ (shift : ℕ) (small : shift ≤ 6) (tag : Stream) (s t : List ℕ) (h : Header) (r : Tour) (t′ : List ℕ)
     (e : headerOf s ≡ answered h) (l : h .«minimum_index» < h .«maximum_index») (w : WholeBy shift tag s t r t′) where
-  new : begunIn shift t (runOf h) ≡ answered (w .fresh)
+  new : begunIn shift t (headerRecords h) ≡ answered (w .fresh)
   new = created-in shift s h t (w .fresh) e (w .created)
 
   short : length s ≤ longest
@@ -90,7 +90,7 @@ module _ (shift : ℕ) (small : shift ≤ 6) (tag : Stream) (s t : List ℕ) (h 
   -- a walk of N turns holds 1 + N / 2^shift places
   pub walk-holds : r .finder ≡ holding h shift (1 + w .walks .turns / 2 ^ shift)
   walk-holds = subst (λ (c : ItemIter). (v : Walks s c (w .fresh) r t′) → r .finder ≡ holding h shift (1 + v .turns / 2 ^ shift)) (fresh-iter tag s h (w .first) e (w .begun))
-      (λ v. run-holds shift small tag s t (runOf h) (w .fresh) r t′ short l new v) (w .walks)
+      (λ v. records-hold shift small tag s t (headerRecords h) (w .fresh) r t′ short l new v) (w .walks)
 
   -- and meets the premises of demand 3
   pub walk-premises : (d : ℕ) → h .«minimum_index» + d ≤ h .«maximum_index» → Premises shift tag s h t (w .walks .turns) (state (r .finder) t′) d
@@ -98,7 +98,7 @@ module _ (shift : ℕ) (small : shift ≤ 6) (tag : Stream) (s t : List ℕ) (h 
     accepted = e;
     counts = l;
     room = subst (λ (c : ItemIter). (v : Walks s c (w .fresh) r t′) → 1 + v .turns / 2 ^ shift ≤ length t) (fresh-iter tag s h (w .first) e (w .begun))
-        (λ v. run-premises shift small tag s t (runOf h) (w .fresh) r t′ short l new v d u .room) (w .walks);
+        (λ v. records-premises shift small tag s t (headerRecords h) (w .fresh) r t′ short l new v d u .room) (w .walks);
     fresh = w .fresh;
     created = w .created;
     first = w .first;

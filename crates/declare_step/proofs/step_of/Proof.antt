@@ -10,7 +10,7 @@ use Rattle.declare_step.proofs.step_of.Lts as lts
 use Rattle.declare_node.proofs.node_of.Reads as node-of-reads
 use Rattle.declare_step.proofs.no_quals.Reads as no-quals-reads
 use Rattle.declare_step.proofs.open.Reads as open-reads
-use Rattle.declare_step.proofs.primitive_piece.Reads as primitive-piece-reads
+use Rattle.declare_step.proofs.primitive_token.Reads as primitive-token-reads
 use Rattle.declare_step.proofs.union_of.Reads as union-of-reads
 
 node-of-requires : tie.Need-node-of-requires
@@ -19,11 +19,11 @@ node-of-requires c κs = search needs
 enum-known-k : tie.Need-enum-known-k
 enum-known-k c = search needs
 
-primitive-piece-requires : tie.Need-primitive-piece-requires
-primitive-piece-requires c κs = search needs
+primitive-token-requires : tie.Need-primitive-token-requires
+primitive-token-requires c κs = search needs
 
 returns : tie.Need-returns
-returns c = step-is _ _ _ _ _ _ _ (c .before .before .before .before .node-of .ensures) (c .before .before .k .given .1) (ap step.Last (c .primitive-piece .ensures))
+returns c = step-is _ _ _ _ _ _ _ (c .before .before .before .before .node-of .ensures) (c .before .before .k .given .1) (ap step.Last (c .primitive-token .ensures))
 
 enum-known-p : tie.Need-enum-known-p
 enum-known-p c = search needs
@@ -85,7 +85,7 @@ step-of-spec =
     (tie.spec
     node-of-requires
     enum-known-k
-    primitive-piece-requires
+    primitive-token-requires
     returns
     enum-known-p
     returns-2

@@ -22,7 +22,7 @@ use Rattle.declare_walk.proofs.measure_declarator.Kinds as declarator-k
 use Rattle.declare_walk.proofs.+measure_arguments+measure_declarator.Lts-measure_declarator as declarator-lts
 use Rattle.declare_node.proofs.index_at.Reads as index-at-reads
 use Rattle.declare_node.proofs.list_of.Reads as list-of-reads
-use Rattle.declare_piece.proofs.len.Reads as len-reads
+use Rattle.declare_token.proofs.len.Reads as len-reads
 use Rattle.declare_step.proofs.start.Reads as start-reads
 use Rattle.declare_step.proofs.step_of.Reads as step-of-reads
 use Rattle.declare_walk.proofs.+measure_arguments+measure_declarator.{statement}

@@ -1,4 +1,4 @@
--- `section_finder::create_by` meets its contract: the count's own refusal, or the finder begun on the section's run. Assumes nothing.
+-- `section_finder::create_by` meets its contract: the count's own refusal, or the finder begun on the section's records. Assumes nothing.
 use borrow.Author.Needs.{needs}
 use native.Mathlib.Omega.{arith}
 use mathlib.Core.Path.{refl}
