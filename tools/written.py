@@ -43,6 +43,17 @@ def around(had, wanted, before):
     return (f"`{'..' if at > before else ''}{line[max(0, at - before):at + 60]}{'..' if len(line) > at + 60 else ''}`" for line in (had, wanted))
 
 
+def number_held(path, before, after, number, write):
+    """Holds a number that a paper says between two texts to what was counted, or writes it: a line, or none."""
+    text = text_of(path)
+    found = re.search(re.escape(before) + r"([\d,]+)" + re.escape(after), text)
+    if not found:
+        return [f"{path} does not say `{before}{number:,}{after}`"]
+    if write:
+        return held(path, text[:found.start(1)] + f"{number:,}" + text[found.end(1):], True)
+    return [] if found[1] == f"{number:,}" else [f"{path} says `{found[0]}`, and there are {number:,}"]
+
+
 def held(path, wanted, write, laid_out=False, by=""):
     """Writes a file, or says where it is not what is wanted, and which tool writes it (`by`, or this one): a line, or none. Of a file that `rt fmt` lays out,
     which is antt, only words and comments count."""

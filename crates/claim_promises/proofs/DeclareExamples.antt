@@ -18,11 +18,11 @@ use Rattle.stream_header.specs.Header.{headerOf}
 use Rattle.stream_item.specs.Links.{linkAt, chain, linkOf}
 use Rattle.stream_finder.specs.Finder.{begunBy, createBy, lookOf}
 use Rattle.declare_word.specs.Spellings.{kindText, byText, modeText, wordsOf}
-use Rattle.declare_node.specs.Looked.{declaredLeaves, listLeaves, bytesSeen, recordSeen, typeSeen, listSeen}
-use Rattle.declare_node.specs.Nodes.{classes, sizedIn, sizeThrough, extentOf, nodeIn, nodeOf, listOf, indexAt}
-use Rattle.declare_token.specs.Tokens.{decimal, textOf}
-use Rattle.declare_step.specs.Steps.{inwardStep}
-use Rattle.declare_walk.specs.Walk.{onto, fixedThen, restOf, argumentsOf, overArguments, stepped, walk}
+use Rattle.declare_type.specs.Looked.{declaredLeaves, listLeaves, bytesSeen, recordSeen, typeSeen, listSeen}
+use Rattle.declare_type.specs.Nodes.{classes, sizedIn, sizeThrough, extentOf, nodeIn, nodeOf, listOf, indexAt}
+use Rattle.declare_type.specs.Tokens.{decimal, textOf}
+use Rattle.declare_type.specs.Steps.{inwardStep}
+use Rattle.declare_type.specs.Walk.{onto, fixedThen, restOf, argumentsOf, overArguments, stepped, walk}
 use Rattle.declare_type.specs.Declares.{textIn, declareOf}
 use Rattle.claim_promises.specs.DeclareExamples.{records, streamD, declarations, declared, expected}
 

@@ -26,10 +26,10 @@ use Rattle.stream_item.specs.declared.Entry.{Entry}
 use Rattle.stream_item.specs.declared.Entry.the-variants as entry
 use Rattle.stream_finder.specs.Finder.{State, Found, findOf}
 use Rattle.declare_word.specs.declared.Quals.{Quals}
-use Rattle.declare_node.specs.Looked.{Seen, numbered, held, nothing, declaredLeaves, asPrimitive, asRecord, byLeaf, bytesSeen, entrySeen, foundSeen, recordSeen, typeSeen}
-use Rattle.declare_node.specs.Nodes.{leafIn, num, classes, nameIn, nodeIn, nodeBy, nodeOf}
-use Rattle.declare_node.specs.declared.Node.{Node}
-use Rattle.declare_node.specs.declared.Node.the-variants as node
+use Rattle.declare_type.specs.Looked.{Seen, numbered, held, nothing, declaredLeaves, asPrimitive, asRecord, byLeaf, bytesSeen, entrySeen, foundSeen, recordSeen, typeSeen}
+use Rattle.declare_type.specs.Nodes.{leafIn, num, classes, nameIn, nodeIn, nodeBy, nodeOf}
+use Rattle.declare_type.specs.declared.node.Node.{Node}
+use Rattle.declare_type.specs.declared.node.Node.the-variants as node
 use Rattle.claim_promises.specs.Given.{Given}
 use Rattle.claim_promises.proofs.ByTable.{both-second}
 use Rattle.claim_promises.proofs.GivenReading.{modes-12}

@@ -8,16 +8,16 @@ use Rattle.answer.specs.declared.Refusal.{Refusal}
 use Rattle.answer.specs.declared.Refusal.the-variants as refusal
 use Rattle.field.specs.declared.index.TypeIndex.{TypeIndex}
 use Rattle.stream_finder.specs.Finder.{State}
-use Rattle.declare_node.specs.Nodes.{nodeOf, listOf, indexAt}
-use Rattle.declare_node.specs.declared.Node.{Node}
-use Rattle.declare_node.specs.declared.Node.the-variants as node
-use Rattle.declare_node.specs.declared.Arguments.{Arguments}
-use Rattle.declare_node.specs.declared.Arguments.the-variants as arguments
-use Rattle.declare_token.specs.Tokens.{textOf}
-use Rattle.declare_token.specs.declared.Token.the-variants as token
-use Rattle.declare_step.specs.Steps.{stepBy, inwardStep, aroundFirst}
-use Rattle.declare_step.specs.declared.Around.{Around}
-use Rattle.declare_walk.specs.Walk.{Spelled, printed, stopped, onto, fixedThen, restOf, argumentsOf, overArguments, stepped, walk}
+use Rattle.declare_type.specs.Nodes.{nodeOf, listOf, indexAt}
+use Rattle.declare_type.specs.declared.node.Node.{Node}
+use Rattle.declare_type.specs.declared.node.Node.the-variants as node
+use Rattle.declare_type.specs.declared.node.Arguments.{Arguments}
+use Rattle.declare_type.specs.declared.node.Arguments.the-variants as arguments
+use Rattle.declare_type.specs.Tokens.{textOf}
+use Rattle.declare_type.specs.declared.token.Token.the-variants as token
+use Rattle.declare_type.specs.Steps.{stepBy, inwardStep, aroundFirst}
+use Rattle.declare_type.specs.declared.step.Around.{Around}
+use Rattle.declare_type.specs.Walk.{Spelled, printed, stopped, onto, fixedThen, restOf, argumentsOf, overArguments, stepped, walk}
 use Rattle.claim_promises.specs.DeclareWhen.{Inside, of-pointer, of-modifier, of-array, Calls, of-procedure, argumentAt, IsBase, Prints, base, inward, call, TypeVisits, here, into, argument, returned, Fault, too-deep, its-own, its-lists, Meets, StopsBy, IsPrinted}
 
 -- ---- two walks after each other

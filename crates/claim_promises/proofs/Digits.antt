@@ -7,7 +7,7 @@ use mathlib.Core.Path.{_≡_, refl}
 use mathlib.Core.List.{List, [], _∷_, _++_}
 use lib.Dec.{ltb}
 use borrow.Author.Tests.{ltb-true, ltb-false}
-use Rattle.declare_token.specs.Tokens.{decimal}
+use Rattle.declare_type.specs.Tokens.{decimal}
 use Rattle.claim_promises.specs.Digits.{digits, AllDigits, NoLeadingZero, LengthsShown}
 
 -- 10^k

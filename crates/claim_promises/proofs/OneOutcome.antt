@@ -15,8 +15,6 @@ use Rattle.word_attributes.proofs.OneOutcome.{one-kind as one-pointer-kind, one
 use Rattle.stream_header.proofs.OneOutcome.{one-header}
 use Rattle.stream_item.proofs.OneOutcome.{one-iter, one-next, one-len, one-empty}
 use Rattle.stream_view.proofs.OneOutcome.{one-view, one-entry-view, one-kind}
-use Rattle.field_put.specs.Bytes.{bytes}
-use Rattle.field_put.proofs.OneOutcome.{one-lays}
 use Rattle.stream_finder.proofs.OneOutcome.{one-change, one-find, one-fills}
 use Rattle.stream_places.specs.Places.{loadOf, loadWideOf, saveOf, saveWideOf}
 use Rattle.stream_places.proofs.OneOutcome.{one-trailer, one-saves}
@@ -57,7 +55,6 @@ use Rattle.section_finder.specs.Finders as sections
 use Rattle.section_finder.proofs.OneOutcome.{one-indexes as one-section}
 use Rattle.section_stream.specs.Streams.{sectionStream}
 use Rattle.write_list.specs.Rows.{memberRows, methodRows}
-use Rattle.declare_token.specs.Tokens.{textOf}
 use Rattle.declare_word.specs.Spellings.{kindText, byText, modeText, qualsText}
 use Rattle.declare_word.proofs.OneOutcome.{one-spells}
 use Rattle.answer_name.specs.Names.{nameText}
@@ -147,15 +144,7 @@ one-outcome = record {
   write-cells-write-id = λ text leaf row out at. one-writes out (lay (writeRecord idLeaves (givenAll text (cellValues leaf row))) out at);
   declare-word-kind-spelled = λ k. one-spells (kindText k);
   declare-word-kind-size = λ k by r q a b. a ∙ sym b;
-  declare-node-node-of = λ s f t i r q a b. a ∙ sym b;
-  declare-node-list-of = λ s f t i r q a b. a .0 ∙ sym (b .0);
-  declare-node-index-at = λ s p r q a b. a ∙ sym b;
-  declare-token-len = λ s p r q a b. a ∙ sym b;
-  declare-token-put = λ s p out at. one-lays out at (textOf s p);
-  declare-step-start = λ r q a b. a ∙ sym b;
-  declare-step-step-of = λ s f t i x r q a b. a ∙ sym b;
   declare-type-declare = λ s f t i out. one-declares (declareOf s (state f t) (i .0) (length out)) out;
-  declare-walk-measure-declarator = λ s f t i d x room r q a b. a ∙ sym b;
   declare-word-indirection = λ y. one-spells (byText y);
   declare-word-mode = λ m. one-spells (modeText m);
   declare-word-qualifiers = λ q. one-spells (qualsText q);

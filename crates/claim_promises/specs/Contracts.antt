@@ -16,19 +16,8 @@ use Rattle.answer.specs.declared.Details.{Details}
 use Rattle.answer.specs.declared.Refusal.{Refusal}
 use Rattle.answer_name.specs.Names.{Holds, nameText}
 use Rattle.answer_name.specs.declared.Name.{Name}
-use Rattle.declare_node.specs.Inside.{ListInside}
-use Rattle.declare_node.specs.Nodes.{indexAt, listOf, nodeOf}
-use Rattle.declare_node.specs.declared.Arguments.{Arguments}
-use Rattle.declare_node.specs.declared.Node.{Node}
-use Rattle.declare_step.specs.Steps.{aroundFirst, inwardStep}
-use Rattle.declare_step.specs.declared.Around.{Around}
-use Rattle.declare_step.specs.declared.Step.{Step}
-use Rattle.declare_token.specs.Tokens.{textOf}
-use Rattle.declare_token.specs.declared.Token.{Token}
 use Rattle.declare_type.specs.Declares.{Declares, declareOf}
 use Rattle.declare_type.specs.declared.DeclareAnswer.{DeclareAnswer}
-use Rattle.declare_walk.specs.Walk.{capped, walk}
-use Rattle.declare_walk.specs.declared.Measured.{Measured}
 use Rattle.declare_word.specs.Sizes.{primitiveSize}
 use Rattle.declare_word.specs.Spellings.{byText, kindText, modeText, qualsText}
 use Rattle.declare_word.specs.Words.{Spells}
@@ -206,41 +195,9 @@ answer-refusal-details self r = detailsValue r ≡ detailsOf self
 abbrev pub answer-name-name-of : (e : Refusal) → Name → Type 0
 answer-name-name-of e r = Holds r (nameText e)
 
--- declare_node::node_of
-abbrev pub declare-node-node-of : (s : List ℕ) (f : ItemFinder) (t : List ℕ) (i : TypeIndex) → Node → Type 0
-declare-node-node-of s f t i r = r ≡ nodeOf s (state f t) (i .0)
-
--- declare_node::list_of
-abbrev pub declare-node-list-of : (s : List ℕ) (f : ItemFinder) (t : List ℕ) (i : TypeIndex) → Arguments → Type 0
-declare-node-list-of s f t i r = (r ≡ listOf s (state f t) (i .0)) × ListInside s r
-
--- declare_node::index_at
-abbrev pub declare-node-index-at : (s : List ℕ) (p : ℕ) → TypeIndex → Type 0
-declare-node-index-at s p r = r ≡ indexAt s p
-
--- declare_step::start
-abbrev pub declare-step-start : Around → Type 0
-declare-step-start r = r ≡ aroundFirst
-
--- declare_step::step_of
-abbrev pub declare-step-step-of : (s : List ℕ) (f : ItemFinder) (t : List ℕ) (i : TypeIndex) (a : Around) → Step → Type 0
-declare-step-step-of s f t i a r = r ≡ inwardStep s (state f t) (i .0) a
-
--- declare_token::len
-abbrev pub declare-token-len : (s : List ℕ) (p : Token) → ℕ → Type 0
-declare-token-len s p r = r ≡ length (textOf s p)
-
--- declare_token::put
-abbrev pub declare-token-put : (s : List ℕ) (p : Token) (out : List ℕ) (at : ℕ) → ℕ → List ℕ → Type 0
-declare-token-put s p out at r out′ = Lays out at (textOf s p) r out′
-
 -- declare_type::declare
 abbrev pub declare-type-declare : (s : List ℕ) (f : ItemFinder) (t : List ℕ) (i : TypeIndex) (out : List ℕ) → DeclareAnswer → List ℕ → Type 0
 declare-type-declare s f t i out r out′ = Declares (declareOf s (state f t) (i .0) (length out)) out r out′
-
--- declare_walk::measure_declarator
-abbrev pub declare-walk-measure-declarator : (s : List ℕ) (f : ItemFinder) (t : List ℕ) (i : TypeIndex) (d : ℕ) (a : Around) (room : ℕ) → Measured → Type 0
-declare-walk-measure-declarator s f t i d a room r = r ≡ capped room (walk s (state f t) d (i .0) a)
 
 -- declare_word::indirection
 abbrev pub declare-word-indirection : (y : Indirection) → Word → Type 0

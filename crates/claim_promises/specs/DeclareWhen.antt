@@ -19,12 +19,12 @@ use Rattle.stream_item.specs.declared.Entry.the-variants as entry
 use Rattle.stream_finder.specs.Finder.{State, Found, findOf}
 use Rattle.declare_word.specs.declared.Quals.{Quals}
 use Rattle.declare_word.specs.declared.Extent.{Extent}
-use Rattle.declare_node.specs.Looked.{declaredLeaves, listLeaves}
-use Rattle.declare_node.specs.Nodes.{nodeOf, listOf, indexAt}
-use Rattle.declare_node.specs.declared.Node.{Node}
-use Rattle.declare_node.specs.declared.Node.the-variants as node
-use Rattle.declare_node.specs.declared.Arguments.the-variants as arguments
-use Rattle.declare_walk.specs.Walk.{Spelled, printed, stopped, declarationOf}
+use Rattle.declare_type.specs.Looked.{declaredLeaves, listLeaves}
+use Rattle.declare_type.specs.Nodes.{nodeOf, listOf, indexAt}
+use Rattle.declare_type.specs.declared.node.Node.{Node}
+use Rattle.declare_type.specs.declared.node.Node.the-variants as node
+use Rattle.declare_type.specs.declared.node.Arguments.the-variants as arguments
+use Rattle.declare_type.specs.Walk.{Spelled, printed, stopped, declarationOf}
 use Rattle.declare_type.specs.Declares.{declareOf}
 use Rattle.claim_promises.specs.Given.{Given}
 

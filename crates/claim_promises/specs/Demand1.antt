@@ -52,15 +52,15 @@ use Rattle.stream_drop.specs.declared.DropAnswer.{DropAnswer}
 use Rattle.stream_report.specs.Report.{Report, addOf, saidReport, Reports}
 use Rattle.stream_report.specs.declared.ReportAnswer.{ReportAnswer}
 use Rattle.answer.specs.Tables.{among}
-use Rattle.declare_node.specs.Nodes.{nodeOf, listOf}
-use Rattle.declare_node.specs.declared.Node.the-variants as node
-use Rattle.declare_node.specs.declared.Arguments.the-variants as arguments
-use Rattle.declare_step.specs.Steps as declare
-use Rattle.declare_step.specs.declared.Around.{Around}
-use Rattle.declare_step.specs.declared.Step.the-variants as step
-use Rattle.declare_walk.specs.Walk as declaring
-use Rattle.declare_walk.specs.Walk.{stopped, capped}
-use Rattle.declare_walk.specs.declared.Measured.the-variants as measured
+use Rattle.declare_type.specs.Nodes.{nodeOf, listOf}
+use Rattle.declare_type.specs.declared.node.Node.the-variants as node
+use Rattle.declare_type.specs.declared.node.Arguments.the-variants as arguments
+use Rattle.declare_type.specs.Steps as declare
+use Rattle.declare_type.specs.declared.step.Around.{Around}
+use Rattle.declare_type.specs.declared.step.Step.the-variants as step
+use Rattle.declare_type.specs.Walk as declaring
+use Rattle.declare_type.specs.Walk.{stopped, capped}
+use Rattle.declare_type.specs.declared.walk.Measured.the-variants as measured
 use Rattle.declare_type.specs.Declares.{declareOf, saidDeclare, Declares}
 use Rattle.declare_type.specs.declared.DeclareAnswer.{DeclareAnswer}
 use Rattle.record_layout.specs.Fields.{readFields}

@@ -7,8 +7,6 @@ use mathlib.Core.Bool.{Bool}
 use mathlib.Core.List.{List}
 use mathlib.Core.Path.{_≡_}
 use Rattle.answer.specs.declared.Refusal.{Refusal}
-use Rattle.declare_step.specs.declared.Around.{Around}
-use Rattle.declare_token.specs.declared.Token.{Token}
 use Rattle.declare_word.specs.declared.Quals.{Quals}
 use Rattle.field.specs.declared.index.IdIndex.{IdIndex}
 use Rattle.field.specs.declared.index.ItemIndex.{ItemIndex}
@@ -61,20 +59,8 @@ pub record OneOutcome : Type 1 where
   pub answer-refusal-details : (self : Refusal) → Once (contract.answer-refusal-details self)
   -- answer_name
   pub answer-name-name-of : (e : Refusal) → Once (contract.answer-name-name-of e)
-  -- declare_node
-  pub declare-node-node-of : (s : List ℕ) (f : ItemFinder) (t : List ℕ) (i : TypeIndex) → Once (contract.declare-node-node-of s f t i)
-  pub declare-node-list-of : (s : List ℕ) (f : ItemFinder) (t : List ℕ) (i : TypeIndex) → Once (contract.declare-node-list-of s f t i)
-  pub declare-node-index-at : (s : List ℕ) (p : ℕ) → Once (contract.declare-node-index-at s p)
-  -- declare_step
-  pub declare-step-start : Once (contract.declare-step-start)
-  pub declare-step-step-of : (s : List ℕ) (f : ItemFinder) (t : List ℕ) (i : TypeIndex) (a : Around) → Once (contract.declare-step-step-of s f t i a)
-  -- declare_token
-  pub declare-token-len : (s : List ℕ) (p : Token) → Once (contract.declare-token-len s p)
-  pub declare-token-put : (s : List ℕ) (p : Token) (out : List ℕ) (at : ℕ) → OnceLent (contract.declare-token-put s p out at)
   -- declare_type
   pub declare-type-declare : (s : List ℕ) (f : ItemFinder) (t : List ℕ) (i : TypeIndex) (out : List ℕ) → OnceLent (contract.declare-type-declare s f t i out)
-  -- declare_walk
-  pub declare-walk-measure-declarator : (s : List ℕ) (f : ItemFinder) (t : List ℕ) (i : TypeIndex) (d : ℕ) (a : Around) (room : ℕ) → Once (contract.declare-walk-measure-declarator s f t i d a room)
   -- declare_word
   pub declare-word-indirection : (y : Indirection) → Once (contract.declare-word-indirection y)
   pub declare-word-mode : (m : ℕ) → Once (contract.declare-word-mode m)

@@ -6,12 +6,12 @@ use mathlib.Core.Path.{_≡_, refl, ap, sym, _∙_, subst}
 use mathlib.Core.Bool.{Bool, true, false, false≢true}
 use mathlib.Core.List.{List, [], _∷_, _++_, append-nil, append-assoc}
 use lib.ListN.{length, length-append}
-use Rattle.declare_node.specs.Nodes.{indexAt, listOf}
-use Rattle.declare_node.specs.declared.Arguments.{Arguments}
-use Rattle.declare_node.specs.declared.Arguments.the-variants as arguments
-use Rattle.declare_token.specs.declared.Token.the-variants as token
-use Rattle.declare_token.specs.Tokens.{textOf}
-use Rattle.declare_walk.specs.Walk.{Spelled, printed, stopped, onto, fixedThen, restOf, argumentsOf, overArguments, wholeText}
+use Rattle.declare_type.specs.Nodes.{indexAt, listOf}
+use Rattle.declare_type.specs.declared.node.Arguments.{Arguments}
+use Rattle.declare_type.specs.declared.node.Arguments.the-variants as arguments
+use Rattle.declare_type.specs.declared.token.Token.the-variants as token
+use Rattle.declare_type.specs.Tokens.{textOf}
+use Rattle.declare_type.specs.Walk.{Spelled, printed, stopped, onto, fixedThen, restOf, argumentsOf, overArguments, wholeText}
 use Rattle.field_put.specs.Bytes.{put, Puts, Room}
 use Rattle.declare_type.specs.Sides.{isPrinted, leftOf, rightOf, SideRoom, Both, WholeRoom, Rest}
 use Rattle.declare_type.proofs.PutLaws.{put-append, put-comm, length-put, puts-two}

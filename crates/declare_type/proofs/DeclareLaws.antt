@@ -14,10 +14,10 @@ use Rattle.stream_header.specs.Header.{longest}
 use Rattle.stream_finder.specs.Finder.{State}
 use Rattle.field_put.specs.Bytes.{put}
 use Rattle.field_put.proofs.PutLaws.{put-is}
-use Rattle.declare_walk.specs.declared.Measured.{Measured}
-use Rattle.declare_walk.specs.declared.Measured.the-variants as measured
-use Rattle.declare_walk.specs.Walk.{Spelled, printed, stopped, capped, wholeText, declarationOf}
-use Rattle.declare_walk.proofs.RoomLaws.{fits-within}
+use Rattle.declare_type.specs.declared.walk.Measured.{Measured}
+use Rattle.declare_type.specs.declared.walk.Measured.the-variants as measured
+use Rattle.declare_type.specs.Walk.{Spelled, printed, stopped, capped, wholeText, declarationOf}
+use Rattle.declare_type.proofs.RoomLaws.{fits-within}
 use Rattle.declare_type.specs.declared.DeclareAnswer.{DeclareAnswer}
 use Rattle.declare_type.specs.declared.DeclareAnswer.the-variants as declare
 use Rattle.declare_type.specs.Sides.{isPrinted, leftOf, rightOf, SideRoom, Both}

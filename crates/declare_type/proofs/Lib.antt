@@ -4,3 +4,10 @@ pub mod ArgumentLaws
 pub mod WriteLaws
 pub mod DeclareLaws
 pub mod OneOutcome
+pub mod LookLaws
+pub mod NodeLaws
+pub mod TokenPutLaws
+pub mod TokenLaws
+pub mod StepLaws
+pub mod RoomLaws
+pub mod WalkLaws

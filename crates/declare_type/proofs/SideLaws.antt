@@ -5,7 +5,7 @@ use mathlib.Core.Path.{_≡_, refl, ap, sym, _∙_}
 use mathlib.Core.Bool.{Bool, true, false, false≢true}
 use mathlib.Core.List.{List, [], _∷_, _++_, append-nil, append-assoc}
 use lib.ListN.{length, length-append}
-use Rattle.declare_walk.specs.Walk.{Spelled, printed, stopped, onto, fixedThen, wholeText}
+use Rattle.declare_type.specs.Walk.{Spelled, printed, stopped, onto, fixedThen, wholeText}
 use Rattle.field_put.specs.Bytes.{put, Puts, Room}
 use Rattle.declare_type.specs.Sides.{isPrinted, leftOf, rightOf, SideRoom, Both, WholeRoom, Rest}
 use Rattle.declare_type.proofs.PutLaws.{put-append, put-comm, length-put}

@@ -10,22 +10,22 @@ use lib.Dec.{ltb}
 use borrow.Author.Tests.{lt-ltb, le-ltb, ltb-true, ltb-false}
 use Rattle.answer.specs.Answer.{pick}
 use Rattle.field.specs.declared.index.TypeIndex.{TypeIndex}
-use Rattle.declare_node.specs.Nodes.{indexAt, listOf}
+use Rattle.declare_type.specs.Nodes.{indexAt, listOf}
 use Rattle.answer.specs.declared.Refusal.{Refusal}
 use Rattle.answer.specs.declared.Refusal.the-variants as refusal
-use Rattle.declare_step.specs.declared.Around.{Around}
-use Rattle.declare_token.specs.declared.Token.{Token}
-use Rattle.declare_token.specs.declared.Token.the-variants as token
-use Rattle.declare_step.specs.declared.Step.{Step}
-use Rattle.declare_step.specs.declared.Step.the-variants as step
-use Rattle.declare_walk.specs.declared.Measured.{Measured}
-use Rattle.declare_walk.specs.declared.Measured.the-variants as measured
-use Rattle.declare_token.specs.Tokens.{textOf}
-use Rattle.declare_step.specs.Steps.{aroundFirst, inwardStep}
-use Rattle.declare_walk.specs.Walk.{Spelled, printed, stopped, onto, fixedThen, overArguments, stepped, walk, capped, wholeText}
+use Rattle.declare_type.specs.declared.step.Around.{Around}
+use Rattle.declare_type.specs.declared.token.Token.{Token}
+use Rattle.declare_type.specs.declared.token.Token.the-variants as token
+use Rattle.declare_type.specs.declared.step.Step.{Step}
+use Rattle.declare_type.specs.declared.step.Step.the-variants as step
+use Rattle.declare_type.specs.declared.walk.Measured.{Measured}
+use Rattle.declare_type.specs.declared.walk.Measured.the-variants as measured
+use Rattle.declare_type.specs.Tokens.{textOf}
+use Rattle.declare_type.specs.Steps.{aroundFirst, inwardStep}
+use Rattle.declare_type.specs.Walk.{Spelled, printed, stopped, onto, fixedThen, overArguments, stepped, walk, capped, wholeText}
 use Rattle.field_put.specs.Bytes.{put, Puts, Room}
 use Rattle.declare_type.specs.Sides.{isPrinted, leftOf, rightOf, SideRoom, Both, WholeRoom}
-use Rattle.declare_walk.proofs.WalkLaws.{walk-is, argsIn}
+use Rattle.declare_type.proofs.WalkLaws.{walk-is, argsIn}
 use Rattle.declare_type.proofs.PutLaws.{put-append, length-put}
 use Rattle.declare_type.proofs.SideLaws.{room-left, room-right, room-in, both-in, text-right, text-in, text-both, joined-room, joined-in, joined-both}
 

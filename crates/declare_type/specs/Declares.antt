@@ -8,7 +8,7 @@ use Rattle.answer.specs.Answer.{Answer, answered, refused, stop}
 use Rattle.answer.specs.Refusals.{no}
 use Rattle.stream_header.specs.Header.{longest}
 use Rattle.stream_finder.specs.Finder.{State}
-use Rattle.declare_walk.specs.Walk.{Spelled, printed, stopped, declarationOf}
+use Rattle.declare_type.specs.Walk.{Spelled, printed, stopped, declarationOf}
 use Rattle.declare_type.specs.declared.DeclareAnswer.{DeclareAnswer}
 use Rattle.declare_type.specs.declared.DeclareAnswer.the-variants as declare
 

@@ -1,2 +1,9 @@
 pub mod Sides
 pub mod Declares
+pub mod Looked
+pub mod Nodes
+pub mod Inside
+pub mod Tokens
+pub mod Lengths
+pub mod Steps
+pub mod Walk

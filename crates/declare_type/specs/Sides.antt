@@ -4,7 +4,7 @@ use mathlib.Core.Path.{_≡_}
 use mathlib.Core.Bool.{Bool, true, false}
 use mathlib.Core.List.{List, []}
 use lib.ListN.{length}
-use Rattle.declare_walk.specs.Walk.{Spelled, printed, stopped, wholeText}
+use Rattle.declare_type.specs.Walk.{Spelled, printed, stopped, wholeText}
 use Rattle.field_put.specs.Bytes.{put}
 
 abbrev pub isPrinted : Spelled → Bool

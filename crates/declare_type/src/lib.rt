@@ -1,23 +1,30 @@
 // A type as a C declaration (R-5 of document 02): the walk measures it in the room that the buffer has, and if nothing is refused it is written.
 // `write_declarator` and `write_arguments` call each other, the depth left of 32 falling; `write_argument` stands between them.
+mod count;
+mod node;
+mod step;
+mod token;
+mod walk;
+mod write;
+
 ghost use Rattle.stream_finder.specs.Finder.{state};
 ghost use Rattle.field_put.specs.Bytes.{Room, Puts};
 ghost use lib.ListN.{length};
-ghost use Rattle.declare_node.specs.Nodes.{listOf};
-ghost use Rattle.declare_token.specs.Tokens.{textOf};
-ghost use Rattle.declare_step.specs.Steps.{aroundFirst};
-ghost use Rattle.declare_walk.specs.Walk.{walk, overArguments, wholeText};
+ghost use Rattle.declare_type.specs.Nodes.{listOf};
+ghost use Rattle.declare_type.specs.Tokens.{textOf};
+ghost use Rattle.declare_type.specs.Steps.{aroundFirst};
+ghost use Rattle.declare_type.specs.Walk.{walk, overArguments, wholeText};
 ghost use Rattle.declare_type.specs.Sides.{SideRoom, Both, WholeRoom};
 ghost use Rattle.declare_type.specs.Declares.{declareOf, Declares};
 use answer::Refusal;
-use declare_node::Arguments;
-use declare_step::Around;
-use declare_step::Step;
-use declare_token::Token;
-use declare_walk::Measured;
 use field::index::TypeIndex;
+use node::Arguments;
+use step::Around;
+use step::Step;
 use stream_finder::ItemFinder;
 use stream_header::LONGEST;
+use token::Token;
+use walk::Measured;
 
 // How many types may be nested, the first counted and argument lists not.
 const DEEPEST: u32 = 32;
@@ -35,8 +42,8 @@ pub fn declare(s: &[u8], f: ItemFinder, t: &[u32], i: TypeIndex, out: &mut [u8])
     if s.len() > LONGEST {
         return DeclareAnswer::Refused(Refusal::TooLong);
     }
-    let around = declare_step::start();
-    match declare_walk::measure_declarator(s, f, t, i, DEEPEST, around, out.len()) {
+    let around = step::start();
+    match walk::measure_declarator(s, f, t, i, DEEPEST, around, out.len()) {
         Measured::Fits(l, r) => {
             let n = l + r;
             write_declarator(s, f, t, i, DEEPEST, around, out, l, l);
@@ -49,11 +56,11 @@ pub fn declare(s: &[u8], f: ItemFinder, t: &[u32], i: TypeIndex, out: &mut [u8])
 }
 
 // A token from a place on, where there is room.
-fn token(s: &[u8], p: Token, out: &mut [u8], at: usize) -> usize
+fn write_token(s: &[u8], p: Token, out: &mut [u8], at: usize) -> usize
     requires { ⌜ Room (now out) at (textOf (now s) p) ⌝ }
     ensures { λ r. ⌜ Puts (now (out .entry)) at (textOf (now (s .entry)) p) r (now (out .exit)) ⌝ }
 {
-    declare_token::put(s, p, out, at)
+    token::put(s, p, out, at)
 }
 
 // The declaration of type i, with d types left to nest, where it is known to have room: what goes left of what stands around it ends at one
@@ -75,27 +82,27 @@ fn write_declarator(
     if d == 0 {
         return right;
     }
-    match declare_step::step_of(s, f, t, i, a) {
+    match step::step_of(s, f, t, i, a) {
         Step::Last(p) => {
-            let n = declare_token::len(s, p);
+            let n = token::len(s, p);
             let at = left - n;
-            token(s, p, out, at);
+            write_token(s, p, out, at);
             return right;
         }
         Step::Inward(l, r, j, b) => {
-            let n = declare_token::len(s, l);
+            let n = token::len(s, l);
             let at = left - n;
-            token(s, l, out, at);
-            let e = token(s, r, out, right);
+            write_token(s, l, out, at);
+            let e = write_token(s, r, out, right);
             return write_declarator(s, f, t, j, d - 1, b, out, at, e);
         }
         Step::Call(l, r, z, g, j, b) => {
-            let n = declare_token::len(s, l);
+            let n = token::len(s, l);
             let at = left - n;
-            token(s, l, out, at);
-            let e = token(s, r, out, right);
+            write_token(s, l, out, at);
+            let e = write_token(s, r, out, right);
             let k = write_arguments(s, f, t, g.0, d - 1, out, e);
-            let c = token(s, z, out, k);
+            let c = write_token(s, z, out, k);
             return write_declarator(s, f, t, j, d - 1, b, out, at, c);
         }
         Step::Refused(_) => {
@@ -117,18 +124,18 @@ fn write_arguments(
     requires { ⌜ WholeRoom (overArguments (λ j. walk (now s) (state f (now t)) d j aroundFirst) (now s) (listOf (now s) (state f (now t)) g)) at (now out) ⌝ }
     ensures { λ r. ⌜ Puts (now (out .entry)) at (wholeText (overArguments (λ j. walk (now (s .entry)) (state f (now (t .entry))) d j aroundFirst) (now (s .entry)) (listOf (now (s .entry)) (state f (now (t .entry))) g))) r (now (out .exit)) ⌝ }
 {
-    match declare_node::list_of(s, f, t, TypeIndex(g)) {
+    match node::list_of(s, f, t, TypeIndex(g)) {
         Arguments::At(p, n) => {
             if n == 0 {
-                return token(s, Token::Void, out, at);
+                return write_token(s, Token::Void, out, at);
             }
-            let first = declare_node::index_at(s, p);
+            let first = node::index_at(s, p);
             let mut e = write_argument(s, f, t, first, d, out, at);
             let mut q = p + 4;
             let mut left = n - 1;
             while left > 0 {
-                let k = token(s, Token::Comma, out, e);
-                let next = declare_node::index_at(s, q);
+                let k = write_token(s, Token::Comma, out, e);
+                let next = node::index_at(s, q);
                 e = write_argument(s, f, t, next, d, out, k);
                 q = q + 4;
                 left = left - 1;
@@ -154,9 +161,9 @@ fn write_argument(
     requires { ⌜ WholeRoom (walk (now s) (state f (now t)) d (i .0) aroundFirst) at (now out) ⌝ }
     ensures { λ r. ⌜ Puts (now (out .entry)) at (wholeText (walk (now (s .entry)) (state f (now (t .entry))) d (i .0) aroundFirst)) r (now (out .exit)) ⌝ }
 {
-    let around = declare_step::start();
+    let around = step::start();
     let room = out.len() - at;
-    match declare_walk::measure_declarator(s, f, t, i, d, around, room) {
+    match walk::measure_declarator(s, f, t, i, d, around, room) {
         Measured::Fits(l, _) => {
             let m = at + l;
             return write_declarator(s, f, t, i, d, around, out, m, m);

@@ -5,8 +5,8 @@ use Prim.Native.Nat.{_≤_, _+_, _*_, _-_}
 use mathlib.Core.Path.{_≡_, sym, _∙_}
 use lib.ListN.{length}
 use Rattle.stream_finder.specs.Finder.{state}
-use Rattle.declare_step.specs.Steps.{aroundFirst}
-use Rattle.declare_walk.specs.Walk.{walk, restOf}
+use Rattle.declare_type.specs.Steps.{aroundFirst}
+use Rattle.declare_type.specs.Walk.{walk, restOf}
 use Rattle.declare_type.specs.Sides.{Rest}
 use Rattle.declare_type.proofs.WriteLaws.{room-as, both-as, no-room, deep-eq, refused-eq, last-eq, inward-eq, call-eq, last-small, last-fits, last-both, left-small, left-fits, right-fits, inner-room, inner-both, args-room, close-fits, after-room, after-both, argument-fits, argument-sides, argument-puts, argument-never}
 use Rattle.declare_type.proofs.ArgumentLaws.{never-refused, void-room, void-puts, argument-room, argument-rest, argument-all, rest-all, comma-fits, next-room, next-rest}
@@ -22,13 +22,13 @@ use Rattle.declare_type.proofs.+write_argument+write_arguments+write_de
 use Rattle.declare_type.proofs.write_declarator.Reads as declarator
 use Rattle.declare_type.proofs.write_declarator.Kinds as declarator-kinds
 use Rattle.declare_type.proofs.+write_argument+write_arguments+write_declarator.Lts-write_declarator as declarator-lts
-use Rattle.declare_node.proofs.index_at.Reads as index-at-reads
-use Rattle.declare_node.proofs.list_of.Reads as list-of-reads
-use Rattle.declare_token.proofs.len.Reads as len-reads
-use Rattle.declare_type.proofs.token.Reads as token-reads
-use Rattle.declare_walk.proofs.measure_declarator.Reads as declarator-reads
-use Rattle.declare_step.proofs.start.Reads as start-reads
-use Rattle.declare_step.proofs.step_of.Reads as step-of-reads
+use Rattle.declare_type.proofs.node.index_at.Reads as index-at-reads
+use Rattle.declare_type.proofs.node.list_of.Reads as list-of-reads
+use Rattle.declare_type.proofs.token.len.Reads as len-reads
+use Rattle.declare_type.proofs.write_token.Reads as write-token-reads
+use Rattle.declare_type.proofs.walk.measure_declarator.Reads as declarator-reads
+use Rattle.declare_type.proofs.step.start.Reads as start-reads
+use Rattle.declare_type.proofs.step.step_of.Reads as step-of-reads
 use Rattle.declare_type.proofs.+write_argument+write_arguments+write_declarator.{statement}
 use Rattle.declare_type.proofs.+write_argument+write_arguments+write_declarator.Tie.{close}
 
@@ -174,8 +174,8 @@ arguments-μ-loop s f t g d out₀ at p n e₀ q₀ left₀ out e q left = left
 arguments-list-of-requires : (t : ℕ) → arguments-lts.Need-list-of-requires (
   list-of-reads.Asked,
   list-of-reads.Learnt,
-  token-reads.Asked,
-  token-reads.Learnt,
+  write-token-reads.Asked,
+  write-token-reads.Learnt,
   index-at-reads.Asked,
   index-at-reads.Learnt,
   argument-below t,
@@ -186,8 +186,8 @@ arguments-list-of-requires t c κs = omega arith
 arguments-enum-known-p : (t : ℕ) → arguments-lts.Need-enum-known-p (
   list-of-reads.Asked,
   list-of-reads.Learnt,
-  token-reads.Asked,
-  token-reads.Learnt,
+  write-token-reads.Asked,
+  write-token-reads.Learnt,
   index-at-reads.Asked,
   index-at-reads.Learnt,
   argument-below t,
@@ -195,11 +195,11 @@ arguments-enum-known-p : (t : ℕ) → arguments-lts.Need-enum-known-p (
 ) (arguments-at t) arguments.Post arguments-Inv-loop arguments-μ-loop
 arguments-enum-known-p t c = search needs
 
-arguments-token-requires : (t : ℕ) → arguments-lts.Need-token-requires (
+arguments-token-requires : (t : ℕ) → arguments-lts.Need-write-token-requires (
   list-of-reads.Asked,
   list-of-reads.Learnt,
-  token-reads.Asked,
-  token-reads.Learnt,
+  write-token-reads.Asked,
+  write-token-reads.Learnt,
   index-at-reads.Asked,
   index-at-reads.Learnt,
   argument-below t,
@@ -210,8 +210,8 @@ arguments-token-requires t c κs = void-room (λ j. walk (c .before .before .bef
 arguments-same-length : (t : ℕ) → arguments-lts.Need-same-length (
   list-of-reads.Asked,
   list-of-reads.Learnt,
-  token-reads.Asked,
-  token-reads.Learnt,
+  write-token-reads.Asked,
+  write-token-reads.Learnt,
   index-at-reads.Asked,
   index-at-reads.Learnt,
   argument-below t,
@@ -222,20 +222,20 @@ arguments-same-length t c = search needs
 arguments-returns : (t : ℕ) → arguments-lts.Need-returns (
   list-of-reads.Asked,
   list-of-reads.Learnt,
-  token-reads.Asked,
-  token-reads.Learnt,
+  write-token-reads.Asked,
+  write-token-reads.Learnt,
   index-at-reads.Asked,
   index-at-reads.Learnt,
   argument-below t,
   argument.Post,
 ) (arguments-at t) arguments.Post arguments-Inv-loop arguments-μ-loop
-arguments-returns t c = void-puts (λ j. walk (c .before .before .before .before .before .before .before .before .before .before .before .before .args .s .now) (state (c .before .before .before .before .before .before .before .before .before .before .before .before .args .f) (c .before .before .before .before .before .before .before .before .before .before .before .before .args .t .now)) (c .before .before .before .before .before .before .before .before .before .before .before .before .args .d) j aroundFirst) _ _ _ _ _ _ (c .before .before .before .before .before .before .before .before .list-of .ensures .0) (c .before .before .before .before .before .before .before .before .before .before .before .before .pre .1) _ _ (c .before .before .before .before .before .before .p .given .1) _ _ (c .before .before .before .before .if1 .taken) (c .before .before .token .ensures)
+arguments-returns t c = void-puts (λ j. walk (c .before .before .before .before .before .before .before .before .before .before .before .before .args .s .now) (state (c .before .before .before .before .before .before .before .before .before .before .before .before .args .f) (c .before .before .before .before .before .before .before .before .before .before .before .before .args .t .now)) (c .before .before .before .before .before .before .before .before .before .before .before .before .args .d) j aroundFirst) _ _ _ _ _ _ (c .before .before .before .before .before .before .before .before .list-of .ensures .0) (c .before .before .before .before .before .before .before .before .before .before .before .before .pre .1) _ _ (c .before .before .before .before .before .before .p .given .1) _ _ (c .before .before .before .before .if1 .taken) (c .before .before .write-token .ensures)
 
 arguments-index-at-requires : (t : ℕ) → arguments-lts.Need-index-at-requires (
   list-of-reads.Asked,
   list-of-reads.Learnt,
-  token-reads.Asked,
-  token-reads.Learnt,
+  write-token-reads.Asked,
+  write-token-reads.Learnt,
   index-at-reads.Asked,
   index-at-reads.Learnt,
   argument-below t,
@@ -246,8 +246,8 @@ arguments-index-at-requires t c κs = tt
 arguments-argument-requires : (t : ℕ) → arguments-lts.Need-write-argument-requires (
   list-of-reads.Asked,
   list-of-reads.Learnt,
-  token-reads.Asked,
-  token-reads.Learnt,
+  write-token-reads.Asked,
+  write-token-reads.Learnt,
   index-at-reads.Asked,
   index-at-reads.Learnt,
   argument-below t,
@@ -258,8 +258,8 @@ arguments-argument-requires t c κs = (omega (arith, c .before .before .before .
 arguments-add-q : (t : ℕ) → arguments-lts.Need-add-q (
   list-of-reads.Asked,
   list-of-reads.Learnt,
-  token-reads.Asked,
-  token-reads.Learnt,
+  write-token-reads.Asked,
+  write-token-reads.Learnt,
   index-at-reads.Asked,
   index-at-reads.Learnt,
   argument-below t,
@@ -270,8 +270,8 @@ arguments-add-q t c = omega (arith, (rw (c .before .before .before .before .befo
 arguments-sub-left : (t : ℕ) → arguments-lts.Need-sub-left (
   list-of-reads.Asked,
   list-of-reads.Learnt,
-  token-reads.Asked,
-  token-reads.Learnt,
+  write-token-reads.Asked,
+  write-token-reads.Learnt,
   index-at-reads.Asked,
   index-at-reads.Learnt,
   argument-below t,
@@ -282,8 +282,8 @@ arguments-sub-left t c = omega arith
 arguments-loop-holds : (t : ℕ) → arguments-lts.Need-loop-holds (
   list-of-reads.Asked,
   list-of-reads.Learnt,
-  token-reads.Asked,
-  token-reads.Learnt,
+  write-token-reads.Asked,
+  write-token-reads.Learnt,
   index-at-reads.Asked,
   index-at-reads.Learnt,
   argument-below t,
@@ -291,11 +291,11 @@ arguments-loop-holds : (t : ℕ) → arguments-lts.Need-loop-holds (
 ) (arguments-at t) arguments.Post arguments-Inv-loop arguments-μ-loop
 arguments-loop-holds t c = (omega (arith, (rw (c .before .before .before .before .before .before .before .p .given .1) at (c .before .before .before .before .before .before .before .before .before .list-of .ensures .1))), argument-rest (λ j. walk (c .before .before .before .before .before .before .before .before .before .before .before .before .before .args .s .now) (state (c .before .before .before .before .before .before .before .before .before .before .before .before .before .args .f) (c .before .before .before .before .before .before .before .before .before .before .before .before .before .args .t .now)) (c .before .before .before .before .before .before .before .before .before .before .before .before .before .args .d) j aroundFirst) _ _ _ _ _ _ (c .before .before .before .before .before .before .before .before .before .list-of .ensures .0) (c .before .before .before .before .before .before .before .before .before .before .before .before .before .pre .1) _ _ (c .before .before .before .before .before .before .before .p .given .1) _ _ (omega arith) (rw (c .before .before .before .before .index-at .ensures) at (c .before .before .write-argument .ensures)))
 
-arguments-token-requires-2 : (t : ℕ) → arguments-lts.Need-token-requires-2 (
+arguments-token-requires-2 : (t : ℕ) → arguments-lts.Need-write-token-requires-2 (
   list-of-reads.Asked,
   list-of-reads.Learnt,
-  token-reads.Asked,
-  token-reads.Learnt,
+  write-token-reads.Asked,
+  write-token-reads.Learnt,
   index-at-reads.Asked,
   index-at-reads.Learnt,
   argument-below t,
@@ -306,8 +306,8 @@ arguments-token-requires-2 t c κs = comma-fits (λ j. walk (c .before .before .
 arguments-index-at-requires-2 : (t : ℕ) → arguments-lts.Need-index-at-requires-2 (
   list-of-reads.Asked,
   list-of-reads.Learnt,
-  token-reads.Asked,
-  token-reads.Learnt,
+  write-token-reads.Asked,
+  write-token-reads.Learnt,
   index-at-reads.Asked,
   index-at-reads.Learnt,
   argument-below t,
@@ -318,20 +318,20 @@ arguments-index-at-requires-2 t c κs = tt
 arguments-argument-requires-2 : (t : ℕ) → arguments-lts.Need-write-argument-requires-2 (
   list-of-reads.Asked,
   list-of-reads.Learnt,
-  token-reads.Asked,
-  token-reads.Learnt,
+  write-token-reads.Asked,
+  write-token-reads.Learnt,
   index-at-reads.Asked,
   index-at-reads.Learnt,
   argument-below t,
   argument.Post,
 ) (arguments-at t) arguments.Post arguments-Inv-loop arguments-μ-loop
-arguments-argument-requires-2 t c κs = (omega (arith, c .before .before .before .before .before .before .before .before .before .before .before .before .before .before .before .before .before .before .before .before .before .pre .0), rw (c .before .index-at2 .ensures) (next-room (λ j. walk (c .before .before .before .before .before .before .before .before .before .before .before .before .before .before .before .before .before .before .before .before .before .args .s .now) (state (c .before .before .before .before .before .before .before .before .before .before .before .before .before .before .before .before .before .before .before .before .before .args .f) (c .before .before .before .before .before .before .before .before .before .before .before .before .before .before .before .before .before .before .before .before .before .args .t .now)) (c .before .before .before .before .before .before .before .before .before .before .before .before .before .before .before .before .before .before .before .before .before .args .d) j aroundFirst) _ _ _ _ _ _ _ _ (c .before .before .before .before .before .before .before .loop .inv .1) _ _ (omega arith) (c .before .before .before .before .token2 .ensures)))
+arguments-argument-requires-2 t c κs = (omega (arith, c .before .before .before .before .before .before .before .before .before .before .before .before .before .before .before .before .before .before .before .before .before .pre .0), rw (c .before .index-at2 .ensures) (next-room (λ j. walk (c .before .before .before .before .before .before .before .before .before .before .before .before .before .before .before .before .before .before .before .before .before .args .s .now) (state (c .before .before .before .before .before .before .before .before .before .before .before .before .before .before .before .before .before .before .before .before .before .args .f) (c .before .before .before .before .before .before .before .before .before .before .before .before .before .before .before .before .before .before .before .before .before .args .t .now)) (c .before .before .before .before .before .before .before .before .before .before .before .before .before .before .before .before .before .before .before .before .before .args .d) j aroundFirst) _ _ _ _ _ _ _ _ (c .before .before .before .before .before .before .before .loop .inv .1) _ _ (omega arith) (c .before .before .before .before .write-token2 .ensures)))
 
 arguments-add-q-2 : (t : ℕ) → arguments-lts.Need-add-q-2 (
   list-of-reads.Asked,
   list-of-reads.Learnt,
-  token-reads.Asked,
-  token-reads.Learnt,
+  write-token-reads.Asked,
+  write-token-reads.Learnt,
   index-at-reads.Asked,
   index-at-reads.Learnt,
   argument-below t,
@@ -342,8 +342,8 @@ arguments-add-q-2 t c = omega (arith, c .before .before .before .before .before 
 arguments-sub-left-2 : (t : ℕ) → arguments-lts.Need-sub-left-2 (
   list-of-reads.Asked,
   list-of-reads.Learnt,
-  token-reads.Asked,
-  token-reads.Learnt,
+  write-token-reads.Asked,
+  write-token-reads.Learnt,
   index-at-reads.Asked,
   index-at-reads.Learnt,
   argument-below t,
@@ -354,8 +354,8 @@ arguments-sub-left-2 t c = omega arith
 arguments-loop-less : (t : ℕ) → arguments-lts.Need-loop-less (
   list-of-reads.Asked,
   list-of-reads.Learnt,
-  token-reads.Asked,
-  token-reads.Learnt,
+  write-token-reads.Asked,
+  write-token-reads.Learnt,
   index-at-reads.Asked,
   index-at-reads.Learnt,
   argument-below t,
@@ -366,20 +366,20 @@ arguments-loop-less t c = omega arith
 arguments-loop-again : (t : ℕ) → arguments-lts.Need-loop-again (
   list-of-reads.Asked,
   list-of-reads.Learnt,
-  token-reads.Asked,
-  token-reads.Learnt,
+  write-token-reads.Asked,
+  write-token-reads.Learnt,
   index-at-reads.Asked,
   index-at-reads.Learnt,
   argument-below t,
   argument.Post,
 ) (arguments-at t) arguments.Post arguments-Inv-loop arguments-μ-loop
-arguments-loop-again t c = (omega arith, next-rest (λ j. walk (c .before .before .before .before .before .before .before .before .before .before .before .before .before .before .before .before .before .before .before .before .before .before .before .before .args .s .now) (state (c .before .before .before .before .before .before .before .before .before .before .before .before .before .before .before .before .before .before .before .before .before .before .before .before .args .f) (c .before .before .before .before .before .before .before .before .before .before .before .before .before .before .before .before .before .before .before .before .before .before .before .before .args .t .now)) (c .before .before .before .before .before .before .before .before .before .before .before .before .before .before .before .before .before .before .before .before .before .before .before .before .args .d) j aroundFirst) _ _ _ _ _ _ _ _ (c .before .before .before .before .before .before .before .before .before .before .loop .inv .1) _ _ _ _ (omega arith) (c .before .before .before .before .before .before .before .token2 .ensures) (rw (c .before .before .before .before .index-at2 .ensures) at (c .before .before .write-argument2 .ensures)))
+arguments-loop-again t c = (omega arith, next-rest (λ j. walk (c .before .before .before .before .before .before .before .before .before .before .before .before .before .before .before .before .before .before .before .before .before .before .before .before .args .s .now) (state (c .before .before .before .before .before .before .before .before .before .before .before .before .before .before .before .before .before .before .before .before .before .before .before .before .args .f) (c .before .before .before .before .before .before .before .before .before .before .before .before .before .before .before .before .before .before .before .before .before .before .before .before .args .t .now)) (c .before .before .before .before .before .before .before .before .before .before .before .before .before .before .before .before .before .before .before .before .before .before .before .before .args .d) j aroundFirst) _ _ _ _ _ _ _ _ (c .before .before .before .before .before .before .before .before .before .before .loop .inv .1) _ _ _ _ (omega arith) (c .before .before .before .before .before .before .before .write-token2 .ensures) (rw (c .before .before .before .before .index-at2 .ensures) at (c .before .before .write-argument2 .ensures)))
 
 arguments-same-length-2 : (t : ℕ) → arguments-lts.Need-same-length-2 (
   list-of-reads.Asked,
   list-of-reads.Learnt,
-  token-reads.Asked,
-  token-reads.Learnt,
+  write-token-reads.Asked,
+  write-token-reads.Learnt,
   index-at-reads.Asked,
   index-at-reads.Learnt,
   argument-below t,
@@ -390,8 +390,8 @@ arguments-same-length-2 t c = c .before .loop .inv .1 .same ∙ c .before .befor
 arguments-returns-2 : (t : ℕ) → arguments-lts.Need-returns-2 (
   list-of-reads.Asked,
   list-of-reads.Learnt,
-  token-reads.Asked,
-  token-reads.Learnt,
+  write-token-reads.Asked,
+  write-token-reads.Learnt,
   index-at-reads.Asked,
   index-at-reads.Learnt,
   argument-below t,
@@ -402,8 +402,8 @@ arguments-returns-2 t c = argument-all (λ j. walk (c .before .before .before .b
 arguments-enum-told : (t : ℕ) → arguments-lts.Need-enum-told (
   list-of-reads.Asked,
   list-of-reads.Learnt,
-  token-reads.Asked,
-  token-reads.Learnt,
+  write-token-reads.Asked,
+  write-token-reads.Learnt,
   index-at-reads.Asked,
   index-at-reads.Learnt,
   argument-below t,
@@ -414,8 +414,8 @@ arguments-enum-told t c = search needs
 arguments-returns-3 : (t : ℕ) → arguments-lts.Need-returns-3 (
   list-of-reads.Asked,
   list-of-reads.Learnt,
-  token-reads.Asked,
-  token-reads.Learnt,
+  write-token-reads.Asked,
+  write-token-reads.Learnt,
   index-at-reads.Asked,
   index-at-reads.Learnt,
   argument-below t,
@@ -428,8 +428,8 @@ declarator-returns : (t : ℕ) → declarator-lts.Need-returns (
   step-of-reads.Learnt,
   len-reads.Asked,
   len-reads.Learnt,
-  token-reads.Asked,
-  token-reads.Learnt,
+  write-token-reads.Asked,
+  write-token-reads.Learnt,
   declarator-below t,
   declarator.Post,
   arguments-below t,
@@ -442,8 +442,8 @@ declarator-step-of-requires : (t : ℕ) → declarator-lts.Need-step-of-requires
   step-of-reads.Learnt,
   len-reads.Asked,
   len-reads.Learnt,
-  token-reads.Asked,
-  token-reads.Learnt,
+  write-token-reads.Asked,
+  write-token-reads.Learnt,
   declarator-below t,
   declarator.Post,
   arguments-below t,
@@ -456,8 +456,8 @@ declarator-enum-known-p : (t : ℕ) → declarator-lts.Need-enum-known-p (
   step-of-reads.Learnt,
   len-reads.Asked,
   len-reads.Learnt,
-  token-reads.Asked,
-  token-reads.Learnt,
+  write-token-reads.Asked,
+  write-token-reads.Learnt,
   declarator-below t,
   declarator.Post,
   arguments-below t,
@@ -470,8 +470,8 @@ declarator-len-requires : (t : ℕ) → declarator-lts.Need-len-requires (
   step-of-reads.Learnt,
   len-reads.Asked,
   len-reads.Learnt,
-  token-reads.Asked,
-  token-reads.Learnt,
+  write-token-reads.Asked,
+  write-token-reads.Learnt,
   declarator-below t,
   declarator.Post,
   arguments-below t,
@@ -484,8 +484,8 @@ declarator-sub-at : (t : ℕ) → declarator-lts.Need-sub-at (
   step-of-reads.Learnt,
   len-reads.Asked,
   len-reads.Learnt,
-  token-reads.Asked,
-  token-reads.Learnt,
+  write-token-reads.Asked,
+  write-token-reads.Learnt,
   declarator-below t,
   declarator.Post,
   arguments-below t,
@@ -493,13 +493,13 @@ declarator-sub-at : (t : ℕ) → declarator-lts.Need-sub-at (
 ) (declarator-at t) declarator.Post
 declarator-sub-at t c = omega (arith, last-small _ _ _ _ _ (c .before .before .before .before .before .before .before .before .before .pre .1) (last-eq _ _ (c .before .before .before .before .before .before .before .before .before .args .d) _ _ (omega (arith, c .before .before .before .before .before .if1 .left)) _ (c .before .before .before .before .step-of .ensures) _ (c .before .before .p .given .1)))
 
-declarator-token-requires : (t : ℕ) → declarator-lts.Need-token-requires (
+declarator-token-requires : (t : ℕ) → declarator-lts.Need-write-token-requires (
   step-of-reads.Asked,
   step-of-reads.Learnt,
   len-reads.Asked,
   len-reads.Learnt,
-  token-reads.Asked,
-  token-reads.Learnt,
+  write-token-reads.Asked,
+  write-token-reads.Learnt,
   declarator-below t,
   declarator.Post,
   arguments-below t,
@@ -512,8 +512,8 @@ declarator-same-length : (t : ℕ) → declarator-lts.Need-same-length (
   step-of-reads.Learnt,
   len-reads.Asked,
   len-reads.Learnt,
-  token-reads.Asked,
-  token-reads.Learnt,
+  write-token-reads.Asked,
+  write-token-reads.Learnt,
   declarator-below t,
   declarator.Post,
   arguments-below t,
@@ -526,22 +526,22 @@ declarator-returns-2 : (t : ℕ) → declarator-lts.Need-returns-2 (
   step-of-reads.Learnt,
   len-reads.Asked,
   len-reads.Learnt,
-  token-reads.Asked,
-  token-reads.Learnt,
+  write-token-reads.Asked,
+  write-token-reads.Learnt,
   declarator-below t,
   declarator.Post,
   arguments-below t,
   arguments.Post,
 ) (declarator-at t) declarator.Post
-declarator-returns-2 t c = last-both _ _ _ _ _ (c .before .before .before .before .before .before .before .before .before .before .before .before .before .pre .1) (last-eq _ _ (c .before .before .before .before .before .before .before .before .before .before .before .before .before .args .d) _ _ (omega (arith, c .before .before .before .before .before .before .before .before .before .if1 .left)) _ (c .before .before .before .before .before .before .before .before .step-of .ensures) _ (c .before .before .before .before .before .before .p .given .1)) _ _ _ (c .before .before .before .before .len .ensures) (c .before .before .token .ensures)
+declarator-returns-2 t c = last-both _ _ _ _ _ (c .before .before .before .before .before .before .before .before .before .before .before .before .before .pre .1) (last-eq _ _ (c .before .before .before .before .before .before .before .before .before .before .before .before .before .args .d) _ _ (omega (arith, c .before .before .before .before .before .before .before .before .before .if1 .left)) _ (c .before .before .before .before .before .before .before .before .step-of .ensures) _ (c .before .before .before .before .before .before .p .given .1)) _ _ _ (c .before .before .before .before .len .ensures) (c .before .before .write-token .ensures)
 
 declarator-enum-known-l : (t : ℕ) → declarator-lts.Need-enum-known-l (
   step-of-reads.Asked,
   step-of-reads.Learnt,
   len-reads.Asked,
   len-reads.Learnt,
-  token-reads.Asked,
-  token-reads.Learnt,
+  write-token-reads.Asked,
+  write-token-reads.Learnt,
   declarator-below t,
   declarator.Post,
   arguments-below t,
@@ -554,8 +554,8 @@ declarator-len-requires-2 : (t : ℕ) → declarator-lts.Need-len-requires-2 (
   step-of-reads.Learnt,
   len-reads.Asked,
   len-reads.Learnt,
-  token-reads.Asked,
-  token-reads.Learnt,
+  write-token-reads.Asked,
+  write-token-reads.Learnt,
   declarator-below t,
   declarator.Post,
   arguments-below t,
@@ -568,8 +568,8 @@ declarator-sub-at-2 : (t : ℕ) → declarator-lts.Need-sub-at-2 (
   step-of-reads.Learnt,
   len-reads.Asked,
   len-reads.Learnt,
-  token-reads.Asked,
-  token-reads.Learnt,
+  write-token-reads.Asked,
+  write-token-reads.Learnt,
   declarator-below t,
   declarator.Post,
   arguments-below t,
@@ -577,13 +577,13 @@ declarator-sub-at-2 : (t : ℕ) → declarator-lts.Need-sub-at-2 (
 ) (declarator-at t) declarator.Post
 declarator-sub-at-2 t c = omega (arith, left-small _ _ _ _ _ _ (room-as _ _ _ _ _ (inward-eq _ _ (c .before .before .before .before .before .before .before .before .before .args .d) _ _ (omega (arith, c .before .before .before .before .before .if1 .left)) _ (c .before .before .before .before .step-of .ensures) _ _ _ _ (c .before .before .l .given .1)) (c .before .before .before .before .before .before .before .before .before .pre .1)))
 
-declarator-token-requires-2 : (t : ℕ) → declarator-lts.Need-token-requires-2 (
+declarator-token-requires-2 : (t : ℕ) → declarator-lts.Need-write-token-requires-2 (
   step-of-reads.Asked,
   step-of-reads.Learnt,
   len-reads.Asked,
   len-reads.Learnt,
-  token-reads.Asked,
-  token-reads.Learnt,
+  write-token-reads.Asked,
+  write-token-reads.Learnt,
   declarator-below t,
   declarator.Post,
   arguments-below t,
@@ -591,27 +591,27 @@ declarator-token-requires-2 : (t : ℕ) → declarator-lts.Need-token-requires-2
 ) (declarator-at t) declarator.Post
 declarator-token-requires-2 t c κs = left-fits _ _ _ _ _ _ (room-as _ _ _ _ _ (inward-eq _ _ (c .before .before .before .before .before .before .before .before .before .before .args .d) _ _ (omega (arith, c .before .before .before .before .before .before .if1 .left)) _ (c .before .before .before .before .before .step-of .ensures) _ _ _ _ (c .before .before .before .l .given .1)) (c .before .before .before .before .before .before .before .before .before .before .pre .1)) _ (c .before .len2 .ensures)
 
-declarator-token-requires-3 : (t : ℕ) → declarator-lts.Need-token-requires-3 (
+declarator-token-requires-3 : (t : ℕ) → declarator-lts.Need-write-token-requires-3 (
   step-of-reads.Asked,
   step-of-reads.Learnt,
   len-reads.Asked,
   len-reads.Learnt,
-  token-reads.Asked,
-  token-reads.Learnt,
+  write-token-reads.Asked,
+  write-token-reads.Learnt,
   declarator-below t,
   declarator.Post,
   arguments-below t,
   arguments.Post,
 ) (declarator-at t) declarator.Post
-declarator-token-requires-3 t c κs = right-fits _ _ _ _ _ _ (room-as _ _ _ _ _ (inward-eq _ _ (c .before .before .before .before .before .before .before .before .before .before .before .before .before .before .args .d) _ _ (omega (arith, c .before .before .before .before .before .before .before .before .before .before .if1 .left)) _ (c .before .before .before .before .before .before .before .before .before .step-of .ensures) _ _ _ _ (c .before .before .before .before .before .before .before .l .given .1)) (c .before .before .before .before .before .before .before .before .before .before .before .before .before .before .pre .1)) _ _ _ (c .before .before .before .before .before .len2 .ensures) (c .before .before .before .token2 .ensures)
+declarator-token-requires-3 t c κs = right-fits _ _ _ _ _ _ (room-as _ _ _ _ _ (inward-eq _ _ (c .before .before .before .before .before .before .before .before .before .before .before .before .before .before .args .d) _ _ (omega (arith, c .before .before .before .before .before .before .before .before .before .before .if1 .left)) _ (c .before .before .before .before .before .before .before .before .before .step-of .ensures) _ _ _ _ (c .before .before .before .before .before .before .before .l .given .1)) (c .before .before .before .before .before .before .before .before .before .before .before .before .before .before .pre .1)) _ _ _ (c .before .before .before .before .before .len2 .ensures) (c .before .before .before .write-token2 .ensures)
 
 declarator-sub-declarator : (t : ℕ) → declarator-lts.Need-sub-write-declarator (
   step-of-reads.Asked,
   step-of-reads.Learnt,
   len-reads.Asked,
   len-reads.Learnt,
-  token-reads.Asked,
-  token-reads.Learnt,
+  write-token-reads.Asked,
+  write-token-reads.Learnt,
   declarator-below t,
   declarator.Post,
   arguments-below t,
@@ -624,22 +624,22 @@ declarator-declarator-requires : (t : ℕ) → declarator-lts.Need-write-declara
   step-of-reads.Learnt,
   len-reads.Asked,
   len-reads.Learnt,
-  token-reads.Asked,
-  token-reads.Learnt,
+  write-token-reads.Asked,
+  write-token-reads.Learnt,
   declarator-below t,
   declarator.Post,
   arguments-below t,
   arguments.Post,
 ) (declarator-at t) declarator.Post
-declarator-declarator-requires t c κs = (omega (arith, c .before .before .before .before .before .before .before .before .before .before .before .before .before .before .before .before .before .before .pre .0), inner-room _ _ _ _ _ _ (room-as _ _ _ _ _ (inward-eq _ _ (c .before .before .before .before .before .before .before .before .before .before .before .before .before .before .before .before .before .before .args .d) _ _ (omega (arith, c .before .before .before .before .before .before .before .before .before .before .before .before .before .before .if1 .left)) _ (c .before .before .before .before .before .before .before .before .before .before .before .before .before .step-of .ensures) _ _ _ _ (c .before .before .before .before .before .before .before .before .before .before .before .l .given .1)) (c .before .before .before .before .before .before .before .before .before .before .before .before .before .before .before .before .before .before .pre .1)) _ _ _ (c .before .before .before .before .before .before .before .before .before .len2 .ensures) (c .before .before .before .before .before .before .before .token2 .ensures) _ _ (c .before .before .before .token3 .ensures))
+declarator-declarator-requires t c κs = (omega (arith, c .before .before .before .before .before .before .before .before .before .before .before .before .before .before .before .before .before .before .pre .0), inner-room _ _ _ _ _ _ (room-as _ _ _ _ _ (inward-eq _ _ (c .before .before .before .before .before .before .before .before .before .before .before .before .before .before .before .before .before .before .args .d) _ _ (omega (arith, c .before .before .before .before .before .before .before .before .before .before .before .before .before .before .if1 .left)) _ (c .before .before .before .before .before .before .before .before .before .before .before .before .before .step-of .ensures) _ _ _ _ (c .before .before .before .before .before .before .before .before .before .before .before .l .given .1)) (c .before .before .before .before .before .before .before .before .before .before .before .before .before .before .before .before .before .before .pre .1)) _ _ _ (c .before .before .before .before .before .before .before .before .before .len2 .ensures) (c .before .before .before .before .before .before .before .write-token2 .ensures) _ _ (c .before .before .before .write-token3 .ensures))
 
 declarator-same-length-2 : (t : ℕ) → declarator-lts.Need-same-length-2 (
   step-of-reads.Asked,
   step-of-reads.Learnt,
   len-reads.Asked,
   len-reads.Learnt,
-  token-reads.Asked,
-  token-reads.Learnt,
+  write-token-reads.Asked,
+  write-token-reads.Learnt,
   declarator-below t,
   declarator.Post,
   arguments-below t,
@@ -652,22 +652,22 @@ declarator-returns-3 : (t : ℕ) → declarator-lts.Need-returns-3 (
   step-of-reads.Learnt,
   len-reads.Asked,
   len-reads.Learnt,
-  token-reads.Asked,
-  token-reads.Learnt,
+  write-token-reads.Asked,
+  write-token-reads.Learnt,
   declarator-below t,
   declarator.Post,
   arguments-below t,
   arguments.Post,
 ) (declarator-at t) declarator.Post
-declarator-returns-3 t c = both-as _ _ _ _ _ _ _ (inward-eq _ _ (c .before .before .before .before .before .before .before .before .before .before .before .before .before .before .before .before .before .before .before .before .before .args .d) _ _ (omega (arith, c .before .before .before .before .before .before .before .before .before .before .before .before .before .before .before .before .before .if1 .left)) _ (c .before .before .before .before .before .before .before .before .before .before .before .before .before .before .before .before .step-of .ensures) _ _ _ _ (c .before .before .before .before .before .before .before .before .before .before .before .before .before .before .l .given .1)) (inner-both _ _ _ _ _ _ (room-as _ _ _ _ _ (inward-eq _ _ (c .before .before .before .before .before .before .before .before .before .before .before .before .before .before .before .before .before .before .before .before .before .args .d) _ _ (omega (arith, c .before .before .before .before .before .before .before .before .before .before .before .before .before .before .before .before .before .if1 .left)) _ (c .before .before .before .before .before .before .before .before .before .before .before .before .before .before .before .before .step-of .ensures) _ _ _ _ (c .before .before .before .before .before .before .before .before .before .before .before .before .before .before .l .given .1)) (c .before .before .before .before .before .before .before .before .before .before .before .before .before .before .before .before .before .before .before .before .before .pre .1)) _ _ _ (c .before .before .before .before .before .before .before .before .before .before .before .before .len2 .ensures) (c .before .before .before .before .before .before .before .before .before .before .token2 .ensures) _ _ (c .before .before .before .before .before .before .token3 .ensures) _ _ (c .before .before .write-declarator .ensures))
+declarator-returns-3 t c = both-as _ _ _ _ _ _ _ (inward-eq _ _ (c .before .before .before .before .before .before .before .before .before .before .before .before .before .before .before .before .before .before .before .before .before .args .d) _ _ (omega (arith, c .before .before .before .before .before .before .before .before .before .before .before .before .before .before .before .before .before .if1 .left)) _ (c .before .before .before .before .before .before .before .before .before .before .before .before .before .before .before .before .step-of .ensures) _ _ _ _ (c .before .before .before .before .before .before .before .before .before .before .before .before .before .before .l .given .1)) (inner-both _ _ _ _ _ _ (room-as _ _ _ _ _ (inward-eq _ _ (c .before .before .before .before .before .before .before .before .before .before .before .before .before .before .before .before .before .before .before .before .before .args .d) _ _ (omega (arith, c .before .before .before .before .before .before .before .before .before .before .before .before .before .before .before .before .before .if1 .left)) _ (c .before .before .before .before .before .before .before .before .before .before .before .before .before .before .before .before .step-of .ensures) _ _ _ _ (c .before .before .before .before .before .before .before .before .before .before .before .before .before .before .l .given .1)) (c .before .before .before .before .before .before .before .before .before .before .before .before .before .before .before .before .before .before .before .before .before .pre .1)) _ _ _ (c .before .before .before .before .before .before .before .before .before .before .before .before .len2 .ensures) (c .before .before .before .before .before .before .before .before .before .before .write-token2 .ensures) _ _ (c .before .before .before .before .before .before .write-token3 .ensures) _ _ (c .before .before .write-declarator .ensures))
 
 declarator-enum-known-l-2 : (t : ℕ) → declarator-lts.Need-enum-known-l-2 (
   step-of-reads.Asked,
   step-of-reads.Learnt,
   len-reads.Asked,
   len-reads.Learnt,
-  token-reads.Asked,
-  token-reads.Learnt,
+  write-token-reads.Asked,
+  write-token-reads.Learnt,
   declarator-below t,
   declarator.Post,
   arguments-below t,
@@ -680,8 +680,8 @@ declarator-len-requires-3 : (t : ℕ) → declarator-lts.Need-len-requires-3 (
   step-of-reads.Learnt,
   len-reads.Asked,
   len-reads.Learnt,
-  token-reads.Asked,
-  token-reads.Learnt,
+  write-token-reads.Asked,
+  write-token-reads.Learnt,
   declarator-below t,
   declarator.Post,
   arguments-below t,
@@ -694,8 +694,8 @@ declarator-sub-at-3 : (t : ℕ) → declarator-lts.Need-sub-at-3 (
   step-of-reads.Learnt,
   len-reads.Asked,
   len-reads.Learnt,
-  token-reads.Asked,
-  token-reads.Learnt,
+  write-token-reads.Asked,
+  write-token-reads.Learnt,
   declarator-below t,
   declarator.Post,
   arguments-below t,
@@ -703,13 +703,13 @@ declarator-sub-at-3 : (t : ℕ) → declarator-lts.Need-sub-at-3 (
 ) (declarator-at t) declarator.Post
 declarator-sub-at-3 t c = omega (arith, left-small _ _ _ _ _ _ (room-as _ _ _ _ _ (call-eq _ _ (c .before .before .before .before .before .before .before .before .before .args .d) _ _ (omega (arith, c .before .before .before .before .before .if1 .left)) _ (c .before .before .before .before .step-of .ensures) _ _ _ _ _ _ (c .before .before .l2 .given .1)) (c .before .before .before .before .before .before .before .before .before .pre .1)))
 
-declarator-token-requires-4 : (t : ℕ) → declarator-lts.Need-token-requires-4 (
+declarator-token-requires-4 : (t : ℕ) → declarator-lts.Need-write-token-requires-4 (
   step-of-reads.Asked,
   step-of-reads.Learnt,
   len-reads.Asked,
   len-reads.Learnt,
-  token-reads.Asked,
-  token-reads.Learnt,
+  write-token-reads.Asked,
+  write-token-reads.Learnt,
   declarator-below t,
   declarator.Post,
   arguments-below t,
@@ -717,27 +717,27 @@ declarator-token-requires-4 : (t : ℕ) → declarator-lts.Need-token-requires-4
 ) (declarator-at t) declarator.Post
 declarator-token-requires-4 t c κs = left-fits _ _ _ _ _ _ (room-as _ _ _ _ _ (call-eq _ _ (c .before .before .before .before .before .before .before .before .before .before .args .d) _ _ (omega (arith, c .before .before .before .before .before .before .if1 .left)) _ (c .before .before .before .before .before .step-of .ensures) _ _ _ _ _ _ (c .before .before .before .l2 .given .1)) (c .before .before .before .before .before .before .before .before .before .before .pre .1)) _ (c .before .len3 .ensures)
 
-declarator-token-requires-5 : (t : ℕ) → declarator-lts.Need-token-requires-5 (
+declarator-token-requires-5 : (t : ℕ) → declarator-lts.Need-write-token-requires-5 (
   step-of-reads.Asked,
   step-of-reads.Learnt,
   len-reads.Asked,
   len-reads.Learnt,
-  token-reads.Asked,
-  token-reads.Learnt,
+  write-token-reads.Asked,
+  write-token-reads.Learnt,
   declarator-below t,
   declarator.Post,
   arguments-below t,
   arguments.Post,
 ) (declarator-at t) declarator.Post
-declarator-token-requires-5 t c κs = right-fits _ _ _ _ _ _ (room-as _ _ _ _ _ (call-eq _ _ (c .before .before .before .before .before .before .before .before .before .before .before .before .before .before .args .d) _ _ (omega (arith, c .before .before .before .before .before .before .before .before .before .before .if1 .left)) _ (c .before .before .before .before .before .before .before .before .before .step-of .ensures) _ _ _ _ _ _ (c .before .before .before .before .before .before .before .l2 .given .1)) (c .before .before .before .before .before .before .before .before .before .before .before .before .before .before .pre .1)) _ _ _ (c .before .before .before .before .before .len3 .ensures) (c .before .before .before .token4 .ensures)
+declarator-token-requires-5 t c κs = right-fits _ _ _ _ _ _ (room-as _ _ _ _ _ (call-eq _ _ (c .before .before .before .before .before .before .before .before .before .before .before .before .before .before .args .d) _ _ (omega (arith, c .before .before .before .before .before .before .before .before .before .before .if1 .left)) _ (c .before .before .before .before .before .before .before .before .before .step-of .ensures) _ _ _ _ _ _ (c .before .before .before .before .before .before .before .l2 .given .1)) (c .before .before .before .before .before .before .before .before .before .before .before .before .before .before .pre .1)) _ _ _ (c .before .before .before .before .before .len3 .ensures) (c .before .before .before .write-token4 .ensures)
 
 declarator-sub-arguments : (t : ℕ) → declarator-lts.Need-sub-write-arguments (
   step-of-reads.Asked,
   step-of-reads.Learnt,
   len-reads.Asked,
   len-reads.Learnt,
-  token-reads.Asked,
-  token-reads.Learnt,
+  write-token-reads.Asked,
+  write-token-reads.Learnt,
   declarator-below t,
   declarator.Post,
   arguments-below t,
@@ -750,36 +750,36 @@ declarator-arguments-requires : (t : ℕ) → declarator-lts.Need-write-argument
   step-of-reads.Learnt,
   len-reads.Asked,
   len-reads.Learnt,
-  token-reads.Asked,
-  token-reads.Learnt,
+  write-token-reads.Asked,
+  write-token-reads.Learnt,
   declarator-below t,
   declarator.Post,
   arguments-below t,
   arguments.Post,
 ) (declarator-at t) declarator.Post
-declarator-arguments-requires t c κs = (omega (arith, c .before .before .before .before .before .before .before .before .before .before .before .before .before .before .before .before .before .before .pre .0), args-room _ _ _ _ _ _ (inner-room _ _ _ _ _ _ (room-as _ _ _ _ _ (call-eq _ _ (c .before .before .before .before .before .before .before .before .before .before .before .before .before .before .before .before .before .before .args .d) _ _ (omega (arith, c .before .before .before .before .before .before .before .before .before .before .before .before .before .before .if1 .left)) _ (c .before .before .before .before .before .before .before .before .before .before .before .before .before .step-of .ensures) _ _ _ _ _ _ (c .before .before .before .before .before .before .before .before .before .before .before .l2 .given .1)) (c .before .before .before .before .before .before .before .before .before .before .before .before .before .before .before .before .before .before .pre .1)) _ _ _ (c .before .before .before .before .before .before .before .before .before .len3 .ensures) (c .before .before .before .before .before .before .before .token4 .ensures) _ _ (c .before .before .before .token5 .ensures)))
+declarator-arguments-requires t c κs = (omega (arith, c .before .before .before .before .before .before .before .before .before .before .before .before .before .before .before .before .before .before .pre .0), args-room _ _ _ _ _ _ (inner-room _ _ _ _ _ _ (room-as _ _ _ _ _ (call-eq _ _ (c .before .before .before .before .before .before .before .before .before .before .before .before .before .before .before .before .before .before .args .d) _ _ (omega (arith, c .before .before .before .before .before .before .before .before .before .before .before .before .before .before .if1 .left)) _ (c .before .before .before .before .before .before .before .before .before .before .before .before .before .step-of .ensures) _ _ _ _ _ _ (c .before .before .before .before .before .before .before .before .before .before .before .l2 .given .1)) (c .before .before .before .before .before .before .before .before .before .before .before .before .before .before .before .before .before .before .pre .1)) _ _ _ (c .before .before .before .before .before .before .before .before .before .len3 .ensures) (c .before .before .before .before .before .before .before .write-token4 .ensures) _ _ (c .before .before .before .write-token5 .ensures)))
 
-declarator-token-requires-6 : (t : ℕ) → declarator-lts.Need-token-requires-6 (
+declarator-token-requires-6 : (t : ℕ) → declarator-lts.Need-write-token-requires-6 (
   step-of-reads.Asked,
   step-of-reads.Learnt,
   len-reads.Asked,
   len-reads.Learnt,
-  token-reads.Asked,
-  token-reads.Learnt,
+  write-token-reads.Asked,
+  write-token-reads.Learnt,
   declarator-below t,
   declarator.Post,
   arguments-below t,
   arguments.Post,
 ) (declarator-at t) declarator.Post
-declarator-token-requires-6 t c κs = close-fits _ _ _ _ _ _ (inner-room _ _ _ _ _ _ (room-as _ _ _ _ _ (call-eq _ _ (c .before .before .before .before .before .before .before .before .before .before .before .before .before .before .before .before .before .before .before .before .before .before .args .d) _ _ (omega (arith, c .before .before .before .before .before .before .before .before .before .before .before .before .before .before .before .before .before .before .if1 .left)) _ (c .before .before .before .before .before .before .before .before .before .before .before .before .before .before .before .before .before .step-of .ensures) _ _ _ _ _ _ (c .before .before .before .before .before .before .before .before .before .before .before .before .before .before .before .l2 .given .1)) (c .before .before .before .before .before .before .before .before .before .before .before .before .before .before .before .before .before .before .before .before .before .before .pre .1)) _ _ _ (c .before .before .before .before .before .before .before .before .before .before .before .before .before .len3 .ensures) (c .before .before .before .before .before .before .before .before .before .before .before .token4 .ensures) _ _ (c .before .before .before .before .before .before .before .token5 .ensures)) _ _ (c .before .before .before .write-arguments .ensures)
+declarator-token-requires-6 t c κs = close-fits _ _ _ _ _ _ (inner-room _ _ _ _ _ _ (room-as _ _ _ _ _ (call-eq _ _ (c .before .before .before .before .before .before .before .before .before .before .before .before .before .before .before .before .before .before .before .before .before .before .args .d) _ _ (omega (arith, c .before .before .before .before .before .before .before .before .before .before .before .before .before .before .before .before .before .before .if1 .left)) _ (c .before .before .before .before .before .before .before .before .before .before .before .before .before .before .before .before .before .step-of .ensures) _ _ _ _ _ _ (c .before .before .before .before .before .before .before .before .before .before .before .before .before .before .before .l2 .given .1)) (c .before .before .before .before .before .before .before .before .before .before .before .before .before .before .before .before .before .before .before .before .before .before .pre .1)) _ _ _ (c .before .before .before .before .before .before .before .before .before .before .before .before .before .len3 .ensures) (c .before .before .before .before .before .before .before .before .before .before .before .write-token4 .ensures) _ _ (c .before .before .before .before .before .before .before .write-token5 .ensures)) _ _ (c .before .before .before .write-arguments .ensures)
 
 declarator-sub-declarator-2 : (t : ℕ) → declarator-lts.Need-sub-write-declarator-2 (
   step-of-reads.Asked,
   step-of-reads.Learnt,
   len-reads.Asked,
   len-reads.Learnt,
-  token-reads.Asked,
-  token-reads.Learnt,
+  write-token-reads.Asked,
+  write-token-reads.Learnt,
   declarator-below t,
   declarator.Post,
   arguments-below t,
@@ -792,22 +792,22 @@ declarator-declarator-requires-2 : (t : ℕ) → declarator-lts.Need-write-decla
   step-of-reads.Learnt,
   len-reads.Asked,
   len-reads.Learnt,
-  token-reads.Asked,
-  token-reads.Learnt,
+  write-token-reads.Asked,
+  write-token-reads.Learnt,
   declarator-below t,
   declarator.Post,
   arguments-below t,
   arguments.Post,
 ) (declarator-at t) declarator.Post
-declarator-declarator-requires-2 t c κs = (omega (arith, c .before .before .before .before .before .before .before .before .before .before .before .before .before .before .before .before .before .before .before .before .before .before .before .before .before .before .pre .0), after-room _ _ _ _ _ _ (inner-room _ _ _ _ _ _ (room-as _ _ _ _ _ (call-eq _ _ (c .before .before .before .before .before .before .before .before .before .before .before .before .before .before .before .before .before .before .before .before .before .before .before .before .before .before .args .d) _ _ (omega (arith, c .before .before .before .before .before .before .before .before .before .before .before .before .before .before .before .before .before .before .before .before .before .before .if1 .left)) _ (c .before .before .before .before .before .before .before .before .before .before .before .before .before .before .before .before .before .before .before .before .before .step-of .ensures) _ _ _ _ _ _ (c .before .before .before .before .before .before .before .before .before .before .before .before .before .before .before .before .before .before .before .l2 .given .1)) (c .before .before .before .before .before .before .before .before .before .before .before .before .before .before .before .before .before .before .before .before .before .before .before .before .before .before .pre .1)) _ _ _ (c .before .before .before .before .before .before .before .before .before .before .before .before .before .before .before .before .before .len3 .ensures) (c .before .before .before .before .before .before .before .before .before .before .before .before .before .before .before .token4 .ensures) _ _ (c .before .before .before .before .before .before .before .before .before .before .before .token5 .ensures)) _ _ (c .before .before .before .before .before .before .before .write-arguments .ensures) _ _ (c .before .before .before .token6 .ensures))
+declarator-declarator-requires-2 t c κs = (omega (arith, c .before .before .before .before .before .before .before .before .before .before .before .before .before .before .before .before .before .before .before .before .before .before .before .before .before .before .pre .0), after-room _ _ _ _ _ _ (inner-room _ _ _ _ _ _ (room-as _ _ _ _ _ (call-eq _ _ (c .before .before .before .before .before .before .before .before .before .before .before .before .before .before .before .before .before .before .before .before .before .before .before .before .before .before .args .d) _ _ (omega (arith, c .before .before .before .before .before .before .before .before .before .before .before .before .before .before .before .before .before .before .before .before .before .before .if1 .left)) _ (c .before .before .before .before .before .before .before .before .before .before .before .before .before .before .before .before .before .before .before .before .before .step-of .ensures) _ _ _ _ _ _ (c .before .before .before .before .before .before .before .before .before .before .before .before .before .before .before .before .before .before .before .l2 .given .1)) (c .before .before .before .before .before .before .before .before .before .before .before .before .before .before .before .before .before .before .before .before .before .before .before .before .before .before .pre .1)) _ _ _ (c .before .before .before .before .before .before .before .before .before .before .before .before .before .before .before .before .before .len3 .ensures) (c .before .before .before .before .before .before .before .before .before .before .before .before .before .before .before .write-token4 .ensures) _ _ (c .before .before .before .before .before .before .before .before .before .before .before .write-token5 .ensures)) _ _ (c .before .before .before .before .before .before .before .write-arguments .ensures) _ _ (c .before .before .before .write-token6 .ensures))
 
 declarator-same-length-3 : (t : ℕ) → declarator-lts.Need-same-length-3 (
   step-of-reads.Asked,
   step-of-reads.Learnt,
   len-reads.Asked,
   len-reads.Learnt,
-  token-reads.Asked,
-  token-reads.Learnt,
+  write-token-reads.Asked,
+  write-token-reads.Learnt,
   declarator-below t,
   declarator.Post,
   arguments-below t,
@@ -820,22 +820,22 @@ declarator-returns-4 : (t : ℕ) → declarator-lts.Need-returns-4 (
   step-of-reads.Learnt,
   len-reads.Asked,
   len-reads.Learnt,
-  token-reads.Asked,
-  token-reads.Learnt,
+  write-token-reads.Asked,
+  write-token-reads.Learnt,
   declarator-below t,
   declarator.Post,
   arguments-below t,
   arguments.Post,
 ) (declarator-at t) declarator.Post
-declarator-returns-4 t c = both-as _ _ _ _ _ _ _ (call-eq _ _ (c .before .before .before .before .before .before .before .before .before .before .before .before .before .before .before .before .before .before .before .before .before .before .before .before .before .before .before .before .before .args .d) _ _ (omega (arith, c .before .before .before .before .before .before .before .before .before .before .before .before .before .before .before .before .before .before .before .before .before .before .before .before .before .if1 .left)) _ (c .before .before .before .before .before .before .before .before .before .before .before .before .before .before .before .before .before .before .before .before .before .before .before .before .step-of .ensures) _ _ _ _ _ _ (c .before .before .before .before .before .before .before .before .before .before .before .before .before .before .before .before .before .before .before .before .before .before .l2 .given .1)) (inner-both _ _ _ _ _ _ (room-as _ _ _ _ _ (call-eq _ _ (c .before .before .before .before .before .before .before .before .before .before .before .before .before .before .before .before .before .before .before .before .before .before .before .before .before .before .before .before .before .args .d) _ _ (omega (arith, c .before .before .before .before .before .before .before .before .before .before .before .before .before .before .before .before .before .before .before .before .before .before .before .before .before .if1 .left)) _ (c .before .before .before .before .before .before .before .before .before .before .before .before .before .before .before .before .before .before .before .before .before .before .before .before .step-of .ensures) _ _ _ _ _ _ (c .before .before .before .before .before .before .before .before .before .before .before .before .before .before .before .before .before .before .before .before .before .before .l2 .given .1)) (c .before .before .before .before .before .before .before .before .before .before .before .before .before .before .before .before .before .before .before .before .before .before .before .before .before .before .before .before .before .pre .1)) _ _ _ (c .before .before .before .before .before .before .before .before .before .before .before .before .before .before .before .before .before .before .before .before .len3 .ensures) (c .before .before .before .before .before .before .before .before .before .before .before .before .before .before .before .before .before .before .token4 .ensures) _ _ (c .before .before .before .before .before .before .before .before .before .before .before .before .before .before .token5 .ensures) _ _ (after-both _ _ _ _ _ _ (inner-room _ _ _ _ _ _ (room-as _ _ _ _ _ (call-eq _ _ (c .before .before .before .before .before .before .before .before .before .before .before .before .before .before .before .before .before .before .before .before .before .before .before .before .before .before .before .before .before .args .d) _ _ (omega (arith, c .before .before .before .before .before .before .before .before .before .before .before .before .before .before .before .before .before .before .before .before .before .before .before .before .before .if1 .left)) _ (c .before .before .before .before .before .before .before .before .before .before .before .before .before .before .before .before .before .before .before .before .before .before .before .before .step-of .ensures) _ _ _ _ _ _ (c .before .before .before .before .before .before .before .before .before .before .before .before .before .before .before .before .before .before .before .before .before .before .l2 .given .1)) (c .before .before .before .before .before .before .before .before .before .before .before .before .before .before .before .before .before .before .before .before .before .before .before .before .before .before .before .before .before .pre .1)) _ _ _ (c .before .before .before .before .before .before .before .before .before .before .before .before .before .before .before .before .before .before .before .before .len3 .ensures) (c .before .before .before .before .before .before .before .before .before .before .before .before .before .before .before .before .before .before .token4 .ensures) _ _ (c .before .before .before .before .before .before .before .before .before .before .before .before .before .before .token5 .ensures)) _ _ (c .before .before .before .before .before .before .before .before .before .before .write-arguments .ensures) _ _ (c .before .before .before .before .before .before .token6 .ensures) _ _ (c .before .before .write-declarator2 .ensures)))
+declarator-returns-4 t c = both-as _ _ _ _ _ _ _ (call-eq _ _ (c .before .before .before .before .before .before .before .before .before .before .before .before .before .before .before .before .before .before .before .before .before .before .before .before .before .before .before .before .before .args .d) _ _ (omega (arith, c .before .before .before .before .before .before .before .before .before .before .before .before .before .before .before .before .before .before .before .before .before .before .before .before .before .if1 .left)) _ (c .before .before .before .before .before .before .before .before .before .before .before .before .before .before .before .before .before .before .before .before .before .before .before .before .step-of .ensures) _ _ _ _ _ _ (c .before .before .before .before .before .before .before .before .before .before .before .before .before .before .before .before .before .before .before .before .before .before .l2 .given .1)) (inner-both _ _ _ _ _ _ (room-as _ _ _ _ _ (call-eq _ _ (c .before .before .before .before .before .before .before .before .before .before .before .before .before .before .before .before .before .before .before .before .before .before .before .before .before .before .before .before .before .args .d) _ _ (omega (arith, c .before .before .before .before .before .before .before .before .before .before .before .before .before .before .before .before .before .before .before .before .before .before .before .before .before .if1 .left)) _ (c .before .before .before .before .before .before .before .before .before .before .before .before .before .before .before .before .before .before .before .before .before .before .before .before .step-of .ensures) _ _ _ _ _ _ (c .before .before .before .before .before .before .before .before .before .before .before .before .before .before .before .before .before .before .before .before .before .before .l2 .given .1)) (c .before .before .before .before .before .before .before .before .before .before .before .before .before .before .before .before .before .before .before .before .before .before .before .before .before .before .before .before .before .pre .1)) _ _ _ (c .before .before .before .before .before .before .before .before .before .before .before .before .before .before .before .before .before .before .before .before .len3 .ensures) (c .before .before .before .before .before .before .before .before .before .before .before .before .before .before .before .before .before .before .write-token4 .ensures) _ _ (c .before .before .before .before .before .before .before .before .before .before .before .before .before .before .write-token5 .ensures) _ _ (after-both _ _ _ _ _ _ (inner-room _ _ _ _ _ _ (room-as _ _ _ _ _ (call-eq _ _ (c .before .before .before .before .before .before .before .before .before .before .before .before .before .before .before .before .before .before .before .before .before .before .before .before .before .before .before .before .before .args .d) _ _ (omega (arith, c .before .before .before .before .before .before .before .before .before .before .before .before .before .before .before .before .before .before .before .before .before .before .before .before .before .if1 .left)) _ (c .before .before .before .before .before .before .before .before .before .before .before .before .before .before .before .before .before .before .before .before .before .before .before .before .step-of .ensures) _ _ _ _ _ _ (c .before .before .before .before .before .before .before .before .before .before .before .before .before .before .before .before .before .before .before .before .before .before .l2 .given .1)) (c .before .before .before .before .before .before .before .before .before .before .before .before .before .before .before .before .before .before .before .before .before .before .before .before .before .before .before .before .before .pre .1)) _ _ _ (c .before .before .before .before .before .before .before .before .before .before .before .before .before .before .before .before .before .before .before .before .len3 .ensures) (c .before .before .before .before .before .before .before .before .before .before .before .before .before .before .before .before .before .before .write-token4 .ensures) _ _ (c .before .before .before .before .before .before .before .before .before .before .before .before .before .before .write-token5 .ensures)) _ _ (c .before .before .before .before .before .before .before .before .before .before .write-arguments .ensures) _ _ (c .before .before .before .before .before .before .write-token6 .ensures) _ _ (c .before .before .write-declarator2 .ensures)))
 
 declarator-enum-told : (t : ℕ) → declarator-lts.Need-enum-told (
   step-of-reads.Asked,
   step-of-reads.Learnt,
   len-reads.Asked,
   len-reads.Learnt,
-  token-reads.Asked,
-  token-reads.Learnt,
+  write-token-reads.Asked,
+  write-token-reads.Learnt,
   declarator-below t,
   declarator.Post,
   arguments-below t,
@@ -848,8 +848,8 @@ declarator-returns-5 : (t : ℕ) → declarator-lts.Need-returns-5 (
   step-of-reads.Learnt,
   len-reads.Asked,
   len-reads.Learnt,
-  token-reads.Asked,
-  token-reads.Learnt,
+  write-token-reads.Asked,
+  write-token-reads.Learnt,
   declarator-below t,
   declarator.Post,
   arguments-below t,
@@ -882,8 +882,8 @@ pub +write-argument+write-arguments+write-declarator-spec : {M : Type 1} → sta
     (λ t. arguments-lts.spec (
       list-of-reads.Asked,
       list-of-reads.Learnt,
-      token-reads.Asked,
-      token-reads.Learnt,
+      write-token-reads.Asked,
+      write-token-reads.Learnt,
       index-at-reads.Asked,
       index-at-reads.Learnt,
       argument-below t,
@@ -919,8 +919,8 @@ pub +write-argument+write-arguments+write-declarator-spec : {M : Type 1} → sta
       step-of-reads.Learnt,
       len-reads.Asked,
       len-reads.Learnt,
-      token-reads.Asked,
-      token-reads.Learnt,
+      write-token-reads.Asked,
+      write-token-reads.Learnt,
       declarator-below t,
       declarator.Post,
       arguments-below t,

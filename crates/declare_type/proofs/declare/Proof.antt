@@ -1,7 +1,7 @@
 -- `declare_type::declare` meets its contract. Assumes nothing.
 use native.Mathlib.Omega.{arith}
 use mathlib.Core.Path.{sym, _∙_}
-use Rattle.declare_walk.proofs.RoomLaws.{fits-within}
+use Rattle.declare_type.proofs.RoomLaws.{fits-within}
 use Rattle.declare_type.proofs.DeclareLaws.{whole-room, declares-long, declares-fits, declares-refused}
 use borrow.Author.Needs.{needs}
 use Rattle.declare_type.proofs.declare.Statement.{statement}
@@ -9,8 +9,8 @@ use Rattle.declare_type.proofs.declare.Tie as tie
 use Rattle.declare_type.proofs.declare.Reads as reads
 use Rattle.declare_type.proofs.declare.Lts as lts
 use Rattle.declare_type.proofs.write_declarator.Reads as declarator-reads
-use Rattle.declare_walk.proofs.measure_declarator.Reads as declarator-reads′
-use Rattle.declare_step.proofs.start.Reads as start-reads
+use Rattle.declare_type.proofs.walk.measure_declarator.Reads as declarator-reads′
+use Rattle.declare_type.proofs.step.start.Reads as start-reads
 
 returns : tie.Need-returns
 returns c = declares-long _ _ _ (c .before .before .before .before .args .out .now) (omega arith)

@@ -1,3 +1,0 @@
-pub mod Looked
-pub mod Nodes
-pub mod Inside

@@ -1,0 +1,24 @@
+-- `declare_type::write::by` meets its contract. Assumes nothing.
+use Rattle.declare_type.proofs.TokenPutLaws.{word-fits, word-puts}
+use borrow.Author.Needs.{needs}
+use Rattle.declare_type.proofs.write.by.Statement.{statement}
+use Rattle.declare_type.proofs.write.by.Tie as tie
+use Rattle.declare_type.proofs.write.by.Reads as reads
+use Rattle.declare_type.proofs.write.by.Lts as lts
+use Rattle.declare_type.proofs.write.word.Reads as word-reads
+use Rattle.declare_word.proofs.indirection.Reads as indirection-reads
+
+indirection-requires : tie.Need-indirection-requires
+indirection-requires c κs = search needs
+
+word-requires : tie.Need-word-requires
+word-requires c κs = word-fits _ _ _ _ (c .indirection .ensures) (c .before .before .before .pre)
+
+same-length : tie.Need-same-length
+same-length c = search needs
+
+returns : tie.Need-returns
+returns c = word-puts _ _ _ _ _ _ (c .before .before .before .indirection .ensures) (c .before .before .word .ensures)
+
+pub by-spec : {M : Type 1} → statement M
+by-spec = tie.close (tie.spec indirection-requires word-requires same-length returns)
