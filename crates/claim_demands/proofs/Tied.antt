@@ -4,15 +4,7 @@ use mathlib.Core.Path.{refl}
 use Rattle.answer.proofs.Refusal.details.Met as answer-refusal-details
 use Rattle.answer.proofs.Refusal.number.Met as answer-refusal-number
 use Rattle.answer_name.proofs.name_of.Met as answer-name-name-of
-use Rattle.declare_type.proofs.node.index_at.Met as declare-node-index-at
-use Rattle.declare_type.proofs.node.list_of.Met as declare-node-list-of
-use Rattle.declare_type.proofs.node.node_of.Met as declare-node-node-of
-use Rattle.declare_type.proofs.step.start.Met as declare-step-start
-use Rattle.declare_type.proofs.step.step_of.Met as declare-step-step-of
-use Rattle.declare_type.proofs.token.len.Met as declare-token-len
-use Rattle.declare_type.proofs.token.put.Met as declare-token-put
 use Rattle.declare_type.proofs.declare.Met as declare-type-declare
-use Rattle.declare_type.proofs.walk.measure_declarator.Met as declare-walk-measure-declarator
 use Rattle.declare_word.proofs.indirection.Met as declare-word-indirection
 use Rattle.declare_word.proofs.kind.size.Met as declare-word-kind-size
 use Rattle.declare_word.proofs.kind.spelled.Met as declare-word-kind-spelled
@@ -234,15 +226,7 @@ tied = record {
   answer-refusal-number = record { says = λ M 𝓤 H A mem run. refl; meets = λ M. answer-refusal-number.met };
   answer-refusal-details = record { says = λ M 𝓤 H A mem run. refl; meets = λ M. answer-refusal-details.met };
   answer-name-name-of = record { says = λ M 𝓤 H A mem run. refl; meets = λ M. answer-name-name-of.met };
-  declare-node-node-of = record { says = λ M 𝓤 H A mem run. refl; meets = λ M. declare-node-node-of.met };
-  declare-node-list-of = record { says = λ M 𝓤 H A mem run. refl; meets = λ M. declare-node-list-of.met };
-  declare-node-index-at = record { says = λ M 𝓤 H A mem run. refl; meets = λ M. declare-node-index-at.met };
-  declare-step-start = record { says = λ M 𝓤 H A mem run. refl; meets = λ M. declare-step-start.met };
-  declare-step-step-of = record { says = λ M 𝓤 H A mem run. refl; meets = λ M. declare-step-step-of.met };
-  declare-token-len = record { says = λ M 𝓤 H A mem run. refl; meets = λ M. declare-token-len.met };
-  declare-token-put = record { says = λ M 𝓤 H A mem run. refl; meets = λ M. declare-token-put.met };
   declare-type-declare = record { says = λ M 𝓤 H A mem run. refl; meets = λ M. declare-type-declare.met };
-  declare-walk-measure-declarator = record { says = λ M 𝓤 H A mem run. refl; meets = λ M. declare-walk-measure-declarator.met };
   declare-word-indirection = record { says = λ M 𝓤 H A mem run. refl; meets = λ M. declare-word-indirection.met };
   declare-word-mode = record { says = λ M 𝓤 H A mem run. refl; meets = λ M. declare-word-mode.met };
   declare-word-qualifiers = record { says = λ M 𝓤 H A mem run. refl; meets = λ M. declare-word-qualifiers.met };

@@ -7,24 +7,8 @@ use Rattle.answer.proofs.Refusal.number as answer-refusal-number-source
 use Rattle.answer.proofs.Refusal.number.Symbol as answer-refusal-number-code
 use Rattle.answer_name.proofs.name_of as answer-name-name-of-source
 use Rattle.answer_name.proofs.name_of.Symbol as answer-name-name-of-code
-use Rattle.declare_type.proofs.node.index_at as declare-node-index-at-source
-use Rattle.declare_type.proofs.node.index_at.Symbol as declare-node-index-at-code
-use Rattle.declare_type.proofs.node.list_of as declare-node-list-of-source
-use Rattle.declare_type.proofs.node.list_of.Symbol as declare-node-list-of-code
-use Rattle.declare_type.proofs.node.node_of as declare-node-node-of-source
-use Rattle.declare_type.proofs.node.node_of.Symbol as declare-node-node-of-code
-use Rattle.declare_type.proofs.step.start as declare-step-start-source
-use Rattle.declare_type.proofs.step.start.Symbol as declare-step-start-code
-use Rattle.declare_type.proofs.step.step_of as declare-step-step-of-source
-use Rattle.declare_type.proofs.step.step_of.Symbol as declare-step-step-of-code
-use Rattle.declare_type.proofs.token.len as declare-token-len-source
-use Rattle.declare_type.proofs.token.len.Symbol as declare-token-len-code
-use Rattle.declare_type.proofs.token.put as declare-token-put-source
-use Rattle.declare_type.proofs.token.put.Symbol as declare-token-put-code
 use Rattle.declare_type.proofs.declare as declare-type-declare-source
 use Rattle.declare_type.proofs.declare.Symbol as declare-type-declare-code
-use Rattle.declare_type.proofs.walk.measure_declarator as declare-walk-measure-declarator-source
-use Rattle.declare_type.proofs.walk.measure_declarator.Symbol as declare-walk-measure-declarator-code
 use Rattle.declare_word.proofs.indirection as declare-word-indirection-source
 use Rattle.declare_word.proofs.indirection.Symbol as declare-word-indirection-code
 use Rattle.declare_word.proofs.kind.size as declare-word-kind-size-source
@@ -463,24 +447,8 @@ pub record Tied : Type 2 where
   pub answer-refusal-details : Tie answer-refusal-details-source.ended (λ M. answer-refusal-details-source.clauses) answer-refusal-details-code.routine (λ κs a r e. contract.answer-refusal-details (a .0) r)
   -- answer_name::name_of
   pub answer-name-name-of : Tie answer-name-name-of-source.ended (λ M. answer-name-name-of-source.clauses) answer-name-name-of-code.routine (λ κs a r e. contract.answer-name-name-of (a .0) r)
-  -- declare_node::node_of
-  pub declare-node-node-of : Tie declare-node-node-of-source.ended (λ M. declare-node-node-of-source.clauses) declare-node-node-of-code.routine (λ κs a r e. contract.declare-node-node-of (now (a .0)) (a .1 .0) (now (a .1 .1 .0)) (a .1 .1 .1 .0) r)
-  -- declare_node::list_of
-  pub declare-node-list-of : Tie declare-node-list-of-source.ended (λ M. declare-node-list-of-source.clauses) declare-node-list-of-code.routine (λ κs a r e. contract.declare-node-list-of (now (a .0)) (a .1 .0) (now (a .1 .1 .0)) (a .1 .1 .1 .0) r)
-  -- declare_node::index_at
-  pub declare-node-index-at : Tie declare-node-index-at-source.ended (λ M. declare-node-index-at-source.clauses) declare-node-index-at-code.routine (λ κs a r e. contract.declare-node-index-at (now (a .0)) (a .1 .0) r)
-  -- declare_step::start
-  pub declare-step-start : Tie declare-step-start-source.ended (λ M. declare-step-start-source.clauses) declare-step-start-code.routine (λ κs a r e. contract.declare-step-start r)
-  -- declare_step::step_of
-  pub declare-step-step-of : Tie declare-step-step-of-source.ended (λ M. declare-step-step-of-source.clauses) declare-step-step-of-code.routine (λ κs a r e. contract.declare-step-step-of (now (a .0)) (a .1 .0) (now (a .1 .1 .0)) (a .1 .1 .1 .0) (a .1 .1 .1 .1 .0) r)
-  -- declare_token::len
-  pub declare-token-len : Tie declare-token-len-source.ended (λ M. declare-token-len-source.clauses) declare-token-len-code.routine (λ κs a r e. contract.declare-token-len (now (a .0)) (a .1 .0) r)
-  -- declare_token::put
-  pub declare-token-put : Tie declare-token-put-source.ended (λ M. declare-token-put-source.clauses) declare-token-put-code.routine (λ κs a r e. contract.declare-token-put (now (a .0)) (a .1 .0) (now (a .1 .1 .0)) (a .1 .1 .1 .0) r (now (e .1 .1 .0)))
   -- declare_type::declare
   pub declare-type-declare : Tie declare-type-declare-source.ended (λ M. declare-type-declare-source.clauses) declare-type-declare-code.routine (λ κs a r e. contract.declare-type-declare (now (a .0)) (a .1 .0) (now (a .1 .1 .0)) (a .1 .1 .1 .0) (now (a .1 .1 .1 .1 .0)) r (now (e .1 .1 .1 .1 .0)))
-  -- declare_walk::measure_declarator
-  pub declare-walk-measure-declarator : Tie declare-walk-measure-declarator-source.ended (λ M. declare-walk-measure-declarator-source.clauses) declare-walk-measure-declarator-code.routine (λ κs a r e. contract.declare-walk-measure-declarator (now (a .0)) (a .1 .0) (now (a .1 .1 .0)) (a .1 .1 .1 .0) (a .1 .1 .1 .1 .0) (a .1 .1 .1 .1 .1 .0) (a .1 .1 .1 .1 .1 .1 .0) r)
   -- declare_word::indirection
   pub declare-word-indirection : Tie declare-word-indirection-source.ended (λ M. declare-word-indirection-source.clauses) declare-word-indirection-code.routine (λ κs a r e. contract.declare-word-indirection (a .0) r)
   -- declare_word::mode
