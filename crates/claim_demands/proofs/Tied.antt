@@ -4,12 +4,12 @@ use mathlib.Core.Path.{refl}
 use Rattle.answer.proofs.Refusal.details.Met as answer-refusal-details
 use Rattle.answer.proofs.Refusal.number.Met as answer-refusal-number
 use Rattle.answer_name.proofs.name_of.Met as answer-name-name-of
+use Rattle.declare_spelling.proofs.indirection.Met as declare-spelling-indirection
+use Rattle.declare_spelling.proofs.kind.size.Met as declare-spelling-kind-size
+use Rattle.declare_spelling.proofs.kind.spelled.Met as declare-spelling-kind-spelled
+use Rattle.declare_spelling.proofs.mode.Met as declare-spelling-mode
+use Rattle.declare_spelling.proofs.qualifiers.Met as declare-spelling-qualifiers
 use Rattle.declare_type.proofs.declare.Met as declare-type-declare
-use Rattle.declare_word.proofs.indirection.Met as declare-word-indirection
-use Rattle.declare_word.proofs.kind.size.Met as declare-word-kind-size
-use Rattle.declare_word.proofs.kind.spelled.Met as declare-word-kind-spelled
-use Rattle.declare_word.proofs.mode.Met as declare-word-mode
-use Rattle.declare_word.proofs.qualifiers.Met as declare-word-qualifiers
 use Rattle.field.proofs.fixed.u16_at.Met as field-fixed-u16-at
 use Rattle.field.proofs.fixed.u32_at.Met as field-fixed-u32-at
 use Rattle.field.proofs.fixed.u64_at.Met as field-fixed-u64-at
@@ -226,12 +226,12 @@ tied = record {
   answer-refusal-number = record { says = λ M 𝓤 H A mem run. refl; meets = λ M. answer-refusal-number.met };
   answer-refusal-details = record { says = λ M 𝓤 H A mem run. refl; meets = λ M. answer-refusal-details.met };
   answer-name-name-of = record { says = λ M 𝓤 H A mem run. refl; meets = λ M. answer-name-name-of.met };
+  declare-spelling-indirection = record { says = λ M 𝓤 H A mem run. refl; meets = λ M. declare-spelling-indirection.met };
+  declare-spelling-mode = record { says = λ M 𝓤 H A mem run. refl; meets = λ M. declare-spelling-mode.met };
+  declare-spelling-qualifiers = record { says = λ M 𝓤 H A mem run. refl; meets = λ M. declare-spelling-qualifiers.met };
+  declare-spelling-kind-spelled = record { says = λ M 𝓤 H A mem run. refl; meets = λ M. declare-spelling-kind-spelled.met };
+  declare-spelling-kind-size = record { says = λ M 𝓤 H A mem run. refl; meets = λ M. declare-spelling-kind-size.met };
   declare-type-declare = record { says = λ M 𝓤 H A mem run. refl; meets = λ M. declare-type-declare.met };
-  declare-word-indirection = record { says = λ M 𝓤 H A mem run. refl; meets = λ M. declare-word-indirection.met };
-  declare-word-mode = record { says = λ M 𝓤 H A mem run. refl; meets = λ M. declare-word-mode.met };
-  declare-word-qualifiers = record { says = λ M 𝓤 H A mem run. refl; meets = λ M. declare-word-qualifiers.met };
-  declare-word-kind-spelled = record { says = λ M 𝓤 H A mem run. refl; meets = λ M. declare-word-kind-spelled.met };
-  declare-word-kind-size = record { says = λ M 𝓤 H A mem run. refl; meets = λ M. declare-word-kind-size.met };
   field-fixed-u8-at = record { says = λ M 𝓤 H A mem run. refl; meets = λ M. field-fixed-u8-at.met };
   field-fixed-u16-at = record { says = λ M 𝓤 H A mem run. refl; meets = λ M. field-fixed-u16-at.met };
   field-fixed-u32-at = record { says = λ M 𝓤 H A mem run. refl; meets = λ M. field-fixed-u32-at.met };

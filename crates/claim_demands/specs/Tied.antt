@@ -7,18 +7,18 @@ use Rattle.answer.proofs.Refusal.number as answer-refusal-number-source
 use Rattle.answer.proofs.Refusal.number.Symbol as answer-refusal-number-code
 use Rattle.answer_name.proofs.name_of as answer-name-name-of-source
 use Rattle.answer_name.proofs.name_of.Symbol as answer-name-name-of-code
+use Rattle.declare_spelling.proofs.indirection as declare-spelling-indirection-source
+use Rattle.declare_spelling.proofs.indirection.Symbol as declare-spelling-indirection-code
+use Rattle.declare_spelling.proofs.kind.size as declare-spelling-kind-size-source
+use Rattle.declare_spelling.proofs.kind.size.Symbol as declare-spelling-kind-size-code
+use Rattle.declare_spelling.proofs.kind.spelled as declare-spelling-kind-spelled-source
+use Rattle.declare_spelling.proofs.kind.spelled.Symbol as declare-spelling-kind-spelled-code
+use Rattle.declare_spelling.proofs.mode as declare-spelling-mode-source
+use Rattle.declare_spelling.proofs.mode.Symbol as declare-spelling-mode-code
+use Rattle.declare_spelling.proofs.qualifiers as declare-spelling-qualifiers-source
+use Rattle.declare_spelling.proofs.qualifiers.Symbol as declare-spelling-qualifiers-code
 use Rattle.declare_type.proofs.declare as declare-type-declare-source
 use Rattle.declare_type.proofs.declare.Symbol as declare-type-declare-code
-use Rattle.declare_word.proofs.indirection as declare-word-indirection-source
-use Rattle.declare_word.proofs.indirection.Symbol as declare-word-indirection-code
-use Rattle.declare_word.proofs.kind.size as declare-word-kind-size-source
-use Rattle.declare_word.proofs.kind.size.Symbol as declare-word-kind-size-code
-use Rattle.declare_word.proofs.kind.spelled as declare-word-kind-spelled-source
-use Rattle.declare_word.proofs.kind.spelled.Symbol as declare-word-kind-spelled-code
-use Rattle.declare_word.proofs.mode as declare-word-mode-source
-use Rattle.declare_word.proofs.mode.Symbol as declare-word-mode-code
-use Rattle.declare_word.proofs.qualifiers as declare-word-qualifiers-source
-use Rattle.declare_word.proofs.qualifiers.Symbol as declare-word-qualifiers-code
 use Rattle.field.proofs.fixed.u16_at as field-fixed-u16-at-source
 use Rattle.field.proofs.fixed.u16_at.Symbol as field-fixed-u16-at-code
 use Rattle.field.proofs.fixed.u32_at as field-fixed-u32-at-source
@@ -447,18 +447,18 @@ pub record Tied : Type 2 where
   pub answer-refusal-details : Tie answer-refusal-details-source.ended (λ M. answer-refusal-details-source.clauses) answer-refusal-details-code.routine (λ κs a r e. contract.answer-refusal-details (a .0) r)
   -- answer_name::name_of
   pub answer-name-name-of : Tie answer-name-name-of-source.ended (λ M. answer-name-name-of-source.clauses) answer-name-name-of-code.routine (λ κs a r e. contract.answer-name-name-of (a .0) r)
+  -- declare_spelling::indirection
+  pub declare-spelling-indirection : Tie declare-spelling-indirection-source.ended (λ M. declare-spelling-indirection-source.clauses) declare-spelling-indirection-code.routine (λ κs a r e. contract.declare-spelling-indirection (a .0) r)
+  -- declare_spelling::mode
+  pub declare-spelling-mode : Tie declare-spelling-mode-source.ended (λ M. declare-spelling-mode-source.clauses) declare-spelling-mode-code.routine (λ κs a r e. contract.declare-spelling-mode (a .0) r)
+  -- declare_spelling::qualifiers
+  pub declare-spelling-qualifiers : Tie declare-spelling-qualifiers-source.ended (λ M. declare-spelling-qualifiers-source.clauses) declare-spelling-qualifiers-code.routine (λ κs a r e. contract.declare-spelling-qualifiers (a .0) r)
+  -- declare_spelling::kind::spelled
+  pub declare-spelling-kind-spelled : Tie declare-spelling-kind-spelled-source.ended (λ M. declare-spelling-kind-spelled-source.clauses) declare-spelling-kind-spelled-code.routine (λ κs a r e. contract.declare-spelling-kind-spelled (a .0) r)
+  -- declare_spelling::kind::size
+  pub declare-spelling-kind-size : Tie declare-spelling-kind-size-source.ended (λ M. declare-spelling-kind-size-source.clauses) declare-spelling-kind-size-code.routine (λ κs a r e. contract.declare-spelling-kind-size (a .0) (a .1 .0) r)
   -- declare_type::declare
   pub declare-type-declare : Tie declare-type-declare-source.ended (λ M. declare-type-declare-source.clauses) declare-type-declare-code.routine (λ κs a r e. contract.declare-type-declare (now (a .0)) (a .1 .0) (now (a .1 .1 .0)) (a .1 .1 .1 .0) (now (a .1 .1 .1 .1 .0)) r (now (e .1 .1 .1 .1 .0)))
-  -- declare_word::indirection
-  pub declare-word-indirection : Tie declare-word-indirection-source.ended (λ M. declare-word-indirection-source.clauses) declare-word-indirection-code.routine (λ κs a r e. contract.declare-word-indirection (a .0) r)
-  -- declare_word::mode
-  pub declare-word-mode : Tie declare-word-mode-source.ended (λ M. declare-word-mode-source.clauses) declare-word-mode-code.routine (λ κs a r e. contract.declare-word-mode (a .0) r)
-  -- declare_word::qualifiers
-  pub declare-word-qualifiers : Tie declare-word-qualifiers-source.ended (λ M. declare-word-qualifiers-source.clauses) declare-word-qualifiers-code.routine (λ κs a r e. contract.declare-word-qualifiers (a .0) r)
-  -- declare_word::kind::spelled
-  pub declare-word-kind-spelled : Tie declare-word-kind-spelled-source.ended (λ M. declare-word-kind-spelled-source.clauses) declare-word-kind-spelled-code.routine (λ κs a r e. contract.declare-word-kind-spelled (a .0) r)
-  -- declare_word::kind::size
-  pub declare-word-kind-size : Tie declare-word-kind-size-source.ended (λ M. declare-word-kind-size-source.clauses) declare-word-kind-size-code.routine (λ κs a r e. contract.declare-word-kind-size (a .0) (a .1 .0) r)
   -- field::fixed::u8_at
   pub field-fixed-u8-at : Tie field-fixed-u8-at-source.ended (λ M. field-fixed-u8-at-source.clauses) field-fixed-u8-at-code.routine (λ κs a r e. contract.field-fixed-u8-at (now (a .0)) (a .1 .0) r)
   -- field::fixed::u16_at

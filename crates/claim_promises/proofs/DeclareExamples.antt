@@ -17,7 +17,7 @@ use Rattle.record_layout.specs.Layouts.{typeLeaves, readLeaf, leafOf, recordOf}
 use Rattle.stream_header.specs.Header.{headerOf}
 use Rattle.stream_item.specs.Links.{linkAt, chain, linkOf}
 use Rattle.stream_finder.specs.Finder.{begunBy, createBy, lookOf}
-use Rattle.declare_word.specs.Spellings.{kindText, byText, modeText, wordsOf}
+use Rattle.declare_spelling.specs.Spellings.{kindText, byText, modeText, wordsOf}
 use Rattle.declare_type.specs.Looked.{declaredLeaves, listLeaves, bytesSeen, recordSeen, typeSeen, listSeen}
 use Rattle.declare_type.specs.Nodes.{classes, sizedIn, sizeThrough, extentOf, nodeIn, nodeOf, listOf, indexAt}
 use Rattle.declare_type.specs.Tokens.{decimal, textOf}

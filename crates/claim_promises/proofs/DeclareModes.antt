@@ -25,7 +25,7 @@ use Rattle.record_layout.specs.Layouts.{Layout, T, pointer, memberO, isAnswered
 use Rattle.stream_item.specs.declared.Entry.{Entry}
 use Rattle.stream_item.specs.declared.Entry.the-variants as entry
 use Rattle.stream_finder.specs.Finder.{State, Found, findOf}
-use Rattle.declare_word.specs.declared.Quals.{Quals}
+use Rattle.declare_spelling.specs.declared.Quals.{Quals}
 use Rattle.declare_type.specs.Looked.{Seen, numbered, held, nothing, declaredLeaves, asPrimitive, asRecord, byLeaf, bytesSeen, entrySeen, foundSeen, recordSeen, typeSeen}
 use Rattle.declare_type.specs.Nodes.{leafIn, num, classes, nameIn, nodeIn, nodeBy, nodeOf}
 use Rattle.declare_type.specs.declared.node.Node.{Node}

@@ -55,8 +55,8 @@ use Rattle.section_finder.specs.Finders as sections
 use Rattle.section_finder.proofs.OneOutcome.{one-indexes as one-section}
 use Rattle.section_stream.specs.Streams.{sectionStream}
 use Rattle.write_list.specs.Rows.{memberRows, methodRows}
-use Rattle.declare_word.specs.Spellings.{kindText, byText, modeText, qualsText}
-use Rattle.declare_word.proofs.OneOutcome.{one-spells}
+use Rattle.declare_spelling.specs.Spellings.{kindText, byText, modeText, qualsText}
+use Rattle.declare_spelling.proofs.OneOutcome.{one-spells}
 use Rattle.answer_name.specs.Names.{nameText}
 use Rattle.answer_name.proofs.OneOutcome.{one-holds}
 use Rattle.declare_type.specs.Declares.{declareOf}
@@ -142,12 +142,12 @@ one-outcome = record {
   record-cells-layout-id-layout = λ leaf r q a b. a .1 ∙ sym (b .1);
   write-cells-write-type = λ text leaf row out at. one-writes out (lay (writeRecord writtenLeaves (givenAll text (cellValues leaf row))) out at);
   write-cells-write-id = λ text leaf row out at. one-writes out (lay (writeRecord idLeaves (givenAll text (cellValues leaf row))) out at);
-  declare-word-kind-spelled = λ k. one-spells (kindText k);
-  declare-word-kind-size = λ k by r q a b. a ∙ sym b;
+  declare-spelling-kind-spelled = λ k. one-spells (kindText k);
+  declare-spelling-kind-size = λ k by r q a b. a ∙ sym b;
   declare-type-declare = λ s f t i out. one-declares (declareOf s (state f t) (i .0) (length out)) out;
-  declare-word-indirection = λ y. one-spells (byText y);
-  declare-word-mode = λ m. one-spells (modeText m);
-  declare-word-qualifiers = λ q. one-spells (qualsText q);
+  declare-spelling-indirection = λ y. one-spells (byText y);
+  declare-spelling-mode = λ m. one-spells (modeText m);
+  declare-spelling-qualifiers = λ q. one-spells (qualsText q);
   answer-name-name-of = λ e. one-holds (nameText e);
   answer-refusal-number = λ self r q a b. a ∙ sym b;
   answer-refusal-details = λ self r q a b. one-details r q (a ∙ sym b);

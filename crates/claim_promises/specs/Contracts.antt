@@ -16,13 +16,13 @@ use Rattle.answer.specs.declared.Details.{Details}
 use Rattle.answer.specs.declared.Refusal.{Refusal}
 use Rattle.answer_name.specs.Names.{Holds, nameText}
 use Rattle.answer_name.specs.declared.Name.{Name}
+use Rattle.declare_spelling.specs.Sizes.{primitiveSize}
+use Rattle.declare_spelling.specs.Spelled.{Spells}
+use Rattle.declare_spelling.specs.Spellings.{byText, kindText, modeText, qualsText}
+use Rattle.declare_spelling.specs.declared.Quals.{Quals}
+use Rattle.declare_spelling.specs.declared.Spelling.{Spelling}
 use Rattle.declare_type.specs.Declares.{Declares, declareOf}
 use Rattle.declare_type.specs.declared.DeclareAnswer.{DeclareAnswer}
-use Rattle.declare_word.specs.Sizes.{primitiveSize}
-use Rattle.declare_word.specs.Spellings.{byText, kindText, modeText, qualsText}
-use Rattle.declare_word.specs.Words.{Spells}
-use Rattle.declare_word.specs.declared.Quals.{Quals}
-use Rattle.declare_word.specs.declared.Word.{Word}
 use Rattle.field.specs.Bytes.{bytes as bytes-of-field}
 use Rattle.field.specs.Fields.{fixedAt, said16, said32, said64, said8}
 use Rattle.field.specs.Indices.{idOption, indexIn, indexNumber, noId, noType, optionalAt, optionalOf, saidId, saidOptId, saidOptType, saidStringRef, saidType, streamIn, typeOption}
@@ -195,29 +195,29 @@ answer-refusal-details self r = detailsValue r ≡ detailsOf self
 abbrev pub answer-name-name-of : (e : Refusal) → Name → Type 0
 answer-name-name-of e r = Holds r (nameText e)
 
+-- declare_spelling::indirection
+abbrev pub declare-spelling-indirection : (y : Indirection) → Spelling → Type 0
+declare-spelling-indirection y r = Spells r (byText y)
+
+-- declare_spelling::mode
+abbrev pub declare-spelling-mode : (m : ℕ) → Spelling → Type 0
+declare-spelling-mode m r = Spells r (modeText m)
+
+-- declare_spelling::qualifiers
+abbrev pub declare-spelling-qualifiers : (q : Quals) → Spelling → Type 0
+declare-spelling-qualifiers q r = Spells r (qualsText q)
+
+-- declare_spelling::kind::spelled
+abbrev pub declare-spelling-kind-spelled : (k : PrimitiveKind) → Spelling → Type 0
+declare-spelling-kind-spelled k r = Spells r (kindText k)
+
+-- declare_spelling::kind::size
+abbrev pub declare-spelling-kind-size : (k : PrimitiveKind) (by : Indirection) → ℕ → Type 0
+declare-spelling-kind-size k by r = r ≡ primitiveSize k by
+
 -- declare_type::declare
 abbrev pub declare-type-declare : (s : List ℕ) (f : ItemFinder) (t : List ℕ) (i : TypeIndex) (out : List ℕ) → DeclareAnswer → List ℕ → Type 0
 declare-type-declare s f t i out r out′ = Declares (declareOf s (state f t) (i .0) (length out)) out r out′
-
--- declare_word::indirection
-abbrev pub declare-word-indirection : (y : Indirection) → Word → Type 0
-declare-word-indirection y r = Spells r (byText y)
-
--- declare_word::mode
-abbrev pub declare-word-mode : (m : ℕ) → Word → Type 0
-declare-word-mode m r = Spells r (modeText m)
-
--- declare_word::qualifiers
-abbrev pub declare-word-qualifiers : (q : Quals) → Word → Type 0
-declare-word-qualifiers q r = Spells r (qualsText q)
-
--- declare_word::kind::spelled
-abbrev pub declare-word-kind-spelled : (k : PrimitiveKind) → Word → Type 0
-declare-word-kind-spelled k r = Spells r (kindText k)
-
--- declare_word::kind::size
-abbrev pub declare-word-kind-size : (k : PrimitiveKind) (by : Indirection) → ℕ → Type 0
-declare-word-kind-size k by r = r ≡ primitiveSize k by
 
 -- field::fixed::u8_at
 abbrev pub field-fixed-u8-at : (s : List ℕ) (p : ℕ) → Read8 → Type 0

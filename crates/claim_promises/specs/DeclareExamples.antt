@@ -7,7 +7,7 @@ use lib.ListN.{length, replicate}
 use Rattle.answer.specs.Answer.{Answer, answered, refused, then}
 use Rattle.stream_header.specs.Examples.{four}
 use Rattle.stream_finder.specs.Finder.{createBy}
-use Rattle.declare_word.specs.Spellings.{quoted}
+use Rattle.declare_spelling.specs.Spellings.{quoted}
 use Rattle.declare_type.specs.Declares.{declareOf}
 
 -- ---- records: the length, the leaf, the fields

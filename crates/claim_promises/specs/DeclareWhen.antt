@@ -17,8 +17,8 @@ use Rattle.stream_header.specs.Header.{longest}
 use Rattle.stream_item.specs.declared.Entry.{Entry}
 use Rattle.stream_item.specs.declared.Entry.the-variants as entry
 use Rattle.stream_finder.specs.Finder.{State, Found, findOf}
-use Rattle.declare_word.specs.declared.Quals.{Quals}
-use Rattle.declare_word.specs.declared.Extent.{Extent}
+use Rattle.declare_spelling.specs.declared.Quals.{Quals}
+use Rattle.declare_spelling.specs.declared.Extent.{Extent}
 use Rattle.declare_type.specs.Looked.{declaredLeaves, listLeaves}
 use Rattle.declare_type.specs.Nodes.{nodeOf, listOf, indexAt}
 use Rattle.declare_type.specs.declared.node.Node.{Node}

@@ -2,7 +2,7 @@
 use Prim.Native.Nat.{ℕ, _+_, _-_, _*_, _≤_, _<_}
 use mathlib.Core.Path.{_≡_}
 use mathlib.Core.List.{List, [], _∷_}
-use Rattle.declare_word.specs.declared.Extent.the-variants as extent
+use Rattle.declare_spelling.specs.declared.Extent.the-variants as extent
 use Rattle.declare_type.specs.Tokens.{extentText}
 
 -- the number that digits say, with a before them

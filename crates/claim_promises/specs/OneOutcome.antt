@@ -7,7 +7,7 @@ use mathlib.Core.Bool.{Bool}
 use mathlib.Core.List.{List}
 use mathlib.Core.Path.{_≡_}
 use Rattle.answer.specs.declared.Refusal.{Refusal}
-use Rattle.declare_word.specs.declared.Quals.{Quals}
+use Rattle.declare_spelling.specs.declared.Quals.{Quals}
 use Rattle.field.specs.declared.index.IdIndex.{IdIndex}
 use Rattle.field.specs.declared.index.ItemIndex.{ItemIndex}
 use Rattle.field.specs.declared.index.Stream.{Stream}
@@ -59,14 +59,14 @@ pub record OneOutcome : Type 1 where
   pub answer-refusal-details : (self : Refusal) → Once (contract.answer-refusal-details self)
   -- answer_name
   pub answer-name-name-of : (e : Refusal) → Once (contract.answer-name-name-of e)
+  -- declare_spelling
+  pub declare-spelling-indirection : (y : Indirection) → Once (contract.declare-spelling-indirection y)
+  pub declare-spelling-mode : (m : ℕ) → Once (contract.declare-spelling-mode m)
+  pub declare-spelling-qualifiers : (q : Quals) → Once (contract.declare-spelling-qualifiers q)
+  pub declare-spelling-kind-spelled : (k : PrimitiveKind) → Once (contract.declare-spelling-kind-spelled k)
+  pub declare-spelling-kind-size : (k : PrimitiveKind) (by : Indirection) → Once (contract.declare-spelling-kind-size k by)
   -- declare_type
   pub declare-type-declare : (s : List ℕ) (f : ItemFinder) (t : List ℕ) (i : TypeIndex) (out : List ℕ) → OnceLent (contract.declare-type-declare s f t i out)
-  -- declare_word
-  pub declare-word-indirection : (y : Indirection) → Once (contract.declare-word-indirection y)
-  pub declare-word-mode : (m : ℕ) → Once (contract.declare-word-mode m)
-  pub declare-word-qualifiers : (q : Quals) → Once (contract.declare-word-qualifiers q)
-  pub declare-word-kind-spelled : (k : PrimitiveKind) → Once (contract.declare-word-kind-spelled k)
-  pub declare-word-kind-size : (k : PrimitiveKind) (by : Indirection) → Once (contract.declare-word-kind-size k by)
   -- field
   pub field-fixed-u8-at : (s : List ℕ) (p : ℕ) → Once (contract.field-fixed-u8-at s p)
   pub field-fixed-u16-at : (s : List ℕ) (p : ℕ) → Once (contract.field-fixed-u16-at s p)

@@ -19,7 +19,7 @@ use Rattle.record_data.specs.declared.ClassKind.the-variants as kind
 use Rattle.record_data.specs.declared.ClassType.{ClassType}
 use Rattle.field_text.specs.Texts.{part}
 use Rattle.stream_finder.specs.Finder.{State}
-use Rattle.declare_word.specs.declared.Extent.the-variants as extent
+use Rattle.declare_spelling.specs.declared.Extent.the-variants as extent
 use Rattle.declare_type.specs.declared.node.Node.{Node}
 use Rattle.declare_type.specs.declared.node.Node.the-variants as node
 use Rattle.declare_type.specs.declared.node.Arguments.{Arguments}

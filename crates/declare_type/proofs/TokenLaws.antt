@@ -8,13 +8,13 @@ use lib.ListN.{length, take, drop, length-append, length-take, length-drop}
 use lib.Dec.{ltb, eqb}
 use borrow.Author.Tests.{lt-ltb, le-ltb, ne-eqb}
 use Rattle.word_primitive.specs.declared.PrimitiveKind.{PrimitiveKind}
-use Rattle.declare_word.specs.declared.Extent.{Extent}
+use Rattle.declare_spelling.specs.declared.Extent.{Extent}
 use Rattle.word_primitive.specs.declared.Indirection.{Indirection}
-use Rattle.declare_word.specs.declared.Quals.{Quals}
+use Rattle.declare_spelling.specs.declared.Quals.{Quals}
 use Rattle.declare_type.specs.declared.token.Token.{Token}
 use Rattle.declare_type.specs.declared.token.Token.the-variants as token
-use Rattle.declare_word.specs.Spellings.{quoted, kindText, byText, modeText, qualsText}
-use Rattle.declare_type.specs.Tokens.{spaced, spaceBefore, qualsIn, gap, decimal, extentText, closing, textOf}
+use Rattle.declare_spelling.specs.Spellings.{quoted, kindText, byText, modeText, qualsText}
+use Rattle.declare_type.specs.Tokens.{spaced, spaceBefore, qualsIn, space, decimal, extentText, closing, textOf}
 use Rattle.declare_type.specs.Lengths.{spacedLength, qualsLength}
 
 pub length-spaced : (l : List ℕ) → length (spaced l) ≡ spacedLength (length l)
@@ -80,7 +80,7 @@ module _ (s : List ℕ) (p : Token) (q : Quals) (b : Bool) where
   pointer-length m x y z e ex ey ez = rw (e, ex, ey, ez, length-append (modeText m), length-quals)
 
   pub primitive-length :
-      (k : PrimitiveKind) (x y z u : ℕ) → p ≡ token.Primitive k q b → x ≡ spacedLength u → u ≡ length (qualsText q) → y ≡ length (kindText k) → z ≡ length (gap b)
+      (k : PrimitiveKind) (x y z u : ℕ) → p ≡ token.Primitive k q b → x ≡ spacedLength u → u ≡ length (qualsText q) → y ≡ length (kindText k) → z ≡ length (space b)
       → x + y + z ≡ length (textOf s p)
   unfolding textOf
   primitive-length k x y z u e ex eu ey ez = rw (e, ex, eu, ey, ez, length-append (spaced (qualsText q) ++ kindText k), length-append (spaced (qualsText q)), length-spaced)
@@ -93,7 +93,7 @@ module _ (s : List ℕ) (p : Token) (q : Quals) (b : Bool) where
       rw (e, ex, ez, ey, eu, length-append (kindText k ++ quoted " " ++ byText d), length-append (kindText k ++ quoted " "), length-append (kindText k), length-quals)
 
   pub tag-length :
-      (a n x y z u : ℕ) → p ≡ token.Tag a n q b → x ≡ spacedLength u → u ≡ length (qualsText q) → y ≡ length (take n (drop a s)) → z ≡ length (gap b)
+      (a n x y z u : ℕ) → p ≡ token.Tag a n q b → x ≡ spacedLength u → u ≡ length (qualsText q) → y ≡ length (take n (drop a s)) → z ≡ length (space b)
       → x + y + z ≡ length (textOf s p)
   unfolding textOf
   tag-length a n x y z u e ex eu ey ez = rw (e, ex, eu, ey, ez, length-append (spaced (qualsText q) ++ take n (drop a s)), length-append (spaced (qualsText q)), length-spaced)

@@ -10,12 +10,12 @@ use lib.Seq.{length-take-le, take-all}
 use borrow.Author.Tests.{eq-eqb, ne-eqb}
 use Rattle.field_put.specs.Bytes.{put, Room, Puts, Lays}
 use Rattle.field_put.proofs.PutLaws.{room-first, room-after, puts-both, laid, lays, lays-none}
-use Rattle.declare_word.specs.Spellings.{quoted}
+use Rattle.declare_spelling.specs.Spellings.{quoted}
 use Rattle.declare_type.specs.Tokens.{qualsIn, spaceBefore}
-use Rattle.declare_word.specs.Words.{Spells}
-use Rattle.declare_word.proofs.WordLaws.{says, short}
+use Rattle.declare_spelling.specs.Spelled.{Spells}
+use Rattle.declare_spelling.proofs.SpellingLaws.{says, short}
 use Rattle.declare_type.specs.Lengths.{ending}
-use Rattle.declare_word.specs.declared.Word.{Word}
+use Rattle.declare_spelling.specs.declared.Spelling.{Spelling}
 
 -- two puts, one behind the other
 pub puts-two : (l m n : List ℕ) (at x y : ℕ) (a b : List ℕ) → Puts l at a x m → Puts m x b y n → Puts l at (a ++ b) y n
@@ -44,16 +44,16 @@ pub byte-puts : (l : List ℕ) (at b : ℕ) → Puts l at (b ∷ []) (at + 1) (s
 unfolding put
 byte-puts l at b = record { next = refl; left = refl }
 
--- a word and its text
-pub word-fits :
-    (w : Word) (text l : List ℕ) (at : ℕ) → Spells w text → Room l at text → Room l at (take (w .n) (w .bytes)) × (w .n ≤ 40) × (length (w .bytes) ≡ 40)
-word-fits w text l at s f = (rw (says w text s) f, short w text s, s .all)
+-- a spelling and its text
+pub spelling-fits :
+    (w : Spelling) (text l : List ℕ) (at : ℕ) → Spells w text → Room l at text → Room l at (take (w .n) (w .bytes)) × (w .n ≤ 40) × (length (w .bytes) ≡ 40)
+spelling-fits w text l at s f = (rw (says w text s) f, short w text s, s .all)
 
-pub word-puts : (w : Word) (text l m : List ℕ) (at x : ℕ) → Spells w text → Puts l at (take (w .n) (w .bytes)) x m → Puts l at text x m
-word-puts w text l m at x s p = rw (says w text s) at p
+pub spelling-puts : (w : Spelling) (text l m : List ℕ) (at x : ℕ) → Spells w text → Puts l at (take (w .n) (w .bytes)) x m → Puts l at text x m
+spelling-puts w text l m at x s p = rw (says w text s) at p
 
-pub word-length : (w : Word) (text : List ℕ) → Spells w text → (w .n ≡ length text) × (w .n ≤ 40)
-word-length w text s = (s .count, short w text s)
+pub spelling-length : (w : Spelling) (text : List ℕ) → Spells w text → (w .n ≡ length text) × (w .n ≤ 40)
+spelling-length w text s = (s .count, short w text s)
 
 -- a pointer's qualifiers and what stands behind them
 ending-is : (b : Bool) (text : List ℕ) (at e : ℕ) → e ≡ at + length text → qualsIn b text ≡ text ++ ending b (eqb e at)

@@ -14,16 +14,16 @@ use Rattle.word_attributes.specs.Pointers.{sizeOf}
 use Rattle.record_layout.specs.Fields.{Shown, number, numeral, absent, many}
 use Rattle.record_layout.specs.Values.{nth, numberIn}
 use Rattle.stream_finder.specs.Finder.{State}
-use Rattle.declare_word.specs.declared.Quals.{Quals}
-use Rattle.declare_word.specs.declared.Extent.{Extent}
-use Rattle.declare_word.specs.declared.Extent.the-variants as extent
+use Rattle.declare_spelling.specs.declared.Quals.{Quals}
+use Rattle.declare_spelling.specs.declared.Extent.{Extent}
+use Rattle.declare_spelling.specs.declared.Extent.the-variants as extent
 use Rattle.declare_type.specs.declared.node.Node.{Node}
 use Rattle.declare_type.specs.declared.node.Node.the-variants as node
 use Rattle.declare_type.specs.declared.node.Arguments.{Arguments}
 use Rattle.declare_type.specs.declared.node.Arguments.the-variants as arguments
 use Rattle.declare_type.specs.declared.node.Sized.{Sized}
 use Rattle.declare_type.specs.declared.node.Sized.the-variants as sized
-use Rattle.declare_word.specs.Sizes.{primitiveSize}
+use Rattle.declare_spelling.specs.Sizes.{primitiveSize}
 use Rattle.declare_type.specs.Looked.{Seen, numbered, held, nothing, typeSeen, listSeen}
 
 abbrev pub typeIndex : ℕ → TypeIndex

@@ -5,11 +5,11 @@ use mathlib.Core.List.{List, [], _∷_, _++_}
 use lib.ListN.{take, drop}
 use lib.Dec.{ltb}
 use Rattle.answer.specs.Answer.{pick}
-use Rattle.declare_word.specs.declared.Extent.{Extent}
-use Rattle.declare_word.specs.declared.Extent.the-variants as extent
+use Rattle.declare_spelling.specs.declared.Extent.{Extent}
+use Rattle.declare_spelling.specs.declared.Extent.the-variants as extent
 use Rattle.declare_type.specs.declared.token.Token.{Token}
 use Rattle.declare_type.specs.declared.token.Token.the-variants as token
-use Rattle.declare_word.specs.Spellings.{quoted, kindText, byText, modeText, qualsText}
+use Rattle.declare_spelling.specs.Spellings.{quoted, kindText, byText, modeText, qualsText}
 
 -- a text with a space behind it, if there is a text
 abbrev pub spaced : List ℕ → List ℕ
@@ -27,9 +27,9 @@ qualsIn true l = l
 qualsIn false l = spaced l
 
 -- behind a base: a space unless nothing else is fixed
-abbrev pub gap : Bool → List ℕ
-gap true = []
-gap false = quoted " "
+abbrev pub space : Bool → List ℕ
+space true = []
+space false = quoted " "
 
 -- a number in decimal, of at most k digits
 unfoldable pub decimal : ℕ → ℕ → List ℕ
@@ -50,9 +50,9 @@ unfoldable pub textOf : List ℕ → Token → List ℕ
 textOf s token.Nothing = []
 textOf s token.Open = quoted "("
 textOf s (token.Pointer m q last) = modeText m ++ qualsIn last (qualsText q)
-textOf s (token.Primitive k q bare) = spaced (qualsText q) ++ kindText k ++ gap bare
+textOf s (token.Primitive k q bare) = spaced (qualsText q) ++ kindText k ++ space bare
 textOf s (token.Pointed k y q last) = kindText k ++ quoted " " ++ byText y ++ qualsIn last (qualsText q)
-textOf s (token.Tag p n q bare) = spaced (qualsText q) ++ take n (drop p s) ++ gap bare
+textOf s (token.Tag p n q bare) = spaced (qualsText q) ++ take n (drop p s) ++ space bare
 textOf s (token.Length closes e) = closing closes ++ quoted "[" ++ extentText e ++ quoted "]"
 textOf s (token.Begin closes) = closing closes ++ quoted "("
 textOf s token.Comma = quoted ", "

@@ -2,40 +2,40 @@
 ghost use mathlib.Core.Path.{_≡_};
 ghost use Prim.Native.Nat.{_+_, _≤_, _<_};
 ghost use lib.ListN.{length, take, drop};
-ghost use Rattle.declare_word.specs.Spellings.{kindText, byText, modeText, qualsText};
-ghost use Rattle.declare_type.specs.Tokens.{gap, decimal, extentText, closing, textOf};
+ghost use Rattle.declare_spelling.specs.Spellings.{kindText, byText, modeText, qualsText};
+ghost use Rattle.declare_type.specs.Tokens.{space, decimal, extentText, closing, textOf};
 ghost use Rattle.declare_type.specs.Lengths.{spacedLength, qualsLength};
 use crate::token::Token;
-use declare_word::Extent;
-use declare_word::Quals;
+use declare_spelling::Extent;
+use declare_spelling::Quals;
 use word_primitive::Indirection;
 use word_primitive::PrimitiveKind;
 
 fn kind_len(k: PrimitiveKind) -> usize
     ensures { λ r. ⌜ (r ≡ length (kindText k)) × (r ≤ 40) ⌝ }
 {
-    let w = declare_word::kind::spelled(k);
+    let w = declare_spelling::kind::spelled(k);
     w.n
 }
 
 fn by_len(y: Indirection) -> usize
     ensures { λ r. ⌜ (r ≡ length (byText y)) × (r ≤ 40) ⌝ }
 {
-    let w = declare_word::indirection(y);
+    let w = declare_spelling::indirection(y);
     w.n
 }
 
 fn mode_len(m: u8) -> usize
     ensures { λ r. ⌜ (r ≡ length (modeText m)) × (r ≤ 40) ⌝ }
 {
-    let w = declare_word::mode(m);
+    let w = declare_spelling::mode(m);
     w.n
 }
 
 pub fn quals_len(q: Quals) -> usize
     ensures { λ r. ⌜ (r ≡ length (qualsText q)) × (r ≤ 40) ⌝ }
 {
-    let w = declare_word::qualifiers(q);
+    let w = declare_spelling::qualifiers(q);
     w.n
 }
 
@@ -59,8 +59,8 @@ fn quals_in_len(last: bool, n: usize) -> usize
     spaced_len(n)
 }
 
-fn gap_len(bare: bool) -> usize
-    ensures { λ r. ⌜ (r ≡ length (gap bare)) × (r ≤ 1) ⌝ }
+fn space_len(bare: bool) -> usize
+    ensures { λ r. ⌜ (r ≡ length (space bare)) × (r ≤ 1) ⌝ }
 {
     if bare {
         return 0;
@@ -121,9 +121,9 @@ pub fn token_len(s: &[u8], p: Token) -> usize
         Token::Nothing => 0,
         Token::Open => 1,
         Token::Pointer(m, q, b) => mode_len(m) + quals_in_len(b, quals_len(q)),
-        Token::Primitive(k, q, b) => spaced_len(quals_len(q)) + kind_len(k) + gap_len(b),
+        Token::Primitive(k, q, b) => spaced_len(quals_len(q)) + kind_len(k) + space_len(b),
         Token::Pointed(k, y, q, b) => kind_len(k) + 1 + by_len(y) + quals_in_len(b, quals_len(q)),
-        Token::Tag(a, n, q, b) => spaced_len(quals_len(q)) + name_len(s, a, n) + gap_len(b),
+        Token::Tag(a, n, q, b) => spaced_len(quals_len(q)) + name_len(s, a, n) + space_len(b),
         Token::Length(c, e) => closing_len(c) + 2 + extent_len(e),
         Token::Begin(c) => closing_len(c) + 1,
         Token::Comma => 2,

@@ -17,8 +17,8 @@ ghost use Rattle.declare_type.specs.Looked.{declaredLeaves, listLeaves, 
 ghost use Rattle.declare_type.specs.Nodes.{typeIndex, leafIn, sizedIn, sizedFrom, sizeThrough, extentOf, nameIn, pointerQuals, modifierQuals, nodeIn, nodeOf, listBy, listOf, indexAt};
 ghost use Rattle.declare_type.specs.Inside.{HeldAt, HeldInside, ListInside};
 use answer::Refusal;
-use declare_word::Extent;
-use declare_word::Quals;
+use declare_spelling::Extent;
+use declare_spelling::Quals;
 use field::fixed;
 use field::fixed::Read16;
 use field::index;
@@ -257,7 +257,7 @@ fn size_in(l: Looked) -> Sized
         Looked::Numbered(p) => {
             let k = p.kind;
             let by = p.indirection;
-            return Sized::Known(declare_word::kind::size(k, by));
+            return Sized::Known(declare_spelling::kind::size(k, by));
         }
         Looked::Held(_, _, d) => {
             return sized_record(d);

@@ -7,7 +7,7 @@ use crate::node;
 use crate::node::Node;
 use crate::token::Token;
 use answer::Refusal;
-use declare_word::Quals;
+use declare_spelling::Quals;
 use field::index::TypeIndex;
 use stream_finder::ItemFinder;
 use word_primitive::Indirection;

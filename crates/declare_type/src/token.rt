@@ -1,13 +1,13 @@
 // The tokens of a C declaration (R-5 of document 02): how many bytes each has, and each written into a lent buffer.
-// specs/Tokens.antt has the text of each token, declare_word the spellings.
+// specs/Tokens.antt has the text of each token, declare_spelling the spellings.
 ghost use mathlib.Core.Path.{_≡_};
 ghost use lib.ListN.{length};
 ghost use Rattle.field_put.specs.Bytes.{Lays};
 ghost use Rattle.declare_type.specs.Tokens.{textOf};
 use crate::count;
 use crate::write;
-use declare_word::Extent;
-use declare_word::Quals;
+use declare_spelling::Extent;
+use declare_spelling::Quals;
 use word_primitive::Indirection;
 use word_primitive::PrimitiveKind;
 

@@ -5,14 +5,14 @@ ghost use mathlib.Core.List.{_∷_, [], _++_};
 ghost use lib.Dec.{eqb};
 ghost use lib.ListN.{length, take, drop};
 ghost use Rattle.field_put.specs.Bytes.{Room, Puts};
-ghost use Rattle.declare_word.specs.Spellings.{quoted, kindText, byText, modeText, qualsText};
-ghost use Rattle.declare_type.specs.Tokens.{decimal, extentText, closing, spaced, spaceBefore, qualsIn, gap, textOf};
+ghost use Rattle.declare_spelling.specs.Spellings.{quoted, kindText, byText, modeText, qualsText};
+ghost use Rattle.declare_type.specs.Tokens.{decimal, extentText, closing, spaced, spaceBefore, qualsIn, space, textOf};
 ghost use Rattle.declare_type.specs.Lengths.{ending};
 use crate::count;
 use crate::token::Token;
-use declare_word::Extent;
-use declare_word::Quals;
-use declare_word::Word;
+use declare_spelling::Extent;
+use declare_spelling::Quals;
+use declare_spelling::Spelling;
 use word_primitive::Indirection;
 use word_primitive::PrimitiveKind;
 
@@ -23,7 +23,7 @@ fn text(out: &mut [u8], at: usize, b: &[u8]) -> usize
     field_put::put_all(out, at, b)
 }
 
-fn word(out: &mut [u8], at: usize, w: Word) -> usize
+fn spelling(out: &mut [u8], at: usize, w: Spelling) -> usize
     requires { ⌜ Room (now out) at (take (w .n) (w .bytes)) × (w .n ≤ 40) × (length (w .bytes) ≡ 40) ⌝ }
     ensures { λ r. ⌜ Puts (now (out .entry)) at (take (w .n) (w .bytes)) r (now (out .exit)) ⌝ }
 {
@@ -36,28 +36,28 @@ fn kind(out: &mut [u8], at: usize, k: PrimitiveKind) -> usize
     requires { ⌜ Room (now out) at (kindText k) ⌝ }
     ensures { λ r. ⌜ Puts (now (out .entry)) at (kindText k) r (now (out .exit)) ⌝ }
 {
-    word(out, at, declare_word::kind::spelled(k))
+    spelling(out, at, declare_spelling::kind::spelled(k))
 }
 
 fn by(out: &mut [u8], at: usize, y: Indirection) -> usize
     requires { ⌜ Room (now out) at (byText y) ⌝ }
     ensures { λ r. ⌜ Puts (now (out .entry)) at (byText y) r (now (out .exit)) ⌝ }
 {
-    word(out, at, declare_word::indirection(y))
+    spelling(out, at, declare_spelling::indirection(y))
 }
 
 fn mode(out: &mut [u8], at: usize, m: u8) -> usize
     requires { ⌜ Room (now out) at (modeText m) ⌝ }
     ensures { λ r. ⌜ Puts (now (out .entry)) at (modeText m) r (now (out .exit)) ⌝ }
 {
-    word(out, at, declare_word::mode(m))
+    spelling(out, at, declare_spelling::mode(m))
 }
 
 fn quals(out: &mut [u8], at: usize, q: Quals) -> usize
     requires { ⌜ Room (now out) at (qualsText q) ⌝ }
     ensures { λ r. ⌜ Puts (now (out .entry)) at (qualsText q) r (now (out .exit)) ⌝ }
 {
-    word(out, at, declare_word::qualifiers(q))
+    spelling(out, at, declare_spelling::qualifiers(q))
 }
 
 fn byte(out: &mut [u8], at: usize, b: u8) -> usize
@@ -91,9 +91,9 @@ fn quals_in(out: &mut [u8], at: usize, q: Quals, last: bool) -> usize
 }
 
 // The space behind a base.
-fn gap(out: &mut [u8], at: usize, bare: bool) -> usize
-    requires { ⌜ Room (now out) at (gap bare) ⌝ }
-    ensures { λ r. ⌜ Puts (now (out .entry)) at (gap bare) r (now (out .exit)) ⌝ }
+fn space(out: &mut [u8], at: usize, bare: bool) -> usize
+    requires { ⌜ Room (now out) at (space bare) ⌝ }
+    ensures { λ r. ⌜ Puts (now (out .entry)) at (space bare) r (now (out .exit)) ⌝ }
 {
     if bare {
         return at;
@@ -178,12 +178,12 @@ fn pointer(out: &mut [u8], at: usize, m: u8, q: Quals, last: bool) -> usize
 }
 
 fn primitive(out: &mut [u8], at: usize, k: PrimitiveKind, q: Quals, bare: bool) -> usize
-    requires { ⌜ Room (now out) at (spaced (qualsText q) ++ kindText k ++ gap bare) ⌝ }
-    ensures { λ r. ⌜ Puts (now (out .entry)) at (spaced (qualsText q) ++ kindText k ++ gap bare) r (now (out .exit)) ⌝ }
+    requires { ⌜ Room (now out) at (spaced (qualsText q) ++ kindText k ++ space bare) ⌝ }
+    ensures { λ r. ⌜ Puts (now (out .entry)) at (spaced (qualsText q) ++ kindText k ++ space bare) r (now (out .exit)) ⌝ }
 {
     let e = quals_in(out, at, q, false);
     let f = kind(out, e, k);
-    gap(out, f, bare)
+    space(out, f, bare)
 }
 
 fn pointed(
@@ -204,12 +204,12 @@ fn pointed(
 }
 
 fn tag(s: &[u8], p: usize, n: usize, out: &mut [u8], at: usize, q: Quals, bare: bool) -> usize
-    requires { ⌜ Room (now out) at (spaced (qualsText q) ++ take n (drop p (now s)) ++ gap bare) ⌝ }
-    ensures { λ r. ⌜ Puts (now (out .entry)) at (spaced (qualsText q) ++ take n (drop p (now (s .entry))) ++ gap bare) r (now (out .exit)) ⌝ }
+    requires { ⌜ Room (now out) at (spaced (qualsText q) ++ take n (drop p (now s)) ++ space bare) ⌝ }
+    ensures { λ r. ⌜ Puts (now (out .entry)) at (spaced (qualsText q) ++ take n (drop p (now (s .entry))) ++ space bare) r (now (out .exit)) ⌝ }
 {
     let e = quals_in(out, at, q, false);
     let f = name(s, p, n, out, e);
-    gap(out, f, bare)
+    space(out, f, bare)
 }
 
 fn brackets(out: &mut [u8], at: usize, c: bool, x: Extent) -> usize

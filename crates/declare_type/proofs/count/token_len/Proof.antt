@@ -9,7 +9,7 @@ use Rattle.declare_type.proofs.count.token_len.Lts as lts
 use Rattle.declare_type.proofs.count.by_len.Reads as by-len-reads
 use Rattle.declare_type.proofs.count.closing_len.Reads as closing-len-reads
 use Rattle.declare_type.proofs.count.extent_len.Reads as extent-len-reads
-use Rattle.declare_type.proofs.count.gap_len.Reads as gap-len-reads
+use Rattle.declare_type.proofs.count.space_len.Reads as space-len-reads
 use Rattle.declare_type.proofs.count.kind_len.Reads as kind-len-reads
 use Rattle.declare_type.proofs.count.mode_len.Reads as mode-len-reads
 use Rattle.declare_type.proofs.count.name_len.Reads as name-len-reads
@@ -53,8 +53,8 @@ kind-len-requires c κs = search needs
 add-result-2 : tie.Need-add-result-2
 add-result-2 c = search needs
 
-gap-len-requires : tie.Need-gap-len-requires
-gap-len-requires c κs = search needs
+space-len-requires : tie.Need-space-len-requires
+space-len-requires c κs = search needs
 
 add-result-3 : tie.Need-add-result-3
 add-result-3 c = search needs
@@ -98,8 +98,8 @@ name-len-requires c κs = search needs
 add-result-7 : tie.Need-add-result-7
 add-result-7 c = search needs
 
-gap-len-requires-2 : tie.Need-gap-len-requires-2
-gap-len-requires-2 c κs = search needs
+space-len-requires-2 : tie.Need-space-len-requires-2
+space-len-requires-2 c κs = search needs
 
 add-result-8 : tie.Need-add-result-8
 add-result-8 c = search needs
@@ -158,13 +158,13 @@ returns-3 : tie.Need-returns-3
 returns-3 c = pointer-length _ _ _ _ _ _ _ _ (c .before .before .before .before .p .given .1) (c .before .before .mode-len .ensures .0) (c .quals-in-len .ensures .0) (c .before .quals-len .ensures .0)
 
 returns-4 : tie.Need-returns-4
-returns-4 c = primitive-length _ _ _ _ _ _ _ _ _ (c .before .before .before .before .before .p2 .given .1) (c .before .before .spaced-len .ensures .0) (c .before .before .before .quals-len2 .ensures .0) (c .before .kind-len .ensures .0) (c .gap-len .ensures .0)
+returns-4 c = primitive-length _ _ _ _ _ _ _ _ _ (c .before .before .before .before .before .p2 .given .1) (c .before .before .spaced-len .ensures .0) (c .before .before .before .quals-len2 .ensures .0) (c .before .kind-len .ensures .0) (c .space-len .ensures .0)
 
 returns-5 : tie.Need-returns-5
 returns-5 c = pointed-length _ _ _ _ _ _ _ _ _ _ (c .before .before .before .before .before .p3 .given .1) (c .before .before .before .kind-len2 .ensures .0) (c .before .before .by-len .ensures .0) (c .quals-in-len2 .ensures .0) (c .before .quals-len3 .ensures .0)
 
 returns-6 : tie.Need-returns-6
-returns-6 c = tag-length _ _ _ _ _ _ _ _ _ _ (c .before .before .before .before .before .p4 .given .1) (c .before .before .spaced-len2 .ensures .0) (c .before .before .before .quals-len4 .ensures .0) (c .before .name-len .ensures .0) (c .gap-len2 .ensures .0)
+returns-6 c = tag-length _ _ _ _ _ _ _ _ _ _ (c .before .before .before .before .before .p4 .given .1) (c .before .before .spaced-len2 .ensures .0) (c .before .before .before .quals-len4 .ensures .0) (c .before .name-len .ensures .0) (c .space-len2 .ensures .0)
 
 returns-7 : tie.Need-returns-7
 returns-7 c = extent-length _ _ _ _ _ _ (c .before .before .before .p5 .given .1) (c .before .closing-len .ensures .0) (c .extent-len .ensures .0)
@@ -199,7 +199,7 @@ token-len-spec =
     spaced-len-requires
     kind-len-requires
     add-result-2
-    gap-len-requires
+    space-len-requires
     add-result-3
     enum-known-p-3
     kind-len-requires-2
@@ -214,7 +214,7 @@ token-len-spec =
     spaced-len-requires-2
     name-len-requires
     add-result-7
-    gap-len-requires-2
+    space-len-requires-2
     add-result-8
     enum-known-p-5
     closing-len-requires

@@ -6,7 +6,7 @@ use Rattle.declare_type.proofs.node.size_in.Statement.{statement}
 use Rattle.declare_type.proofs.node.size_in.Tie as tie
 use Rattle.declare_type.proofs.node.size_in.Reads as reads
 use Rattle.declare_type.proofs.node.size_in.Lts as lts
-use Rattle.declare_word.proofs.kind.size.Reads as size-reads
+use Rattle.declare_spelling.proofs.kind.size.Reads as size-reads
 use Rattle.declare_type.proofs.node.sized_record.Reads as sized-record-reads
 
 enum-known-l : tie.Need-enum-known-l

@@ -1,6 +1,6 @@
 -- `declare_type::write::behind` meets its contract. Assumes nothing.
 use mathlib.Core.Path.{sym, _∙_}
-use Rattle.declare_word.specs.Spellings.{qualsText}
+use Rattle.declare_spelling.specs.Spellings.{qualsText}
 use Rattle.declare_type.proofs.TokenPutLaws.{puts-none, puts-as, puts-two, fits-as, fits-first, fits-second, behind-none, behind-some}
 use borrow.Author.Needs.{needs}
 use Rattle.declare_type.proofs.write.behind.Statement.{statement}

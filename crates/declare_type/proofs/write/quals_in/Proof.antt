@@ -1,5 +1,5 @@
 -- `declare_type::write::quals_in` meets its contract. Assumes nothing.
-use Rattle.declare_word.specs.Spellings.{qualsText}
+use Rattle.declare_spelling.specs.Spellings.{qualsText}
 use Rattle.declare_type.proofs.TokenPutLaws.{ending-first, ending-second, ending-puts}
 use borrow.Author.Needs.{needs}
 use Rattle.declare_type.proofs.write.quals_in.Statement.{statement}

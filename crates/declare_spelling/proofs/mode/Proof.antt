@@ -1,13 +1,13 @@
--- `declare_word::mode` meets its contract: a line for each mode, its text computed. Assumes nothing.
+-- `declare_spelling::mode` meets its contract: a line for each mode, its text computed. Assumes nothing.
 use native.Mathlib.Omega.{arith}
 use mathlib.Core.Path.{refl}
-use Rattle.declare_word.specs.Spellings.{modeText}
-use Rattle.declare_word.specs.Words.{spaces}
-use Rattle.declare_word.proofs.WordLaws.{mode-other}
-use Rattle.declare_word.proofs.mode.Statement.{statement}
-use Rattle.declare_word.proofs.mode.Tie as tie
-use Rattle.declare_word.proofs.mode.Reads as reads
-use Rattle.declare_word.proofs.mode.Lts as lts
+use Rattle.declare_spelling.specs.Spellings.{modeText}
+use Rattle.declare_spelling.specs.Spelled.{spaces}
+use Rattle.declare_spelling.proofs.SpellingLaws.{mode-other}
+use Rattle.declare_spelling.proofs.mode.Statement.{statement}
+use Rattle.declare_spelling.proofs.mode.Tie as tie
+use Rattle.declare_spelling.proofs.mode.Reads as reads
+use Rattle.declare_spelling.proofs.mode.Lts as lts
 
 returns : tie.Need-returns
 unfolding modeText spaces

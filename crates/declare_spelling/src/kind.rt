@@ -1,225 +1,225 @@
 // The 42 kinds of primitives, R-5 of document 02: how each is spelled, and how large it is. Each spelling is a constant, and `kind` names them: a table of
 // constants is proved in a sixth of the time that one of literals takes. specs/Spellings.antt and specs/Sizes.antt have the same tables as definitions.
 ghost use mathlib.Core.Path.{_≡_};
-ghost use Rattle.declare_word.specs.Spellings.{kindText};
-ghost use Rattle.declare_word.specs.Words.{Spells};
-ghost use Rattle.declare_word.specs.Sizes.{kindSize, primitiveSize};
-use crate::Word;
+ghost use Rattle.declare_spelling.specs.Spellings.{kindText};
+ghost use Rattle.declare_spelling.specs.Spelled.{Spells};
+ghost use Rattle.declare_spelling.specs.Sizes.{kindSize, primitiveSize};
+use crate::Spelling;
 use word_primitive::Indirection;
 use word_primitive::PrimitiveKind;
 
-const NO_TYPE: Word = Word {
+const NO_TYPE: Spelling = Spelling {
     bytes: *b"...                                     ",
     n: 3,
 };
 
-const VOID: Word = Word {
+const VOID: Spelling = Spelling {
     bytes: *b"void                                    ",
     n: 4,
 };
 
-const CHAR: Word = Word {
+const CHAR: Spelling = Spelling {
     bytes: *b"signed char                             ",
     n: 11,
 };
 
-const UCHAR: Word = Word {
+const UCHAR: Spelling = Spelling {
     bytes: *b"unsigned char                           ",
     n: 13,
 };
 
-const RCHAR: Word = Word {
+const RCHAR: Spelling = Spelling {
     bytes: *b"char                                    ",
     n: 4,
 };
 
-const WCHAR: Word = Word {
+const WCHAR: Spelling = Spelling {
     bytes: *b"wchar_t                                 ",
     n: 7,
 };
 
-const RCHAR16: Word = Word {
+const RCHAR16: Spelling = Spelling {
     bytes: *b"char16_t                                ",
     n: 8,
 };
 
-const RCHAR32: Word = Word {
+const RCHAR32: Spelling = Spelling {
     bytes: *b"char32_t                                ",
     n: 8,
 };
 
-const I8: Word = Word {
+const I8: Spelling = Spelling {
     bytes: *b"int8_t                                  ",
     n: 6,
 };
 
-const U8: Word = Word {
+const U8: Spelling = Spelling {
     bytes: *b"uint8_t                                 ",
     n: 7,
 };
 
-const SHORT: Word = Word {
+const SHORT: Spelling = Spelling {
     bytes: *b"short                                   ",
     n: 5,
 };
 
-const USHORT: Word = Word {
+const USHORT: Spelling = Spelling {
     bytes: *b"unsigned short                          ",
     n: 14,
 };
 
-const I16: Word = Word {
+const I16: Spelling = Spelling {
     bytes: *b"int16_t                                 ",
     n: 7,
 };
 
-const U16: Word = Word {
+const U16: Spelling = Spelling {
     bytes: *b"uint16_t                                ",
     n: 8,
 };
 
-const LONG: Word = Word {
+const LONG: Spelling = Spelling {
     bytes: *b"long                                    ",
     n: 4,
 };
 
-const ULONG: Word = Word {
+const ULONG: Spelling = Spelling {
     bytes: *b"unsigned long                           ",
     n: 13,
 };
 
-const I32: Word = Word {
+const I32: Spelling = Spelling {
     bytes: *b"int                                     ",
     n: 3,
 };
 
-const U32: Word = Word {
+const U32: Spelling = Spelling {
     bytes: *b"unsigned int                            ",
     n: 12,
 };
 
-const QUAD: Word = Word {
+const QUAD: Spelling = Spelling {
     bytes: *b"long long                               ",
     n: 9,
 };
 
-const UQUAD: Word = Word {
+const UQUAD: Spelling = Spelling {
     bytes: *b"unsigned long long                      ",
     n: 18,
 };
 
-const I64: Word = Word {
+const I64: Spelling = Spelling {
     bytes: *b"int64_t                                 ",
     n: 7,
 };
 
-const U64: Word = Word {
+const U64: Spelling = Spelling {
     bytes: *b"uint64_t                                ",
     n: 8,
 };
 
-const OCTA: Word = Word {
+const OCTA: Spelling = Spelling {
     bytes: *b"__int128                                ",
     n: 8,
 };
 
-const UOCTA: Word = Word {
+const UOCTA: Spelling = Spelling {
     bytes: *b"unsigned __int128                       ",
     n: 17,
 };
 
-const I128: Word = Word {
+const I128: Spelling = Spelling {
     bytes: *b"int128_t                                ",
     n: 8,
 };
 
-const U128: Word = Word {
+const U128: Spelling = Spelling {
     bytes: *b"uint128_t                               ",
     n: 9,
 };
 
-const F16: Word = Word {
+const F16: Spelling = Spelling {
     bytes: *b"_Float16                                ",
     n: 8,
 };
 
-const F32: Word = Word {
+const F32: Spelling = Spelling {
     bytes: *b"float                                   ",
     n: 5,
 };
 
-const F32PP: Word = Word {
+const F32PP: Spelling = Spelling {
     bytes: *b"__float32pp                             ",
     n: 11,
 };
 
-const F48: Word = Word {
+const F48: Spelling = Spelling {
     bytes: *b"__float48                               ",
     n: 9,
 };
 
-const F64: Word = Word {
+const F64: Spelling = Spelling {
     bytes: *b"double                                  ",
     n: 6,
 };
 
-const F80: Word = Word {
+const F80: Spelling = Spelling {
     bytes: *b"long double                             ",
     n: 11,
 };
 
-const F128: Word = Word {
+const F128: Spelling = Spelling {
     bytes: *b"__float128                              ",
     n: 10,
 };
 
-const COMPLEX32: Word = Word {
+const COMPLEX32: Spelling = Spelling {
     bytes: *b"float _Complex                          ",
     n: 14,
 };
 
-const COMPLEX64: Word = Word {
+const COMPLEX64: Spelling = Spelling {
     bytes: *b"double _Complex                         ",
     n: 15,
 };
 
-const COMPLEX80: Word = Word {
+const COMPLEX80: Spelling = Spelling {
     bytes: *b"long double _Complex                    ",
     n: 20,
 };
 
-const COMPLEX128: Word = Word {
+const COMPLEX128: Spelling = Spelling {
     bytes: *b"__float128 _Complex                     ",
     n: 19,
 };
 
-const BOOL8: Word = Word {
+const BOOL8: Spelling = Spelling {
     bytes: *b"bool                                    ",
     n: 4,
 };
 
-const BOOL16: Word = Word {
+const BOOL16: Spelling = Spelling {
     bytes: *b"__bool16                                ",
     n: 8,
 };
 
-const BOOL32: Word = Word {
+const BOOL32: Spelling = Spelling {
     bytes: *b"__bool32                                ",
     n: 8,
 };
 
-const BOOL64: Word = Word {
+const BOOL64: Spelling = Spelling {
     bytes: *b"__bool64                                ",
     n: 8,
 };
 
-const HRESULT: Word = Word {
+const HRESULT: Spelling = Spelling {
     bytes: *b"HRESULT                                 ",
     n: 7,
 };
 
 // How a kind is spelled.
-pub fn spelled(k: PrimitiveKind) -> Word
+pub fn spelled(k: PrimitiveKind) -> Spelling
     ensures { λ r. ⌜ Spells r (kindText k) ⌝ }
 {
     match k {

@@ -1,13 +1,13 @@
--- `declare_word::indirection` meets its contract: a line for each indirection, its text computed. Assumes nothing.
+-- `declare_spelling::indirection` meets its contract: a line for each indirection, its text computed. Assumes nothing.
 use native.Mathlib.Omega.{arith}
 use mathlib.Core.Path.{refl}
-use Rattle.declare_word.specs.Spellings.{byText}
-use Rattle.declare_word.specs.Words.{spaces}
+use Rattle.declare_spelling.specs.Spellings.{byText}
+use Rattle.declare_spelling.specs.Spelled.{spaces}
 use borrow.Author.Needs.{needs}
-use Rattle.declare_word.proofs.indirection.Statement.{statement}
-use Rattle.declare_word.proofs.indirection.Tie as tie
-use Rattle.declare_word.proofs.indirection.Reads as reads
-use Rattle.declare_word.proofs.indirection.Lts as lts
+use Rattle.declare_spelling.proofs.indirection.Statement.{statement}
+use Rattle.declare_spelling.proofs.indirection.Tie as tie
+use Rattle.declare_spelling.proofs.indirection.Reads as reads
+use Rattle.declare_spelling.proofs.indirection.Lts as lts
 
 enum-told : tie.Need-enum-told
 enum-told c = search needs

@@ -1,10 +1,10 @@
--- `declare_word::kind::spelled` meets its contract: a line for each kind, its text computed. Assumes nothing.
+-- `declare_spelling::kind::spelled` meets its contract: a line for each kind, its text computed. Assumes nothing.
 use mathlib.Core.Path.{refl}
 use borrow.Author.Needs.{needs}
-use Rattle.declare_word.specs.Spellings.{kindText}
-use Rattle.declare_word.specs.Words.{spaces}
-use Rattle.declare_word.proofs.kind.spelled.Statement.{statement}
-use Rattle.declare_word.proofs.kind.spelled.Tie as tie
+use Rattle.declare_spelling.specs.Spellings.{kindText}
+use Rattle.declare_spelling.specs.Spelled.{spaces}
+use Rattle.declare_spelling.proofs.kind.spelled.Statement.{statement}
+use Rattle.declare_spelling.proofs.kind.spelled.Tie as tie
 
 enum-told : tie.Need-enum-told
 enum-told c = search needs

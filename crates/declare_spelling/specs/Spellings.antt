@@ -12,7 +12,7 @@ use Rattle.word_primitive.specs.declared.PrimitiveKind.{PrimitiveKind}
 use Rattle.word_primitive.specs.declared.PrimitiveKind.the-variants as kind
 use Rattle.word_primitive.specs.declared.Indirection.{Indirection}
 use Rattle.word_primitive.specs.declared.Indirection.the-variants as by
-use Rattle.declare_word.specs.declared.Quals.{Quals}
+use Rattle.declare_spelling.specs.declared.Quals.{Quals}
 
 -- the bytes of a quoted text
 abbrev pub quoted : String → List ℕ

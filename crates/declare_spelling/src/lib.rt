@@ -1,10 +1,10 @@
 // The house spellings of R-5 of document 02, each a table: indirections, modes of pointers, qualifiers; those of the kinds are in kind.rt.
 // Beside them what a declaration is spelled from and no lookup is needed for: qualifiers, and an array's extent.
-// specs/Spellings.antt has all of them as definitions, specs/Words.antt how a text stands in a word.
+// specs/Spellings.antt has all of them as definitions, specs/Spelled.antt how a text stands in its 40 bytes.
 pub mod kind;
 
-ghost use Rattle.declare_word.specs.Spellings.{byText, modeText, qualsText};
-ghost use Rattle.declare_word.specs.Words.{Spells};
+ghost use Rattle.declare_spelling.specs.Spellings.{byText, modeText, qualsText};
+ghost use Rattle.declare_spelling.specs.Spelled.{Spells};
 use word_primitive::Indirection;
 
 // Qualifiers: of a pointer by its attribute word, of another type by its modifier.
@@ -22,60 +22,60 @@ pub enum Extent {
 }
 
 // A short text: the first n bytes, and spaces behind them.
-pub struct Word {
+pub struct Spelling {
     pub bytes: [u8; 40],
     pub n: usize,
 }
 
 // An indirection, as it stands before what the primitive declares.
-pub fn indirection(y: Indirection) -> Word
+pub fn indirection(y: Indirection) -> Spelling
     ensures { λ r. ⌜ Spells r (byText y) ⌝ }
 {
     match y {
         Indirection::Direct => {
-            return Word {
+            return Spelling {
                 bytes: *b"                                        ",
                 n: 0,
             };
         }
         Indirection::Near16 => {
-            return Word {
+            return Spelling {
                 bytes: *b"__near *                                ",
                 n: 8,
             };
         }
         Indirection::Far16 => {
-            return Word {
+            return Spelling {
                 bytes: *b"__far *                                 ",
                 n: 7,
             };
         }
         Indirection::Huge16 => {
-            return Word {
+            return Spelling {
                 bytes: *b"__huge *                                ",
                 n: 8,
             };
         }
         Indirection::Near32 => {
-            return Word {
+            return Spelling {
                 bytes: *b"*                                       ",
                 n: 1,
             };
         }
         Indirection::Far32 => {
-            return Word {
+            return Spelling {
                 bytes: *b"__far32 *                               ",
                 n: 9,
             };
         }
         Indirection::Near64 => {
-            return Word {
+            return Spelling {
                 bytes: *b"*                                       ",
                 n: 1,
             };
         }
         Indirection::Near128 => {
-            return Word {
+            return Spelling {
                 bytes: *b"__ptr128 *                              ",
                 n: 10,
             };
@@ -84,36 +84,36 @@ pub fn indirection(y: Indirection) -> Word
 }
 
 // A mode of a pointer word.
-pub fn mode(m: u8) -> Word
+pub fn mode(m: u8) -> Spelling
     ensures { λ r. ⌜ Spells r (modeText m) ⌝ }
 {
     match m {
         0 => {
-            return Word {
+            return Spelling {
                 bytes: *b"*                                       ",
                 n: 1,
             };
         }
         1 => {
-            return Word {
+            return Spelling {
                 bytes: *b"&                                       ",
                 n: 1,
             };
         }
         2 => {
-            return Word {
+            return Spelling {
                 bytes: *b"::*                                     ",
                 n: 3,
             };
         }
         3 => {
-            return Word {
+            return Spelling {
                 bytes: *b"::*                                     ",
                 n: 3,
             };
         }
         _ => {
-            return Word {
+            return Spelling {
                 bytes: *b"&&                                      ",
                 n: 2,
             };
@@ -122,7 +122,7 @@ pub fn mode(m: u8) -> Word
 }
 
 // Qualifiers, in their order.
-pub fn qualifiers(q: Quals) -> Word
+pub fn qualifiers(q: Quals) -> Spelling
     ensures { λ r. ⌜ Spells r (qualsText q) ⌝ }
 {
     let constant = q.constant;
@@ -133,46 +133,46 @@ pub fn qualifiers(q: Quals) -> Word
         if volatile {
             if unaligned {
                 if restrict {
-                    return Word {
+                    return Spelling {
                         bytes: *b"const volatile __unaligned __restrict   ",
                         n: 37,
                     };
                 }
-                return Word {
+                return Spelling {
                     bytes: *b"const volatile __unaligned              ",
                     n: 26,
                 };
             }
             if restrict {
-                return Word {
+                return Spelling {
                     bytes: *b"const volatile __restrict               ",
                     n: 25,
                 };
             }
-            return Word {
+            return Spelling {
                 bytes: *b"const volatile                          ",
                 n: 14,
             };
         }
         if unaligned {
             if restrict {
-                return Word {
+                return Spelling {
                     bytes: *b"const __unaligned __restrict            ",
                     n: 28,
                 };
             }
-            return Word {
+            return Spelling {
                 bytes: *b"const __unaligned                       ",
                 n: 17,
             };
         }
         if restrict {
-            return Word {
+            return Spelling {
                 bytes: *b"const __restrict                        ",
                 n: 16,
             };
         }
-        return Word {
+        return Spelling {
             bytes: *b"const                                   ",
             n: 5,
         };
@@ -180,46 +180,46 @@ pub fn qualifiers(q: Quals) -> Word
     if volatile {
         if unaligned {
             if restrict {
-                return Word {
+                return Spelling {
                     bytes: *b"volatile __unaligned __restrict         ",
                     n: 31,
                 };
             }
-            return Word {
+            return Spelling {
                 bytes: *b"volatile __unaligned                    ",
                 n: 20,
             };
         }
         if restrict {
-            return Word {
+            return Spelling {
                 bytes: *b"volatile __restrict                     ",
                 n: 19,
             };
         }
-        return Word {
+        return Spelling {
             bytes: *b"volatile                                ",
             n: 8,
         };
     }
     if unaligned {
         if restrict {
-            return Word {
+            return Spelling {
                 bytes: *b"__unaligned __restrict                  ",
                 n: 22,
             };
         }
-        return Word {
+        return Spelling {
             bytes: *b"__unaligned                             ",
             n: 11,
         };
     }
     if restrict {
-        return Word {
+        return Spelling {
             bytes: *b"__restrict                              ",
             n: 10,
         };
     }
-    return Word {
+    return Spelling {
         bytes: *b"                                        ",
         n: 0,
     };

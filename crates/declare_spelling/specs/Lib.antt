@@ -1,3 +1,3 @@
 pub mod Spellings
-pub mod Words
+pub mod Spelled
 pub mod Sizes

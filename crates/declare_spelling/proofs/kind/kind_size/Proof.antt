@@ -1,9 +1,9 @@
--- `declare_word::kind::kind_size` meets its contract. Assumes nothing.
+-- `declare_spelling::kind::kind_size` meets its contract. Assumes nothing.
 use borrow.Author.Needs.{needs}
-use Rattle.declare_word.proofs.kind.kind_size.Statement.{statement}
-use Rattle.declare_word.proofs.kind.kind_size.Tie as tie
-use Rattle.declare_word.proofs.kind.kind_size.Reads as reads
-use Rattle.declare_word.proofs.kind.kind_size.Lts as lts
+use Rattle.declare_spelling.proofs.kind.kind_size.Statement.{statement}
+use Rattle.declare_spelling.proofs.kind.kind_size.Tie as tie
+use Rattle.declare_spelling.proofs.kind.kind_size.Reads as reads
+use Rattle.declare_spelling.proofs.kind.kind_size.Lts as lts
 
 enum-told : tie.Need-enum-told
 enum-told c = search needs

@@ -1,10 +1,10 @@
--- `declare_word::kind::size` meets its contract. Assumes nothing.
+-- `declare_spelling::kind::size` meets its contract. Assumes nothing.
 use borrow.Author.Needs.{needs}
-use Rattle.declare_word.proofs.kind.size.Statement.{statement}
-use Rattle.declare_word.proofs.kind.size.Tie as tie
-use Rattle.declare_word.proofs.kind.size.Reads as reads
-use Rattle.declare_word.proofs.kind.size.Lts as lts
-use Rattle.declare_word.proofs.kind.kind_size.Reads as kind-size-reads
+use Rattle.declare_spelling.proofs.kind.size.Statement.{statement}
+use Rattle.declare_spelling.proofs.kind.size.Tie as tie
+use Rattle.declare_spelling.proofs.kind.size.Reads as reads
+use Rattle.declare_spelling.proofs.kind.size.Lts as lts
+use Rattle.declare_spelling.proofs.kind.kind_size.Reads as kind-size-reads
 
 enum-told : tie.Need-enum-told
 enum-told c = search needs

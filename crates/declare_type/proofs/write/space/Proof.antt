@@ -1,10 +1,10 @@
--- `declare_type::write::gap` meets its contract. Assumes nothing.
+-- `declare_type::write::space` meets its contract. Assumes nothing.
 use Rattle.declare_type.proofs.TokenPutLaws.{puts-none}
 use borrow.Author.Needs.{needs}
-use Rattle.declare_type.proofs.write.gap.Statement.{statement}
-use Rattle.declare_type.proofs.write.gap.Tie as tie
-use Rattle.declare_type.proofs.write.gap.Reads as reads
-use Rattle.declare_type.proofs.write.gap.Lts as lts
+use Rattle.declare_type.proofs.write.space.Statement.{statement}
+use Rattle.declare_type.proofs.write.space.Tie as tie
+use Rattle.declare_type.proofs.write.space.Reads as reads
+use Rattle.declare_type.proofs.write.space.Lts as lts
 use Rattle.declare_type.proofs.write.byte.Reads as byte-reads
 
 returns : tie.Need-returns
@@ -19,5 +19,5 @@ same-length c = search needs
 returns-2 : tie.Need-returns-2
 returns-2 c = rw (c .before .before .before .before .if1 .left) (c .before .before .byte .ensures)
 
-pub gap-spec : {M : Type 1} → statement M
-gap-spec = tie.close (tie.spec returns byte-requires same-length returns-2)
+pub space-spec : {M : Type 1} → statement M
+space-spec = tie.close (tie.spec returns byte-requires same-length returns-2)

@@ -2,10 +2,10 @@
 use Prim.Native.Nat.{ℕ}
 use mathlib.Core.Path.{_≡_, sym, _∙_, ap}
 use mathlib.Core.List.{List}
-use Rattle.declare_word.specs.Words.{Spells}
-use Rattle.declare_word.specs.declared.Word.{Word}
+use Rattle.declare_spelling.specs.Spelled.{Spells}
+use Rattle.declare_spelling.specs.declared.Spelling.{Spelling}
 
-pub one-spells : (text : List ℕ) (r q : Word) → Spells r text → Spells q text → r ≡ q
+pub one-spells : (text : List ℕ) (r q : Spelling) → Spells r text → Spells q text → r ≡ q
 one-spells text r q a b =
     ap (λ (n : ℕ). record { bytes = r .bytes; n = n }) (a .count ∙ sym (b .count))
     ∙ ap (λ (l : List ℕ). record { bytes = l; n = q .n }) (a .whole ∙ sym (b .whole))

@@ -1,12 +1,12 @@
--- `declare_word::qualifiers` meets its contract: a line for each set of qualifiers, its text computed. Assumes nothing.
+-- `declare_spelling::qualifiers` meets its contract: a line for each set of qualifiers, its text computed. Assumes nothing.
 use native.Mathlib.Omega.{arith}
 use mathlib.Core.Path.{refl}
-use Rattle.declare_word.specs.Spellings.{wordsOf}
-use Rattle.declare_word.specs.Words.{spaces}
-use Rattle.declare_word.proofs.qualifiers.Statement.{statement}
-use Rattle.declare_word.proofs.qualifiers.Tie as tie
-use Rattle.declare_word.proofs.qualifiers.Reads as reads
-use Rattle.declare_word.proofs.qualifiers.Lts as lts
+use Rattle.declare_spelling.specs.Spellings.{wordsOf}
+use Rattle.declare_spelling.specs.Spelled.{spaces}
+use Rattle.declare_spelling.proofs.qualifiers.Statement.{statement}
+use Rattle.declare_spelling.proofs.qualifiers.Tie as tie
+use Rattle.declare_spelling.proofs.qualifiers.Reads as reads
+use Rattle.declare_spelling.proofs.qualifiers.Lts as lts
 
 returns : tie.Need-returns
 unfolding wordsOf spaces

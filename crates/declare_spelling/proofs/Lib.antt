@@ -1,0 +1,2 @@
+pub mod SpellingLaws
+pub mod OneOutcome
