@@ -835,6 +835,11 @@ fn element_excuses(ours: &Record<'_>, theirs: &Record<'_>) -> Option<Vec<&'stati
     Some(names)
 }
 
+/// Whether the port has a type leaf at all.
+fn has_layout(leaf: u16) -> bool {
+    pdb_types::layout(pdb_types::Layouts::Types, pdb_types::Leaf(leaf)).next().is_some()
+}
+
 fn type_excuses(bytes: &[u8], ours: &Answer<'_>, theirs: &Answer<'_>) -> Option<Vec<&'static str>> {
     let leaf = word(bytes, 0)?;
     // what is refused for its leaf
@@ -847,7 +852,7 @@ fn type_excuses(bytes: &[u8], ours: &Answer<'_>, theirs: &Answer<'_>) -> Option<
     }
     match leaf {
         0x000a if *theirs == Refused(10, 10) => return Some(vec!["vtable-shape"]),
-        _ if *theirs == Refused(10, leaf.into()) && !TYPES.contains(&leaf) => return Some(vec!["later-leaf"]),
+        _ if *theirs == Refused(10, leaf.into()) && !TYPES.contains(&leaf) && has_layout(leaf) => return Some(vec!["later-leaf"]),
         0x1002 => {
             let attributes = bytes.get(6..10).map(|b| u32::from_le_bytes(b.try_into().unwrap()))?;
             let (kind, mode) = (attributes & 0x1f, attributes >> 5 & 7);

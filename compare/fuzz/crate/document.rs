@@ -3,9 +3,9 @@
 use crate::answer::{Answer, NONE};
 
 /// The rules of docs/DIFFERENCES.md by name, as compare/compare.py has them.
-pub(crate) const REASONS: [&str; 26] = [
+pub(crate) const REASONS: [&str; 27] = [
     "byte-number", "signed-size", "continuation", "array-name", "array-size", "array-after", "pointer-kind", "pointer-mode", "pointer-class", "base-offset",
-    "nested-word", "vtable-shape", "member-outside", "leaf-in-list", "newer-leaf", "length-byte-leaf", "count-memory", "list-depth", "short-kind",
+    "nested-word", "vtable-shape", "later-leaf", "member-outside", "leaf-in-list", "newer-leaf", "length-byte-leaf", "count-memory", "list-depth", "short-kind",
     "primitive-from-4096", "index-used-up", "max-held", "structure-kind", "intrinsic-bit", "mocom-bits", "pointer-mocom",
 ];
 

@@ -77,7 +77,7 @@ static LENDER: Lender = Lender;
 
 // ---- counting
 
-static mut EXCUSED: [u64; 26] = [0; 26];
+static mut EXCUSED: [u64; REASONS.len()] = [0; REASONS.len()];
 static mut ALIKE: u64 = 0;
 static mut PANICS: u64 = 0;
 static mut PANICS_UNNAMED: u64 = 0;
@@ -116,7 +116,7 @@ fn hold(law: bool, what: &str, a: u64, b: u64) {
 }
 
 fn excuse(why: u32) {
-    for k in 0..26 {
+    for k in 0..REASONS.len() {
         if why >> k & 1 == 1 {
             unsafe { EXCUSED[k] += 1 };
         }
