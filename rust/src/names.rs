@@ -227,7 +227,7 @@ mod tests {
     #[test]
     fn leaves() {
         let rows = table("PDB_LEAVES");
-        assert_eq!(rows.len(), 34);
+        assert!(rows.len() >= 34, "the leaves of document 01, and what came since");
         for n in 0..=u16::MAX {
             assert_eq!(Leaf(n).name(), rows.iter().find(|row| row.0 == u32::from(n)).map(|row| row.1));
         }
