@@ -17,7 +17,7 @@ use Rattle.record_layout.specs.Layouts.{typeLeaves, readLeaf, leafOf, recordOf}
 use Rattle.stream_header.specs.Header.{headerOf}
 use Rattle.stream_item.specs.Links.{linkAt, chain, linkOf}
 use Rattle.stream_finder.specs.Finder.{begunBy, createBy, lookOf}
-use Rattle.declare_spelling.specs.Spellings.{kindText, byText, modeText, wordsOf}
+use Rattle.declare_spelling.specs.Spellings.{kindText, indirectionText, modeText, wordsOf}
 use Rattle.declare_type.specs.Looked.{declaredLeaves, listLeaves, bytesSeen, recordSeen, typeSeen, listSeen}
 use Rattle.declare_type.specs.Nodes.{classes, sizedIn, sizeThrough, extentOf, nodeIn, nodeOf, listOf, indexAt}
 use Rattle.declare_type.specs.Tokens.{decimal, textOf}
@@ -28,5 +28,5 @@ use Rattle.claim_promises.specs.DeclareExamples.{records, streamD, decla
 
 -- every line holds
 pub declarations-hold : map declared declarations ≡ map expected declarations
-unfolding records streamD declarations find among refusals inTable littleAt fixedAt optionalOf optionalAt bytesAfter toZero stringAt prefixes unsignedAt numericAt sizeAt shortest carried formOf numeralBy sizedBy kinds indirections primitiveOf pointerKinds pointerModes kindOf modeOf toMemberOf sizeOf readFieldBy readFieldsBy typeLeaves readLeaf leafOf recordOf headerOf linkAt chain linkOf begunBy createBy lookOf kindText byText modeText wordsOf declaredLeaves listLeaves bytesSeen recordSeen typeSeen listSeen classes sizedIn sizeThrough extentOf nodeIn nodeOf listOf indexAt decimal textOf inwardStep onto fixedThen restOf argumentsOf overArguments stepped walk textIn declareOf
+unfolding records streamD declarations find among refusals inTable littleAt fixedAt optionalOf optionalAt bytesAfter toZero stringAt prefixes unsignedAt numericAt sizeAt shortest carried formOf numeralBy sizedBy kinds indirections primitiveOf pointerKinds pointerModes kindOf modeOf toMemberOf sizeOf readFieldBy readFieldsBy typeLeaves readLeaf leafOf recordOf headerOf linkAt chain linkOf begunBy createBy lookOf kindText indirectionText modeText wordsOf declaredLeaves listLeaves bytesSeen recordSeen typeSeen listSeen classes sizedIn sizeThrough extentOf nodeIn nodeOf listOf indexAt decimal textOf inwardStep onto fixedThen restOf argumentsOf overArguments stepped walk textIn declareOf
 declarations-hold = refl

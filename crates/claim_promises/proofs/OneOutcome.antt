@@ -55,7 +55,7 @@ use Rattle.section_finder.specs.Finders as sections
 use Rattle.section_finder.proofs.OneOutcome.{one-indexes as one-section}
 use Rattle.section_stream.specs.Streams.{sectionStream}
 use Rattle.write_list.specs.Rows.{memberRows, methodRows}
-use Rattle.declare_spelling.specs.Spellings.{kindText, byText, modeText, qualsText}
+use Rattle.declare_spelling.specs.Spellings.{kindText, indirectionText, modeText, qualsText}
 use Rattle.declare_spelling.proofs.OneOutcome.{one-spells}
 use Rattle.answer_name.specs.Names.{nameText}
 use Rattle.answer_name.proofs.OneOutcome.{one-holds}
@@ -145,7 +145,7 @@ one-outcome = record {
   declare-spelling-kind-spelled = λ k. one-spells (kindText k);
   declare-spelling-kind-size = λ k by r q a b. a ∙ sym b;
   declare-type-declare = λ s f t i out. one-declares (declareOf s (state f t) (i .0) (length out)) out;
-  declare-spelling-indirection = λ y. one-spells (byText y);
+  declare-spelling-indirection = λ y. one-spells (indirectionText y);
   declare-spelling-mode = λ m. one-spells (modeText m);
   declare-spelling-qualifiers = λ q. one-spells (qualsText q);
   answer-name-name-of = λ e. one-holds (nameText e);

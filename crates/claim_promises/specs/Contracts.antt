@@ -18,7 +18,7 @@ use Rattle.answer_name.specs.Names.{Holds, nameText}
 use Rattle.answer_name.specs.declared.Name.{Name}
 use Rattle.declare_spelling.specs.Sizes.{primitiveSize}
 use Rattle.declare_spelling.specs.Spelled.{Spells}
-use Rattle.declare_spelling.specs.Spellings.{byText, kindText, modeText, qualsText}
+use Rattle.declare_spelling.specs.Spellings.{indirectionText, kindText, modeText, qualsText}
 use Rattle.declare_spelling.specs.declared.Quals.{Quals}
 use Rattle.declare_spelling.specs.declared.Spelling.{Spelling}
 use Rattle.declare_type.specs.Declares.{Declares, declareOf}
@@ -197,7 +197,7 @@ answer-name-name-of e r = Holds r (nameText e)
 
 -- declare_spelling::indirection
 abbrev pub declare-spelling-indirection : (y : Indirection) → Spelling → Type 0
-declare-spelling-indirection y r = Spells r (byText y)
+declare-spelling-indirection y r = Spells r (indirectionText y)
 
 -- declare_spelling::mode
 abbrev pub declare-spelling-mode : (m : ℕ) → Spelling → Type 0

@@ -65,15 +65,15 @@ kindText kind.Bool64 = quoted "__bool64"
 kindText kind.HRESULT = quoted "HRESULT"
 
 -- the indirections, each as it stands before what the primitive declares
-unfoldable pub byText : Indirection → List ℕ
-byText by.Direct = []
-byText by.Near16 = quoted "__near *"
-byText by.Far16 = quoted "__far *"
-byText by.Huge16 = quoted "__huge *"
-byText by.Near32 = quoted "*"
-byText by.Far32 = quoted "__far32 *"
-byText by.Near64 = quoted "*"
-byText by.Near128 = quoted "__ptr128 *"
+unfoldable pub indirectionText : Indirection → List ℕ
+indirectionText by.Direct = []
+indirectionText by.Near16 = quoted "__near *"
+indirectionText by.Far16 = quoted "__far *"
+indirectionText by.Huge16 = quoted "__huge *"
+indirectionText by.Near32 = quoted "*"
+indirectionText by.Far32 = quoted "__far32 *"
+indirectionText by.Near64 = quoted "*"
+indirectionText by.Near128 = quoted "__ptr128 *"
 
 -- the modes of a pointer word, 0 to 4: pointer, reference, to a data member, to a member function, rvalue reference
 unfoldable pub modeText : ℕ → List ℕ

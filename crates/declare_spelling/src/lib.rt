@@ -3,7 +3,7 @@
 // specs/Spellings.antt has all of them as definitions, specs/Spelled.antt how a text stands in its 40 bytes.
 pub mod kind;
 
-ghost use Rattle.declare_spelling.specs.Spellings.{byText, modeText, qualsText};
+ghost use Rattle.declare_spelling.specs.Spellings.{indirectionText, modeText, qualsText};
 ghost use Rattle.declare_spelling.specs.Spelled.{Spells};
 use word_primitive::Indirection;
 
@@ -29,7 +29,7 @@ pub struct Spelling {
 
 // An indirection, as it stands before what the primitive declares.
 pub fn indirection(y: Indirection) -> Spelling
-    ensures { λ r. ⌜ Spells r (byText y) ⌝ }
+    ensures { λ r. ⌜ Spells r (indirectionText y) ⌝ }
 {
     match y {
         Indirection::Direct => {

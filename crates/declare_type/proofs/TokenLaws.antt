@@ -13,7 +13,7 @@ use Rattle.word_primitive.specs.declared.Indirection.{Indirection}
 use Rattle.declare_spelling.specs.declared.Quals.{Quals}
 use Rattle.declare_type.specs.declared.token.Token.{Token}
 use Rattle.declare_type.specs.declared.token.Token.the-variants as token
-use Rattle.declare_spelling.specs.Spellings.{quoted, kindText, byText, modeText, qualsText}
+use Rattle.declare_spelling.specs.Spellings.{quoted, kindText, indirectionText, modeText, qualsText}
 use Rattle.declare_type.specs.Tokens.{spaced, spaceBefore, qualsIn, space, decimal, extentText, closing, textOf}
 use Rattle.declare_type.specs.Lengths.{spacedLength, qualsLength}
 
@@ -86,11 +86,11 @@ module _ (s : List ℕ) (p : Token) (q : Quals) (b : Bool) where
   primitive-length k x y z u e ex eu ey ez = rw (e, ex, eu, ey, ez, length-append (spaced (qualsText q) ++ kindText k), length-append (spaced (qualsText q)), length-spaced)
 
   pub pointed-length :
-      (k : PrimitiveKind) (d : Indirection) (x z y u : ℕ) → p ≡ token.Pointed k d q b → x ≡ length (kindText k) → z ≡ length (byText d) → y ≡ qualsLength b u → u ≡ length (qualsText q)
+      (k : PrimitiveKind) (d : Indirection) (x z y u : ℕ) → p ≡ token.Pointed k d q b → x ≡ length (kindText k) → z ≡ length (indirectionText d) → y ≡ qualsLength b u → u ≡ length (qualsText q)
       → x + 1 + z + y ≡ length (textOf s p)
   unfolding textOf
   pointed-length k d x z y u e ex ez ey eu =
-      rw (e, ex, ez, ey, eu, length-append (kindText k ++ quoted " " ++ byText d), length-append (kindText k ++ quoted " "), length-append (kindText k), length-quals)
+      rw (e, ex, ez, ey, eu, length-append (kindText k ++ quoted " " ++ indirectionText d), length-append (kindText k ++ quoted " "), length-append (kindText k), length-quals)
 
   pub tag-length :
       (a n x y z u : ℕ) → p ≡ token.Tag a n q b → x ≡ spacedLength u → u ≡ length (qualsText q) → y ≡ length (take n (drop a s)) → z ≡ length (space b)

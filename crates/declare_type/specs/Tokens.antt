@@ -9,7 +9,7 @@ use Rattle.declare_spelling.specs.declared.Extent.{Extent}
 use Rattle.declare_spelling.specs.declared.Extent.the-variants as extent
 use Rattle.declare_type.specs.declared.token.Token.{Token}
 use Rattle.declare_type.specs.declared.token.Token.the-variants as token
-use Rattle.declare_spelling.specs.Spellings.{quoted, kindText, byText, modeText, qualsText}
+use Rattle.declare_spelling.specs.Spellings.{quoted, kindText, indirectionText, modeText, qualsText}
 
 -- a text with a space behind it, if there is a text
 abbrev pub spaced : List ℕ → List ℕ
@@ -51,7 +51,7 @@ textOf s token.Nothing = []
 textOf s token.Open = quoted "("
 textOf s (token.Pointer m q last) = modeText m ++ qualsIn last (qualsText q)
 textOf s (token.Primitive k q bare) = spaced (qualsText q) ++ kindText k ++ space bare
-textOf s (token.Pointed k y q last) = kindText k ++ quoted " " ++ byText y ++ qualsIn last (qualsText q)
+textOf s (token.Pointed k y q last) = kindText k ++ quoted " " ++ indirectionText y ++ qualsIn last (qualsText q)
 textOf s (token.Tag p n q bare) = spaced (qualsText q) ++ take n (drop p s) ++ space bare
 textOf s (token.Length closes e) = closing closes ++ quoted "[" ++ extentText e ++ quoted "]"
 textOf s (token.Begin closes) = closing closes ++ quoted "("

@@ -2,7 +2,7 @@
 ghost use mathlib.Core.Path.{_≡_};
 ghost use Prim.Native.Nat.{_+_, _≤_, _<_};
 ghost use lib.ListN.{length, take, drop};
-ghost use Rattle.declare_spelling.specs.Spellings.{kindText, byText, modeText, qualsText};
+ghost use Rattle.declare_spelling.specs.Spellings.{kindText, indirectionText, modeText, qualsText};
 ghost use Rattle.declare_type.specs.Tokens.{space, decimal, extentText, closing, textOf};
 ghost use Rattle.declare_type.specs.Lengths.{spacedLength, qualsLength};
 use crate::token::Token;
@@ -18,8 +18,8 @@ fn kind_len(k: PrimitiveKind) -> usize
     w.n
 }
 
-fn by_len(y: Indirection) -> usize
-    ensures { λ r. ⌜ (r ≡ length (byText y)) × (r ≤ 40) ⌝ }
+fn indirection_len(y: Indirection) -> usize
+    ensures { λ r. ⌜ (r ≡ length (indirectionText y)) × (r ≤ 40) ⌝ }
 {
     let w = declare_spelling::indirection(y);
     w.n
@@ -122,7 +122,10 @@ pub fn token_len(s: &[u8], p: Token) -> usize
         Token::Open => 1,
         Token::Pointer(m, q, b) => mode_len(m) + quals_in_len(b, quals_len(q)),
         Token::Primitive(k, q, b) => spaced_len(quals_len(q)) + kind_len(k) + space_len(b),
-        Token::Pointed(k, y, q, b) => kind_len(k) + 1 + by_len(y) + quals_in_len(b, quals_len(q)),
+        Token::Pointed(k, y, q, b) => kind_len(k)
+            + 1
+            + indirection_len(y)
+            + quals_in_len(b, quals_len(q)),
         Token::Tag(a, n, q, b) => spaced_len(quals_len(q)) + name_len(s, a, n) + space_len(b),
         Token::Length(c, e) => closing_len(c) + 2 + extent_len(e),
         Token::Begin(c) => closing_len(c) + 1,

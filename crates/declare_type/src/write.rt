@@ -5,7 +5,7 @@ ghost use mathlib.Core.List.{_∷_, [], _++_};
 ghost use lib.Dec.{eqb};
 ghost use lib.ListN.{length, take, drop};
 ghost use Rattle.field_put.specs.Bytes.{Room, Puts};
-ghost use Rattle.declare_spelling.specs.Spellings.{quoted, kindText, byText, modeText, qualsText};
+ghost use Rattle.declare_spelling.specs.Spellings.{quoted, kindText, indirectionText, modeText, qualsText};
 ghost use Rattle.declare_type.specs.Tokens.{decimal, extentText, closing, spaced, spaceBefore, qualsIn, space, textOf};
 ghost use Rattle.declare_type.specs.Lengths.{ending};
 use crate::count;
@@ -39,9 +39,9 @@ fn kind(out: &mut [u8], at: usize, k: PrimitiveKind) -> usize
     spelling(out, at, declare_spelling::kind::spelled(k))
 }
 
-fn by(out: &mut [u8], at: usize, y: Indirection) -> usize
-    requires { ⌜ Room (now out) at (byText y) ⌝ }
-    ensures { λ r. ⌜ Puts (now (out .entry)) at (byText y) r (now (out .exit)) ⌝ }
+fn indirection(out: &mut [u8], at: usize, y: Indirection) -> usize
+    requires { ⌜ Room (now out) at (indirectionText y) ⌝ }
+    ensures { λ r. ⌜ Puts (now (out .entry)) at (indirectionText y) r (now (out .exit)) ⌝ }
 {
     spelling(out, at, declare_spelling::indirection(y))
 }
@@ -194,12 +194,12 @@ fn pointed(
     q: Quals,
     last: bool,
 ) -> usize
-    requires { ⌜ Room (now out) at (kindText k ++ quoted " " ++ byText y ++ qualsIn last (qualsText q)) ⌝ }
-    ensures { λ r. ⌜ Puts (now (out .entry)) at (kindText k ++ quoted " " ++ byText y ++ qualsIn last (qualsText q)) r (now (out .exit)) ⌝ }
+    requires { ⌜ Room (now out) at (kindText k ++ quoted " " ++ indirectionText y ++ qualsIn last (qualsText q)) ⌝ }
+    ensures { λ r. ⌜ Puts (now (out .entry)) at (kindText k ++ quoted " " ++ indirectionText y ++ qualsIn last (qualsText q)) r (now (out .exit)) ⌝ }
 {
     let e = kind(out, at, k);
     let f = byte(out, e, b' ');
-    let g = by(out, f, y);
+    let g = indirection(out, f, y);
     quals_in(out, g, q, last)
 }
 

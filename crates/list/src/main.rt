@@ -48,37 +48,37 @@ fn put_record(s: &[u8], item: Item) {
 }
 
 // The cursor behind a record that was listed, or that the walk is over.
-enum Onward {
-    On(ItemIter),
+enum Listed {
+    One(ItemIter),
     Over,
 }
 
-fn turn(s: &[u8], c: ItemIter, listed: u64) -> Onward {
+fn list_next(s: &[u8], c: ItemIter, listed: u64) -> Listed {
     match stream_item::iter::next(s, c) {
         NextAnswer::Yielded(item, behind) => {
             put_record(s, item);
-            Onward::On(behind)
+            Listed::One(behind)
         }
         NextAnswer::Done => {
             put(b"end ");
             put_number(listed);
             put(b"\n");
-            Onward::Over
+            Listed::Over
         }
         NextAnswer::Refused(e) => {
             put_refused(e);
-            Onward::Over
+            Listed::Over
         }
     }
 }
 
-// Each record takes four bytes at least, so that 65,536 bytes end before the turns do.
+// Each record takes four bytes at least, so that 65,536 bytes end before the count does.
 fn walk(s: &[u8], first: ItemIter) {
     let mut c = first;
     let mut listed: u64 = 0;
     while listed < 65536 {
-        let t = turn(s, c, listed);
-        let Onward::On(behind) = t else {
+        let t = list_next(s, c, listed);
+        let Listed::One(behind) = t else {
             return;
         };
         c = behind;

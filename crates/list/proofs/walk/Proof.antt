@@ -1,4 +1,4 @@
--- `list::walk` is safe and ends: its turns are counted down. Assumes nothing.
+-- `list::walk` is safe and ends: its records are counted up. Assumes nothing.
 use Prim.Native.Nat.{_-_}
 use borrow.Author.Needs.{needs}
 use Rattle.list.proofs.walk.Statement.{statement}

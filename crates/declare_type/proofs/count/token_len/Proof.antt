@@ -6,7 +6,7 @@ use Rattle.declare_type.proofs.count.token_len.Statement.{statement}
 use Rattle.declare_type.proofs.count.token_len.Tie as tie
 use Rattle.declare_type.proofs.count.token_len.Reads as reads
 use Rattle.declare_type.proofs.count.token_len.Lts as lts
-use Rattle.declare_type.proofs.count.by_len.Reads as by-len-reads
+use Rattle.declare_type.proofs.count.indirection_len.Reads as indirection-len-reads
 use Rattle.declare_type.proofs.count.closing_len.Reads as closing-len-reads
 use Rattle.declare_type.proofs.count.extent_len.Reads as extent-len-reads
 use Rattle.declare_type.proofs.count.space_len.Reads as space-len-reads
@@ -68,8 +68,8 @@ kind-len-requires-2 c κs = search needs
 add-result-4 : tie.Need-add-result-4
 add-result-4 c = search needs
 
-by-len-requires : tie.Need-by-len-requires
-by-len-requires c κs = search needs
+indirection-len-requires : tie.Need-indirection-len-requires
+indirection-len-requires c κs = search needs
 
 add-result-5 : tie.Need-add-result-5
 add-result-5 c = search needs
@@ -161,7 +161,7 @@ returns-4 : tie.Need-returns-4
 returns-4 c = primitive-length _ _ _ _ _ _ _ _ _ (c .before .before .before .before .before .p2 .given .1) (c .before .before .spaced-len .ensures .0) (c .before .before .before .quals-len2 .ensures .0) (c .before .kind-len .ensures .0) (c .space-len .ensures .0)
 
 returns-5 : tie.Need-returns-5
-returns-5 c = pointed-length _ _ _ _ _ _ _ _ _ _ (c .before .before .before .before .before .p3 .given .1) (c .before .before .before .kind-len2 .ensures .0) (c .before .before .by-len .ensures .0) (c .quals-in-len2 .ensures .0) (c .before .quals-len3 .ensures .0)
+returns-5 c = pointed-length _ _ _ _ _ _ _ _ _ _ (c .before .before .before .before .before .p3 .given .1) (c .before .before .before .kind-len2 .ensures .0) (c .before .before .indirection-len .ensures .0) (c .quals-in-len2 .ensures .0) (c .before .quals-len3 .ensures .0)
 
 returns-6 : tie.Need-returns-6
 returns-6 c = tag-length _ _ _ _ _ _ _ _ _ _ (c .before .before .before .before .before .p4 .given .1) (c .before .before .spaced-len2 .ensures .0) (c .before .before .before .quals-len4 .ensures .0) (c .before .name-len .ensures .0) (c .space-len2 .ensures .0)
@@ -204,7 +204,7 @@ token-len-spec =
     enum-known-p-3
     kind-len-requires-2
     add-result-4
-    by-len-requires
+    indirection-len-requires
     add-result-5
     quals-len-requires-3
     quals-in-len-requires-2
