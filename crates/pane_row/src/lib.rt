@@ -1,6 +1,6 @@
 // Parsed records and list elements as rows of numbers, for a caller that is written in C: each role has one place of the row for all leaves, 0 where there
 // is none. The places are specs/TypePlaces.antt, IdPlaces.antt and ElementPlaces.antt, tables beside 01's table of layouts. Each row begins with two zeros,
-// for the details of a refusal, so that what goes behind `out` is written by one store.
+// for the details of a refusal, so that what goes behind `out` is written by one store. tools/leaves writes the rows of plain type records.
 ghost use mathlib.Core.Path.{_≡_};
 ghost use mathlib.Core.List.{[], _∷_};
 ghost use Rattle.field.specs.Indices.{typeOption, idOption};

@@ -1,4 +1,5 @@
 // The layouts of document 01 as numbers: five bits a field, the first field lowest. specs/Codes.antt says which field a code is.
+// tools/leaves writes the layouts and the tables below from record_layout/specs/Layouts.antt.
 ghost use mathlib.Core.Path.{_≡_};
 ghost use mathlib.Core.Option.{some};
 ghost use Rattle.answer.specs.Tables.{find};

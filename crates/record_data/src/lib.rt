@@ -1,5 +1,6 @@
 // The records of the TPI stream: the type leaves of document 01, by the names of the crate's data.rs, each read by its line of the table in
 // record_layout/specs/Layouts.antt. The members inside a field list are in record_member, the elements of lists in record_list.
+// tools/leaves writes the readers of plain records, and the tests of `type_data`.
 ghost use mathlib.Core.Path.{_≡_};
 ghost use Rattle.answer.specs.Tables.{find};
 ghost use Rattle.record_layout.specs.Fields.{readField};

@@ -1,5 +1,6 @@
 // The type references of a record and of a list element, from what the readers gave: document 02, R-9 and R-13. No byte is read twice, and
 // which field refers is said by the table in record_layout/specs/Layouts.antt alone; specs/References.antt has the references of a whole payload.
+// tools/leaves writes the arms of plain records.
 ghost use Prim.Native.Nat.{ℕ};
 ghost use mathlib.Core.Bool.{true};
 ghost use mathlib.Core.List.{_∷_, []};
