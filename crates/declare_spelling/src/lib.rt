@@ -9,7 +9,7 @@ ghost use Rattle.declare_spelling.specs.Spelled.{Spells};
 use word_primitive::Indirection;
 
 // Qualifiers: of a pointer by its attribute word, of another type by its modifier.
-#[derive(Drop)]
+#[derive(Clone, Copy)]
 pub struct Quals {
     pub constant: bool,
     pub volatile: bool,
@@ -18,7 +18,7 @@ pub struct Quals {
 }
 
 // How many elements an array has.
-#[derive(Drop)]
+#[derive(Clone, Copy)]
 pub enum Extent {
     Known(u64),
     Unknown,

@@ -15,7 +15,7 @@ use word_primitive::{Indirection, PrimitiveKind};
 
 // What stands around a type: qualifiers that wait, whether a pointer stands directly outside, whether nothing stands left yet, and whether
 // nothing is fixed yet on either side.
-#[derive(Drop)]
+#[derive(Clone, Copy)]
 pub struct Around {
     pub quals: Quals,
     pub under: bool,

@@ -9,7 +9,7 @@ use declare_spelling::{Extent, Quals};
 use word_primitive::{Indirection, PrimitiveKind};
 
 // A token of a declaration. `last` says that nothing stands left of what the token declares yet, `bare` that nothing is fixed at all.
-#[derive(Drop)]
+#[derive(Clone, Copy)]
 pub enum Token {
     Nothing,
     // The ( of a pointer to an array or a procedure; its ) stands in Length or Begin.

@@ -8,11 +8,11 @@ use crate::fixed;
 use crate::fixed::Read32;
 
 // A type: a primitive below 0x1000, and from there up a record of the TPI stream.
-#[derive(Drop)]
+#[derive(Clone, Copy)]
 pub struct TypeIndex(pub u32);
 
 // A record of the IPI stream.
-#[derive(Drop)]
+#[derive(Clone, Copy)]
 pub struct IdIndex(pub u32);
 
 // A string of the database's string table.
@@ -20,7 +20,7 @@ pub struct IdIndex(pub u32);
 pub struct StringRef(pub u32);
 
 // The two streams of items: types (TPI) and ids (IPI).
-#[derive(Drop)]
+#[derive(Clone, Copy)]
 pub enum Stream {
     Types,
     Ids,
@@ -28,7 +28,7 @@ pub enum Stream {
 
 // An index that says by its type in which stream it counts: an item names its stream by it, and no caller gives or gets a bare number.
 // Types and ids share every function over items, so the stream is this tag and not two kinds of item.
-#[derive(Drop)]
+#[derive(Clone, Copy)]
 pub enum ItemIndex {
     Types(TypeIndex),
     Ids(IdIndex),
@@ -52,13 +52,13 @@ pub enum ReadStringRef {
     Ended,
 }
 
-#[derive(Drop)]
+#[derive(Clone, Copy)]
 pub enum OptTypeIndex {
     None,
     Some(TypeIndex),
 }
 
-#[derive(Drop)]
+#[derive(Clone, Copy)]
 pub enum OptIdIndex {
     None,
     Some(IdIndex),

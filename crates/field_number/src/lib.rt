@@ -12,14 +12,14 @@ use field::fixed;
 use field::fixed::{Read8, Read16, Read32, Read64};
 
 // A number from -2^63 to 2^64 - 1: n, or -1 - n. Each number has one form.
-#[derive(Drop)]
+#[derive(Clone, Copy)]
 pub enum Number {
     Natural(u64),
     Negative(u64),
 }
 
 // What a numeric leaf holds; how many bytes it took, prefix and all: 2, 3, 4, 6 or 10; and whether a shorter form carries the number.
-#[derive(Drop)]
+#[derive(Clone, Copy)]
 pub struct Variant {
     pub value: Number,
     pub width: u8,
@@ -27,7 +27,7 @@ pub struct Variant {
 }
 
 // The same where a size or an offset is wanted.
-#[derive(Drop)]
+#[derive(Clone, Copy)]
 pub struct Size {
     pub value: u64,
     pub width: u8,

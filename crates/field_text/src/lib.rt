@@ -9,14 +9,14 @@ use field::run::After;
 use field::{fixed, run};
 
 // A string: a part of the bytes that it was read from, where it starts and how many bytes it has.
-#[derive(Drop)]
+#[derive(Clone, Copy)]
 pub struct RawString {
     pub place: usize,
     pub length: usize,
 }
 
 // A string that may be missing.
-#[derive(Drop)]
+#[derive(Clone, Copy)]
 pub enum OptString {
     None,
     Some(RawString),

@@ -43,7 +43,7 @@ high_is (negsuc n) t = let z : ◌≡◌ {A = ℕ} 0 1 = cc in absurd (omega ari
 -- of the number that its bits are
 module _ (x : ℤ) (g : mag x < 2 ^ 31) where
   pub back : to_z w32 (of_z w32 x) ≡ x
-  back = to_z-of_z (record { sfits = g })
+  back = to_z-of_z {w = w32} (record { sfits = g })
 
   module _ (t : lt_z (to_z w32 (of_z w32 x)) (pos 0) ≡ true) where
     low : lt_z x (pos 0) ≡ true

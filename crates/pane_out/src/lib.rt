@@ -1,5 +1,7 @@
 // What every export for C has in common: the result is a refusal's number, 0 for an answer, and behind `out` two details stand before the fields
 // (specs/Handed.antt). Here are the two details, and what is yes or no.
+#![tactic(auto, using(crate::proofs::Used::laws))]
+
 ghost use Rattle.std.specs.Prelude.{◌≡◌, get_or};
 ghost use Rattle.answer.specs.Refusals.{details_of};
 ghost use Rattle.pane_out.specs.Handed.{is_set, mark};

@@ -16,7 +16,7 @@ use record_layout::{LF_ARGLIST, LF_BUILDINFO, LF_FIELDLIST, LF_METHODLIST, LF_SU
 use record_member::{Member, MethodListEntry, ReadMember, ReadMethodEntry};
 
 // Where a list is read: plain numbers, so that a struct may hold it beside the record's bytes.
-#[derive(Drop)]
+#[derive(Clone, Copy)]
 pub struct ListCursor {
     pub leaf: u16,
     pub at: usize,

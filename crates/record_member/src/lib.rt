@@ -20,7 +20,7 @@ use record_layout::{
 use word_attributes::FieldAttributes;
 
 // 0x1400: a base class and where it lies in the class. The crate's kind is left out: 01 takes no other leaf for a base class.
-#[derive(Drop)]
+#[derive(Clone, Copy)]
 pub struct BaseClassType {
     pub attributes: FieldAttributes,
     pub base_class: TypeIndex,
@@ -28,7 +28,7 @@ pub struct BaseClassType {
 }
 
 // 0x1401, direct, and 0x1402, indirect: a virtual base class.
-#[derive(Drop)]
+#[derive(Clone, Copy)]
 pub struct VirtualBaseClassType {
     pub direct: bool,
     pub attributes: FieldAttributes,
@@ -39,13 +39,13 @@ pub struct VirtualBaseClassType {
 }
 
 // 0x1409: the pointer to the table of virtual functions.
-#[derive(Drop)]
+#[derive(Clone, Copy)]
 pub struct VirtualFunctionTablePointerType {
     pub table: TypeIndex,
 }
 
 // 0x1502: one value of an enumeration, which may be negative.
-#[derive(Drop)]
+#[derive(Clone, Copy)]
 pub struct EnumerateType {
     pub attributes: FieldAttributes,
     pub value: Variant,
@@ -53,7 +53,7 @@ pub struct EnumerateType {
 }
 
 // 0x150d: a data member and where it lies in the class.
-#[derive(Drop)]
+#[derive(Clone, Copy)]
 pub struct MemberType {
     pub attributes: FieldAttributes,
     pub field_type: TypeIndex,
@@ -62,7 +62,7 @@ pub struct MemberType {
 }
 
 // 0x150e: a static data member.
-#[derive(Drop)]
+#[derive(Clone, Copy)]
 pub struct StaticMemberType {
     pub attributes: FieldAttributes,
     pub field_type: TypeIndex,
@@ -70,7 +70,7 @@ pub struct StaticMemberType {
 }
 
 // 0x150f: the overloads of a method, which stand in a 0x1206 record.
-#[derive(Drop)]
+#[derive(Clone, Copy)]
 pub struct OverloadedMethodType {
     pub count: u16,
     pub method_list: TypeIndex,
@@ -78,7 +78,7 @@ pub struct OverloadedMethodType {
 }
 
 // 0x1510: a type nested in the class.
-#[derive(Drop)]
+#[derive(Clone, Copy)]
 pub struct NestedType {
     pub attributes: FieldAttributes,
     pub nested_type: TypeIndex,
@@ -86,14 +86,14 @@ pub struct NestedType {
 }
 
 // The place of a method in the table of virtual functions, where the method introduces one.
-#[derive(Drop)]
+#[derive(Clone, Copy)]
 pub enum OptOffset {
     None,
     Some(u32),
 }
 
 // 0x1511: a method with no overloads.
-#[derive(Drop)]
+#[derive(Clone, Copy)]
 pub struct MethodType {
     pub attributes: FieldAttributes,
     pub method_type: TypeIndex,
@@ -102,7 +102,7 @@ pub struct MethodType {
 }
 
 // An element of a field list.
-#[derive(Drop)]
+#[derive(Clone, Copy)]
 pub enum Member {
     BaseClass(BaseClassType),
     VirtualBaseClass(VirtualBaseClassType),

@@ -1,5 +1,7 @@
 // The list reader of document 01: it "holds the record's bytes and walks them", by a cursor. Its methods are thin over `step` and
 // `element_from` of record_list; `nth` has plain parameters, so that its callers need no proof by hand.
+#![tactic(auto)]
+
 ghost use Rattle.std.specs.Prelude.{◌≡◌};
 ghost use Rattle.record_list.specs.Lists.{step_of, element_by, element_of};
 ghost use Rattle.record_list.specs.Said.{said_element};
@@ -9,7 +11,7 @@ use field::index::Stream;
 use record_list::{ElementAnswer, ListCursor, StartAnswer, StepAnswer};
 
 // A record's bytes, and where in them its list is read: one reader for all lists, by the leaf in the cursor.
-#[derive(Drop)]
+#[derive(Clone, Copy)]
 pub struct ListReader<'a> {
     pub bytes: &'a [u8],
     pub cursor: ListCursor,
@@ -63,6 +65,7 @@ impl<'a> ListReader<'a> {
 }
 
 // Element k of a record's list, from its start.
+#[tactic(auto, unfolding(record_list::specs::Lists::element_of))]
 pub fn nth(stream: Stream, s: &[u8], k: u32) -> ElementAnswer
     ensures { said_element result ≡ element_of stream s.now k }
 {

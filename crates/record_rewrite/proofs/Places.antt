@@ -107,13 +107,13 @@ put-here s p n r h =
 pub length-rewrite : (f : ℕ → ℕ) (s : List ℕ) (rs : List Ref) → length (rewrite f s rs) ≡ length s
 unfolding rewrite
 length-rewrite f s [] = refl
-length-rewrite f s (r ∷ rs) = length-rewrite f _ rs ∙ length-put s r.place _
+length-rewrite f s (r ∷ rs) = length-rewrite f (put s r.place (bytes 4 (f r.index))) rs ∙ length-put s r.place _
 
 -- all other bytes kept
 pub rewrite-outside : (f : ℕ → ℕ) (s : List ℕ) (rs : List Ref) (i : ℕ) → Outside i rs → get_or (rewrite f s rs) i 0 ≡ get_or s i 0
 unfolding rewrite Outside
 rewrite-outside f s [] i h = refl
-rewrite-outside f s (r ∷ rs) i h = rewrite-outside f _ rs i h.1 ∙ put_four s r.place (f r.index) i h.0
+rewrite-outside f s (r ∷ rs) i h = rewrite-outside f (put s r.place (bytes 4 (f r.index))) rs i h.1 ∙ put_four s r.place (f r.index) i h.0
 
 -- before the first reference, and after the last
 pub outside-before : (rs : List Ref) (p e i : ℕ) → Within p rs e → i < p → Outside i rs
@@ -145,7 +145,7 @@ put-octets s p n o i = many (bytes 4 n) s p (bytes_small 4 n) o i
 pub rewrite-octets : (f : ℕ → ℕ) (s : List ℕ) (rs : List Ref) → Octets s → Octets (rewrite f s rs)
 unfolding rewrite
 rewrite-octets f s [] o = o
-rewrite-octets f s (r ∷ rs) o = rewrite-octets f _ rs (put-octets s r.place (f r.index) o)
+rewrite-octets f s (r ∷ rs) o = rewrite-octets f (put s r.place (bytes 4 (f r.index))) rs (put-octets s r.place (f r.index) o)
 
 -- what stands is written as it was
 pub put_same : (s : List ℕ) (p : ℕ) → Octets s → p + 4 ≤ length s → put s p (bytes 4 (little_at 4 s p)) ≡ s

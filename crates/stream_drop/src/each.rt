@@ -15,7 +15,7 @@ use record_reference::{ElementReferences, Reference, References};
 
 // At a reference at or above the minimum: the record that it names is marked; or it is asked whether its new number would read as none; or its
 // new number is written, the payload standing at this place of the buffer.
-#[derive(Drop)]
+#[derive(Clone, Copy)]
 pub enum Job {
     Mark,
     Ask,

@@ -39,7 +39,7 @@ pub struct Records {
 
 // The finder: the stream's least index, the index behind its last, how many places of the lent table it holds, and its shift: a block is
 // 2^shift links.
-#[derive(Drop)]
+#[derive(Clone, Copy)]
 pub struct ItemFinder {
     pub minimum_index: u32,
     pub maximum_index: u32,

@@ -13,7 +13,7 @@ use field::fixed::{Read16, Read32};
 pub const LONGEST: usize = 4294967294;
 
 // Where a part of the hash stream lies.
-#[derive(Drop)]
+#[derive(Clone, Copy)]
 pub struct Slice {
     pub offset: i32,
     pub size: u32,

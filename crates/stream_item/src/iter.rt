@@ -10,7 +10,7 @@ use stream_header::{Header, HeaderAnswer, LONGEST};
 
 // The cursor: where the next record starts, and the index it will have. Any cursor may be given; `index` is the count that `next` goes
 // on from, and the item that it yields has it as an ItemIndex.
-#[derive(Drop)]
+#[derive(Clone, Copy)]
 pub struct ItemIter {
     pub stream: Stream,
     pub at: usize,

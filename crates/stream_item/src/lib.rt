@@ -13,7 +13,7 @@ use field::fixed;
 use field::index::ItemIndex;
 
 // A record of a stream: its index, and where its payload lies in the stream that the index names.
-#[derive(Drop)]
+#[derive(Clone, Copy)]
 pub struct Item {
     pub index: ItemIndex,
     pub place: usize,
@@ -21,7 +21,7 @@ pub struct Item {
 }
 
 // What an index names: a record, or the marker, which has an index but no bytes in either stream.
-#[derive(Drop)]
+#[derive(Clone, Copy)]
 pub enum Entry {
     Record(Item),
     Marker(ItemIndex),

@@ -26,7 +26,7 @@ use trailer::{Trailer, TrailerAnswer};
 const LARGEST_SHIFT: u32 = 6;
 
 // The two forms of a file: its count in two bytes, R-3's, and in four, R-10's.
-#[derive(Drop)]
+#[derive(Clone, Copy)]
 enum Width {
     Narrow,
     Wide,

@@ -27,6 +27,7 @@ data Rising : ℕ → List RecordSeen → Type 0 where
   up : {n : ℕ} {y : RecordSeen} {ys : List RecordSeen} → n ≤ y.index → 0 < y.bytes → Rising (suc y.index) ys → Rising n (y ∷ ys)
 
 from : (n : ℕ) (ys : List RecordSeen) → Rising n ys → (x : RecordSeen) → Among ys x → (n ≤ x.index) × (0 < x.bytes)
+from n [] r x m = elim m [ ]
 from n (y ∷ ys) (up a b r) x first = (a, b)
 from n (y ∷ ys) (up a b r) x (later m) = let h = from (suc y.index) ys r x m in (omega (arith, h.0, a), h.1)
 
@@ -170,6 +171,7 @@ module _ (number : ℕ) where
 
 -- ---- a stream more
 below : (ss : List (List ℕ)) (number : ℕ) (y : RecordSeen) → RecordIn ss number y → number < length ss
+below [] number y m = elim m [ ]
 below (s ∷ ss) number y (in_last e a) = omega arith
 below (s ∷ ss) number y (in_earlier c) = let h = below ss number y c in omega (arith, h)
 

@@ -14,7 +14,7 @@ use stream_item::iter::{ItemIter, IterAnswer, NextAnswer};
 const MOST: u64 = 18446744073709551615;
 
 // The largest payload, and the first stream and index that have it; all zero while no record was counted.
-#[derive(Drop)]
+#[derive(Clone, Copy)]
 pub struct Largest {
     pub length: u64,
     pub stream: u64,
@@ -22,7 +22,7 @@ pub struct Largest {
 }
 
 // Streams taken, and refused of them; header bytes, records and payload bytes of the others; and how many rows of the table are in use.
-#[derive(Drop)]
+#[derive(Clone, Copy)]
 pub struct Totals {
     pub taken: u64,
     pub refused: u64,

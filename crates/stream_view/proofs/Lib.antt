@@ -1,4 +1,2 @@
-pub mod Held
-pub mod ViewLaws
 pub mod OneOutcome
 pub mod Examples

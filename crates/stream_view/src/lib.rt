@@ -1,4 +1,6 @@
 // An entry's bytes: a part of the TPI stream or of the IPI stream, both lent, and the leaf that they start with.
+#![tactic(auto)]
+
 ghost use Rattle.std.specs.Prelude.{◌≡◌};
 ghost use Rattle.stream_view.specs.Views.{part_of, view_of, said_view, view_bytes, kind_at, raw_kind_of, said_raw_kind};
 
@@ -10,26 +12,27 @@ use stream_header::LONGEST;
 use stream_item::Entry;
 
 // The payload's place and length in the stream that the entry names.
-#[derive(Drop)]
+#[derive(Clone, Copy)]
 pub enum ViewAnswer {
     Answered(usize, usize),
     Refused(Refusal),
 }
 
 // A part of one of the two streams; or no bytes, and why.
-#[derive(Drop)]
+#[derive(Clone, Copy)]
 pub struct EntryView<'a> {
     pub bytes: &'a [u8],
     pub answer: ViewAnswer,
 }
 
-#[derive(Drop)]
+#[derive(Clone, Copy)]
 pub enum RawKindAnswer {
     Answered(u16),
     Refused(Refusal),
 }
 
 // Whether the part of s at this place, of this length, is there.
+#[tactic(auto, unfolding(crate::specs::Views::part_of))]
 fn inside(s: &[u8], place: usize, length: usize) -> ViewAnswer
     ensures { said_view result ≡ part_of s.now place length }
 {
@@ -43,6 +46,7 @@ fn inside(s: &[u8], place: usize, length: usize) -> ViewAnswer
 }
 
 // The leaf that the part starts with.
+#[tactic(auto, unfolding(crate::specs::Views::kind_at, field::specs::Fields::fixed_at))]
 fn kind_at(s: &[u8], place: usize, length: usize) -> RawKindAnswer
     ensures { said_raw_kind result ≡ kind_at s.now place length }
 {
@@ -86,6 +90,7 @@ pub fn view_answer<'a>(tpi: &'a [u8], ipi: &'a [u8], entry: Entry) -> ViewAnswer
 }
 
 // The bytes of `view` alone, for a caller that has no `EntryView` in a local: no bytes where `view_answer` refuses.
+#[tactic(auto, unfolding(crate::specs::Views::part_of, field::specs::Runs::bytes_at))]
 pub fn bytes_of<'a>(tpi: &'a [u8], ipi: &'a [u8], entry: Entry) -> &'a [u8]
     ensures { result.now ≡ view_bytes tpi.now ipi.now entry }
 {

@@ -11,7 +11,7 @@ ghost use Rattle.word_attributes.specs.Said.{said_kind, said_mode, said_flag, sa
 use answer::Refusal;
 
 // The properties of a class, structure, interface, union or enumeration.
-#[derive(Drop)]
+#[derive(Clone, Copy)]
 pub struct TypeProperties(pub u16);
 
 impl TypeProperties {
@@ -150,7 +150,7 @@ impl TypeProperties {
 }
 
 // The attributes of a field or a method.
-#[derive(Drop)]
+#[derive(Clone, Copy)]
 pub struct FieldAttributes(pub u16);
 
 impl FieldAttributes {
@@ -233,7 +233,7 @@ impl FieldAttributes {
 }
 
 // The attributes of a function, with its calling convention.
-#[derive(Drop)]
+#[derive(Clone, Copy)]
 pub struct FunctionAttributes(pub u16);
 
 impl FunctionAttributes {
@@ -278,7 +278,7 @@ impl FunctionAttributes {
 }
 
 // The flags of a modifier record.
-#[derive(Drop)]
+#[derive(Clone, Copy)]
 pub struct ModifierFlags(pub u16);
 
 impl ModifierFlags {
@@ -436,7 +436,7 @@ pub enum SizeAnswer {
 }
 
 // The word of a pointer record.
-#[derive(Drop)]
+#[derive(Clone, Copy)]
 pub struct PointerAttributes(pub u32);
 
 impl PointerAttributes {

@@ -11,7 +11,7 @@ use field::index::TypeIndex;
 mod sheet;
 
 // A simple type.
-#[derive(Drop)]
+#[derive(Clone, Copy)]
 pub enum PrimitiveKind {
     // Uncharacterized type (no type).
     NoType,
@@ -100,7 +100,7 @@ pub enum PrimitiveKind {
 }
 
 // How a primitive type is pointed to.
-#[derive(Drop)]
+#[derive(Clone, Copy)]
 pub enum Indirection {
     // Not at all. The crate's `None`, as a variant: a caller matches once, and the specification is one list of eight lines.
     Direct,

@@ -16,7 +16,7 @@ ghost use Rattle.write_pieces.specs.Pieces.{raw, fine, raw_all, fine_all, piece_
 use answer::Refusal;
 
 // A part of a record, by what stands in its bytes.
-#[derive(Drop)]
+#[derive(Clone, Copy)]
 pub enum Piece {
     Nothing,
     // Fields that would not read back: 17.
