@@ -1,4 +1,6 @@
 // The names of the refusals, for people to read beside the numbers; docs/NUMBERS.md has the same. Each is a constant, and `name_of` makes none.
+#![tactic(auto, unfolding(crate::specs::Names::blanks, crate::specs::Names::name_text))]
+
 ghost use Rattle.answer_name.specs.Names.{name_text, Holds};
 
 use answer::Refusal;

@@ -13,7 +13,7 @@ use Rattle.answer.specs.Tables.{find}
 use Rattle.field.specs.Fields.{little_at}
 use Rattle.field.specs.Indices.{no_id, optional_of, id_option}
 use Rattle.field.specs.Runs.{bytes_after}
-use Rattle.record_layout.specs.Fields.{Shown, read_field_by, read_fields_by}
+use Rattle.record_layout.specs.Fields.{read_field_by, read_fields_by}
 use Rattle.record_layout.specs.Layouts.{id_leaves, read_leaf, leaf_of, record_of}
 use Rattle.record_layout.proofs.OneOutcome.{option_back}
 use Rattle.record_id.specs.Said.{source_values, id_values, said_id_data}

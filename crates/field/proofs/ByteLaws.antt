@@ -1,14 +1,13 @@
 -- Bytes that are written, and bytes that stand at a place: a number that was written reads back. Assumes nothing.
-use Prim.Native.Nat.{ℕ, zero, suc, ◌+◌, ◌*◌, ◌/◌, ◌%◌, ◌^◌, ◌≤◌, ◌<◌}
+use Prim.Native.Nat.{ℕ, zero, suc, ◌+◌, ◌/◌, ◌^◌, ◌≤◌, ◌<◌}
 use native.Mathlib.Omega.{arith}
 use native.Mathlib.Nat.{pow-succ', div-lt_iff_lt-mul, mul_comm}
 use mathlib.Core.Path.{◌≡◌, refl, ap, sym, ◌∙◌}
-use mathlib.Core.List.{List, [], ◌∷◌, ◌++◌, append_assoc}
+use mathlib.Core.List.{List, ◌∷◌, ◌++◌, append_assoc}
 use lib.ListN.{length, get_or, drop, length-drop, length-append}
 use lib.Seq.{get_or-drop, drop-drop, drop-append_seam}
-use lib.Dec.{leb}
 use borrow.Author.Tests.{le-leb}
-use Rattle.answer.specs.Answer.{Read, got}
+use Rattle.answer.specs.Answer.{got}
 use Rattle.field.specs.Fields.{little_at, fixed_at}
 use Rattle.field.specs.Bytes.{bytes}
 

@@ -8,7 +8,7 @@ use mathlib.Core.Bool.{Bool, true, false}
 use lib.ListN.{length, get_or}
 use lib.Dec.{leb}
 use borrow.Author.Tests.{le-leb, lt-leb, leb-true}
-use Rattle.answer.specs.Answer.{Answer, answered, refused, Read, got, ended, pick}
+use Rattle.answer.specs.Answer.{answered, refused, Read, got, ended, pick}
 use Rattle.field.specs.Fields.{little_at, fixed_at}
 
 -- one byte is itself

@@ -1,15 +1,15 @@
 -- The statements of specs/Forms.antt. Assumes nothing.
-use Prim.Native.Nat.{ℕ, zero, ◌+◌, ◌*◌, ◌/◌, ◌%◌, ◌-◌, ◌≤◌, ◌<◌, ◌^◌, suc}
+use Prim.Native.Nat.{ℕ, zero, ◌+◌, ◌*◌, ◌/◌, ◌%◌, ◌-◌, ◌<◌, ◌^◌, suc}
 use native.Mathlib.Omega.{arith}
 use native.Mathlib.Nat.{zero-add}
 use mathlib.Core.Bool.{Bool, true, false}
 use mathlib.Core.Path.{◌≡◌, refl, ap, sym, ◌∙◌}
 use mathlib.Core.List.{List, [], ◌∷◌, ◌++◌, append-nil}
-use mathlib.Core.Option.{none, some}
-use lib.ListN.{length, get_or}
-use lib.Dec.{ltb, eqb}
+use mathlib.Core.Option.{none}
+use lib.ListN.{length}
+use lib.Dec.{ltb}
 use lib.IntN.{ℤ, pos, negsuc}
-use borrow.Author.Tests.{lt-ltb, le-ltb, ltb-true, ltb-false, ne_eqb}
+use borrow.Author.Tests.{lt-ltb, ltb-true, ne_eqb}
 use Rattle.answer.specs.Answer.{answered, refused, Read, got, pick, and_then}
 use Rattle.answer.specs.Tables.{find}
 use Rattle.field.specs.Fields.{little_at}

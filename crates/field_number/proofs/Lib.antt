@@ -2,3 +2,4 @@ pub mod OneOutcome
 pub mod Examples
 pub mod FormLaws
 pub mod FormsProof
+pub mod Used

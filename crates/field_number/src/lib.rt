@@ -1,5 +1,7 @@
 // Numeric leaves at a place of a slice of bytes: a u16 below 0x8000 is the number itself, and from there up a prefix that says which
 // number follows it.
+#![tactic(auto, using(crate::proofs::Used::laws), unfolding(answer::specs::Tables::find, field::specs::Fields::signed_at, crate::specs::Forms::numeral_by, crate::specs::Numbers::numeric_at, crate::specs::Numbers::prefixes, crate::specs::Numbers::unsigned_at))]
+
 ghost use Rattle.std.specs.Prelude.{◌≡◌, ◌-◌, ◌*◌, ◌≤◌, ◌<◌, suc, ltb, pos, negsuc, length};
 ghost use Rattle.answer.specs.Answer.{pick};
 ghost use Rattle.answer.specs.Tables.{find};

@@ -1,3 +1,4 @@
 pub mod PutLaws
 pub mod BackLaws
 pub mod OneOutcome
+pub mod Used

@@ -1,5 +1,7 @@
 // Numbers of 1, 2 and 4 bytes, little-endian, and bytes of another slice, into a lent buffer. Each gives the place after what it wrote; where
 // there is no room it writes nothing, and gives the place it was given.
+#![tactic(auto, using(crate::proofs::Used::laws))]
+
 ghost use Rattle.field_put.specs.Bytes.{bytes, Room, Puts, Lays};
 
 // Where there is room for them.

@@ -1,7 +1,7 @@
 -- The laws of padding: one step of it at place i of the bytes s. Assumes nothing.
-use Rattle.std.proofs.Common.{◌≡◌, ℕ, zero, suc, ◌+◌, ◌-◌, ◌<◌, ◌≤◌, Bool, true, false, leb, List, [], ◌∷◌, length, get_or, drop, sym, refl, ap, ◌∙◌, add-one, arith, drop_of_length-le, drop-cons, eq-eqb, ne_eqb, le-leb, leb-false, leb-true}
+use Rattle.std.proofs.Common.{◌≡◌, ℕ, zero, suc, ◌+◌, ◌<◌, ◌≤◌, Bool, true, false, leb, List, ◌∷◌, length, get_or, drop, sym, refl, add-one, arith, drop_of_length-le, drop-cons, le-leb, leb-false, leb-true}
 use borrow.Author.Tests.{lt-leb}
-use Rattle.answer.specs.Answer.{Answer, answered, ended}
+use Rattle.answer.specs.Answer.{answered, ended}
 use Rattle.field_text.specs.Texts.{pad, more}
 
 -- what is left at place i is its byte and what is left at the next place

@@ -1,8 +1,8 @@
 -- The laws of a string: a step of its search. Assumes nothing.
-use Rattle.std.proofs.Common.{◌≡◌, ℕ, zero, suc, ◌+◌, ◌-◌, ◌<◌, ◌≤◌, List, [], ◌∷◌, length, get_or, drop, sym, refl, ap, ◌∙◌, add-one, arith, drop_of_length-le, drop-cons}
-use mathlib.Core.Option.{Option, none, some}
-use Rattle.answer.specs.Answer.{Read, got, ended}
-use Rattle.field_text.specs.Texts.{Part, to_zero, string_at, part_or}
+use Rattle.std.proofs.Common.{◌≡◌, ℕ, zero, suc, ◌+◌, ◌-◌, ◌<◌, ◌≤◌, List, ◌∷◌, length, get_or, drop, refl, add-one, arith, drop_of_length-le, drop-cons}
+use mathlib.Core.Option.{none, some}
+use Rattle.answer.specs.Answer.{got, ended}
+use Rattle.field_text.specs.Texts.{to_zero, string_at}
 
 pub at_zero : (x : ℕ) (bs : List ℕ) (n : ℕ) → x ≡ 0 → to_zero (x ∷ bs) n ≡ some n
 unfolding to_zero

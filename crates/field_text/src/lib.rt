@@ -1,4 +1,6 @@
 // Strings and padding at a place of a slice of bytes.
+#![tactic(auto, using(crate::proofs::Used::laws), unfolding(crate::specs::Texts::counted_string_at, crate::specs::Texts::padding_after, crate::specs::Texts::string_of, crate::specs::Zeros::zero_marks))]
+
 ghost use Rattle.std.specs.Prelude.{◌≡◌, ◌+◌, ◌≤◌, length};
 ghost use Rattle.field.specs.Runs.{bytes_at, said_after};
 ghost use Rattle.field_text.specs.Texts.{string_at, counted_string_at, string_of, said_string, more, padding_after};

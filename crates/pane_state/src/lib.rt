@@ -1,5 +1,7 @@
 // A finder, a cursor, an entry and a walk, as C gives and gets them: definitions in specs/, laws in proofs/. Streams and sections are walked alike, so what
 // goes behind `out` for a walk stands here, once for both.
+#![tactic(auto)]
+
 ghost use Rattle.std.specs.Prelude.{◌≡◌};
 ghost use Rattle.pane_state.specs.Entries.{index_of_stream, entry_at};
 ghost use Rattle.pane_state.specs.Walk.{tour_out};

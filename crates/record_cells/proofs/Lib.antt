@@ -1,3 +1,4 @@
 pub mod FilledLaws
 pub mod CellsTell
 pub mod OneOutcome
+pub mod Used

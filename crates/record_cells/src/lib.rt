@@ -1,5 +1,7 @@
 // A record's fields as cells of three numbers, by the layout of its leaf: one loop for every layout, for what takes any record, such as a dump or a writer.
 // Where speed counts, crates/record_data and crates/record_id read a record into a struct.
+#![tactic(auto, using(crate::proofs::Used::laws), unfolding(answer::specs::Tables::among, answer::specs::Tables::find, crate::specs::Cells::cells_of, crate::specs::Cells::put_cell, crate::specs::Codes::codes, crate::specs::Codes::decode, crate::specs::Codes::field_of, crate::specs::Codes::id_codes, crate::specs::Codes::layout_in, crate::specs::Codes::layout_of, crate::specs::Codes::member_codes, crate::specs::Codes::type_codes, crate::specs::Filled::cell_step_by, record_layout::specs::Fields::read_field_by, record_layout::specs::Layouts::id_leaves, record_layout::specs::Layouts::member_leaves, record_layout::specs::Layouts::type_leaves, word_attributes::specs::Words::introducing))]
+
 ghost use Rattle.std.specs.Prelude.{◌≡◌, ◌<◌, pos, negsuc};
 ghost use Rattle.answer.specs.Answer.{got};
 ghost use Rattle.answer.specs.Tables.{find};

@@ -1,6 +1,8 @@
 // The records of the TPI stream: the type leaves of document 01, by the names of the crate's data.rs, each read by its line of the table in
 // record_layout/specs/Layouts.antt. The members inside a field list are in record_member, the elements of lists in record_list.
 // tools/leaves writes the readers of plain records, and the tests of `type_data`.
+#![tactic(auto, using(crate::proofs::Used::laws), unfolding(answer::specs::Tables::find, crate::specs::Said::class_kinds, crate::specs::Said::name_places, crate::specs::Said::type_name, record_layout::specs::Fields::read_field_by, record_layout::specs::Fields::read_fields_by, record_layout::specs::Layouts::leaf_of, record_layout::specs::Layouts::read_leaf, record_layout::specs::Layouts::record_of, record_layout::specs::Layouts::type_leaves))]
+
 ghost use Rattle.std.specs.Prelude.{◌≡◌};
 ghost use Rattle.answer.specs.Tables.{find};
 ghost use Rattle.record_layout.specs.Fields.{read_field};

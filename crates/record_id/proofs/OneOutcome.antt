@@ -1,6 +1,6 @@
 -- What an id's answer says fixes the answer: the record is read back from its leaf and its values. Assumes nothing.
 use Prim.Native.Nat.{ℕ}
-use mathlib.Core.Path.{◌≡◌, refl, ap, ◌∙◌}
+use mathlib.Core.Path.{◌≡◌, refl, ap}
 use mathlib.Core.List.{List}
 use lib.Dec.{eqb}
 use Rattle.answer.specs.Answer.{Answer, answered, refused, pick}
@@ -12,7 +12,6 @@ use Rattle.record_layout.proofs.OneOutcome.{id-back}
 use Rattle.record_id.specs.Said.{source_values, id_values, said_id_data}
 use Rattle.record_id.specs.declared.UserDefinedTypeSourceFileRef.{UserDefinedTypeSourceFileRef}
 use Rattle.record_id.specs.declared.UserDefinedTypeSourceFileRef.TheVariants as file
-use Rattle.record_id.specs.declared.UserDefinedTypeSourceId.{UserDefinedTypeSourceId}
 use Rattle.record_id.specs.declared.IdData.{IdData}
 use Rattle.record_id.specs.declared.IdData.TheVariants as id
 use Rattle.record_id.specs.declared.IdAnswer.{IdAnswer}

@@ -1,5 +1,7 @@
 // The records of the IPI stream: the seven id leaves of document 01, by the names of the crate's id.rs, each read by its line of the table
 // in record_layout/specs/Layouts.antt.
+#![tactic(auto, using(crate::proofs::Used::laws), unfolding(answer::specs::Tables::find, record_layout::specs::Fields::read_field_by, record_layout::specs::Fields::read_fields_by, record_layout::specs::Layouts::id_leaves, record_layout::specs::Layouts::leaf_of, record_layout::specs::Layouts::read_leaf, record_layout::specs::Layouts::record_of))]
+
 ghost use Rattle.std.specs.Prelude.{◌≡◌};
 ghost use Rattle.record_layout.specs.Layouts.{leaf_of, record_of, id_leaves};
 ghost use Rattle.record_id.specs.Said.{said_id_data};

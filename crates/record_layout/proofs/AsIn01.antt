@@ -1,11 +1,11 @@
 -- Values, places and refusals of every layout are those of 01, whatever is said of a number's form. Assumes nothing.
 use Prim.Native.Nat.{ℕ, ◌-◌}
 use mathlib.Core.Bool.{Bool, true, false}
-use mathlib.Core.Path.{◌≡◌, refl, ap, sym, ◌∙◌}
+use mathlib.Core.Path.{◌≡◌, refl, ap, ◌∙◌}
 use mathlib.Core.List.{List, [], ◌∷◌, map}
 use mathlib.Core.Option.{Option, none, some}
 use lib.IntN.{ℤ, pos}
-use Rattle.answer.specs.Answer.{Answer, answered, refused, Read, Got, got, pick, then, and_then}
+use Rattle.answer.specs.Answer.{Answer, answered, refused, Read, got, pick, then, and_then}
 use Rattle.field.specs.Fields.{fixed_at}
 use Rattle.field.specs.Indices.{no_type, no_id, optional_at}
 use Rattle.field.specs.Runs.{bytes_after}

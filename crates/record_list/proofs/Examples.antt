@@ -12,7 +12,7 @@ use Rattle.field.specs.Bytes.{bytes}
 use Rattle.field.specs.Runs.{bytes_after}
 use Rattle.field_text.specs.Texts.{to_zero, string_at, pad, padding_after}
 use Rattle.field_number.specs.Numbers.{prefixes, numeric_at}
-use Rattle.field_number.specs.Forms.{Form, shortest, form_of, numeral_by, sized_by}
+use Rattle.field_number.specs.Forms.{Form, shortest, form_of, numeral_by}
 use Rattle.record_layout.specs.Fields.{number, numeral, absent, many, read_field_by, read_fields_by}
 use Rattle.record_layout.specs.Layouts.{type_leaves, id_leaves, read_leaf, read_record, member_leaves}
 use Rattle.field.specs.declared.index.Stream.TheVariants.{Types, Ids}

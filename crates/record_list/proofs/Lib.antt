@@ -1,3 +1,4 @@
 pub mod ListLaws
 pub mod OneOutcome
 pub mod Examples
+pub mod Used

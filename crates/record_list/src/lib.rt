@@ -1,5 +1,7 @@
 // The elements of the lists of document 01, one after the other: 0x1201, 0x1203 and 0x1206 of type records, 0x1603 and 0x1604 of id records.
 // A cursor by value, one step, and element k. Any cursor is answered, one that a caller makes up too.
+#![tactic(auto, using(crate::proofs::Used::laws), unfolding(answer::specs::Tables::find, record_layout::specs::Fields::read_field_by, record_layout::specs::Fields::read_fields_by, record_layout::specs::Layouts::id_leaves, record_layout::specs::Layouts::type_leaves, crate::specs::Lists::counted_by, crate::specs::Lists::counted_list, crate::specs::Lists::counted_step, crate::specs::Lists::member_step, crate::specs::Lists::method_step, crate::specs::Lists::next_member, crate::specs::Lists::start_ids, crate::specs::Lists::start_of, crate::specs::Lists::start_types, crate::specs::Lists::step_of))]
+
 ghost use Rattle.std.specs.Prelude.{◌∷◌, [], ◌≡◌};
 ghost use Rattle.record_layout.specs.Fields.{id, run, types, ids};
 ghost use Rattle.record_layout.specs.Layouts.{type_index, count16, count32};

@@ -2,10 +2,10 @@
 use Prim.Native.Nat.{ℕ}
 use mathlib.Core.Bool.{false}
 use mathlib.Core.Path.{◌≡◌, refl}
-use mathlib.Core.List.{List, [], ◌∷◌}
+use mathlib.Core.List.{[], ◌∷◌}
 use mathlib.Core.Option.{none, some}
 use lib.IntN.{pos, negsuc}
-use Rattle.answer.specs.Answer.{answered, refused, got}
+use Rattle.answer.specs.Answer.{refused, got}
 use Rattle.answer.specs.Tables.{find, among}
 use Rattle.word_attributes.specs.Words.{introducing}
 use Rattle.field.specs.Fields.{little_at, fixed_at, signed_at}

@@ -1,16 +1,16 @@
 -- What an answer of the member readers says fixes the answer: the member is read back from its leaf and its values. Assumes nothing.
 use Prim.Native.Nat.{ℕ}
 use mathlib.Core.Bool.{Bool, true, false}
-use mathlib.Core.Path.{◌≡◌, refl, ap, ◌∙◌}
+use mathlib.Core.Path.{◌≡◌, refl, ap}
 use mathlib.Core.List.{List}
 use mathlib.Core.Option.{Option, none, some}
 use lib.Dec.{eqb}
-use Rattle.answer.specs.Answer.{Answer, answered, refused, Read, pick}
+use Rattle.answer.specs.Answer.{answered, refused, Read, pick}
 use Rattle.answer.proofs.OneOutcome.{one_of, refusal_in, refusal-back}
 use Rattle.record_layout.specs.Fields.{or_absent, Shown}
 use Rattle.record_layout.specs.Values.{nth, number_in, string_in, option_in}
 use Rattle.record_layout.proofs.OneOutcome.{variant_in, size_in, option_back, variant_back}
-use Rattle.record_member.specs.Said.{offset_option, virtual_leaf, member_values, said_member, entry_values, said_entry}
+use Rattle.record_member.specs.Said.{offset_option, member_values, said_member, entry_values, said_entry}
 use Rattle.record_member.specs.declared.OptOffset.{OptOffset}
 use Rattle.record_member.specs.declared.OptOffset.TheVariants as offset
 use Rattle.record_member.specs.declared.VirtualBaseClassType.{VirtualBaseClassType}

@@ -1,5 +1,7 @@
 // The members inside a field list, 0x1203, and the method inside a method list, 0x1206, by the names of the crate's data.rs, each read by
 // its line of the table in record_layout/specs/Layouts.antt.
+#![tactic(auto, using(crate::proofs::Used::laws), unfolding(answer::specs::Tables::among, answer::specs::Tables::find, record_layout::specs::Fields::read_field_by, record_layout::specs::Fields::read_fields_by, record_layout::specs::Layouts::member_leaves, record_layout::specs::Layouts::read_leaf, record_layout::specs::Layouts::read_record, crate::specs::Said::member_name, crate::specs::Said::named_leaves, crate::specs::Said::string_among))]
+
 ghost use Rattle.std.specs.Prelude.{◌≡◌};
 ghost use Rattle.std.proofs.Math.Option.{some};
 ghost use Rattle.field_text.specs.Texts.{string_option};

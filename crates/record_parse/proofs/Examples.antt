@@ -1,7 +1,6 @@
 -- Entries of stream E, the marker and a primitive, computed on `parse_of`.
-use Prim.Native.Nat.{ℕ}
 use mathlib.Core.Path.{◌≡◌, refl}
-use mathlib.Core.List.{List, [], ◌∷◌}
+use mathlib.Core.List.{[], ◌∷◌}
 use Rattle.answer.specs.Answer.{answered, refused}
 use Rattle.answer.specs.Tables.{find}
 use Rattle.field.specs.Fields.{little_at, fixed_at}

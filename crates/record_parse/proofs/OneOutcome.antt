@@ -1,6 +1,5 @@
 -- What an entry's answer says fixes the answer. Assumes nothing.
 use mathlib.Core.Path.{◌≡◌, refl, ap}
-use Rattle.answer.specs.Answer.{Answer, answered, refused}
 use Rattle.answer.proofs.OneOutcome.{one_of, heard, heard-no}
 use Rattle.record_data.proofs.OneOutcome.{data_in, data-back}
 use Rattle.record_id.proofs.OneOutcome.{id_in, id-data-back}

@@ -1,5 +1,7 @@
 // What an entry of a stream says: a primitive, a type record or an id record. Document 01, "Indices and primitives": a type item below 0x1000
 // is read as a primitive; any other type item, and every id item, by its bytes, the marker's giving 10 with 0xffff.
+#![tactic(auto, using(crate::proofs::Used::laws), unfolding(crate::specs::Record::id_bytes, crate::specs::Record::parse_of, crate::specs::Record::type_bytes, crate::specs::Record::type_item, crate::specs::Record::type_marker))]
+
 ghost use Rattle.std.specs.Prelude.{◌≡◌};
 ghost use Rattle.record_parse.specs.Record.{numbered_of, type_bytes, id_bytes, type_item, type_marker, parse_of, said_parse};
 

@@ -4,3 +4,4 @@ pub mod DecodedLaws
 pub mod OwnLaws
 pub mod OneOutcome
 pub mod Examples
+pub mod Used

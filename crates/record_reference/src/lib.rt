@@ -1,6 +1,8 @@
 // The type references of a record and of a list element, from what the readers gave: document 02, R-9 and R-13. No byte is read twice, and
 // which field refers is said by the table in record_layout/specs/Layouts.antt alone; specs/References.antt has the references of a whole payload.
 // tools/leaves writes the arms of plain records.
+#![tactic(auto, using(crate::proofs::Used::laws), unfolding(answer::specs::Tables::find, record_layout::specs::Layouts::member_leaves, record_layout::specs::Layouts::type_leaves, crate::specs::References::refs_field, crate::specs::Values::element_refs, crate::specs::Values::refs_by, crate::specs::Values::refs_in, crate::specs::Values::slots, crate::specs::Values::slots_by, crate::specs::Values::slots_in))]
+
 ghost use Rattle.std.specs.Prelude.{ℕ, true, ◌∷◌, [], ◌≡◌};
 ghost use Rattle.field.specs.Indices.{type_option};
 ghost use Rattle.record_data.specs.Said.{type_values};

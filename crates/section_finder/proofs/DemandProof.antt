@@ -1,22 +1,20 @@
 -- Demand 3, "not indexed" and R-11 of a section: the streams' own proofs, at 4, 4096 and 4096 plus the records. Assumes nothing.
-use Prim.Native.Nat.{ℕ, ◌+◌, ◌≤◌, ◌<◌}
-use mathlib.Core.Path.{◌≡◌, refl}
+use Prim.Native.Nat.{ℕ, ◌≤◌}
+use mathlib.Core.Path.{◌≡◌}
 use mathlib.Core.List.{List}
 use native.Mathlib.Omega.{arith}
 use lib.ListN.{length}
 use Rattle.answer.specs.Answer.{answered}
-use Rattle.field.specs.Fields.{little_at}
 use Rattle.stream_header.specs.Header.{longest}
 use Rattle.field.specs.declared.index.Stream.TheVariants.{Types}
 use Rattle.stream_finder.specs.Finder.{State, state}
 use Rattle.stream_finder.specs.OfRecords.{PremisesIn, Demand3In, NotIndexedIn, SharedIn}
 use Rattle.stream_finder.proofs.DemandProof.{demand3-in, not-indexed-in}
 use Rattle.stream_finder.proofs.SharedProof.{shared-in}
-use Rattle.stream_index.specs.declared.Tour.{Tour}
 use Rattle.stream_index.proofs.WalkedWhole.{turns-walked, records-premises}
 use Rattle.section_item.specs.Sections.{first, section_start, count_of}
 use Rattle.section_item.proofs.SectionLaws.{counted, start_first}
-use Rattle.section_finder.specs.Finders.{section_records, section_create_by, SectionWholeBy}
+use Rattle.section_finder.specs.Finders.{section_records}
 use Rattle.section_finder.specs.Demand.{SectionPremises, SectionDemand3, SectionNotIndexed, SectionShared, SectionIndexed, OfSections}
 use Rattle.section_finder.proofs.FinderLaws.{created-in}
 

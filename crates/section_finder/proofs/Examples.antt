@@ -10,11 +10,11 @@ use Rattle.field.specs.Indices.{index_in}
 use Rattle.stream_item.specs.Links.{link_of, chain, link_at}
 use Rattle.stream_item.specs.Iterator.{next_of}
 use Rattle.field.specs.declared.index.Stream.TheVariants.{Types}
-use Rattle.stream_finder.specs.Finder.{State, state, update_of, look_of, find_of}
-use Rattle.stream_finder.specs.Demand.{Walked, none, more}
+use Rattle.stream_finder.specs.Finder.{state, update_of, look_of, find_of}
+use Rattle.stream_finder.specs.Demand.{none, more}
 use Rattle.stream_finder.specs.Finder.{holding_in}
 use Rattle.stream_item.specs.declared.Entry.TheVariants as entry
-use Rattle.section_item.specs.Sections.{first, section_start, walk_by, last_of, count_of}
+use Rattle.section_item.specs.Sections.{section_start, walk_by, last_of, count_of}
 use Rattle.section_item.proofs.Examples.{section_e}
 use Rattle.stream_index.specs.Walk as index
 use Rattle.stream_index.specs.Walk.{turn_of}

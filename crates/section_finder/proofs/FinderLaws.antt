@@ -2,7 +2,6 @@
 use Prim.Native.Nat.{ℕ, ◌+◌, ◌≤◌}
 use mathlib.Core.Path.{◌≡◌, sym, ◌∙◌}
 use mathlib.Core.List.{List}
-use native.Mathlib.Omega.{arith}
 use Rattle.answer.specs.Answer.{Answer, answered, then}
 use Rattle.stream_finder.specs.Finder.{State, begun_in}
 use Rattle.section_item.specs.Sections.{count_of}

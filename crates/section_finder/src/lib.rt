@@ -1,6 +1,8 @@
 // The finder over a section of an object file: R-6 of document 02. It counts the records by a whole walk first, since a section does not say
 // how many it has; then it is the streams' own finder, with 4 for the start, 0x1000 for the least index and 0x1000 plus the records for the
 // one behind the last. `update`, `find_type` and `max_type_index` are those of crates/stream_finder, on the section's bytes.
+#![tactic(auto, using(crate::proofs::Used::laws))]
+
 ghost use Rattle.stream_finder.specs.Finder.{Fills};
 ghost use Rattle.section_finder.specs.Finders.{section_create_by, section_create_of, SectionIndexesBy, SectionIndexes};
 

@@ -1,6 +1,8 @@
 // The records of a section of an object file: R-6 of document 02. A `.debug$T` section is a u32 signature of 4, and then the same
 // length-and-payload records as a type stream has, numbered from 0x1000. Only where a walk starts is new: `next`, `update` and `find` are
 // the streams' own.
+#![tactic(auto, using(crate::proofs::Used::laws))]
+
 ghost use Rattle.std.specs.Prelude.{◌≡◌, ◌≤◌, length};
 ghost use Rattle.field.specs.Fields.{little_at};
 ghost use Rattle.stream_item.specs.Iterator.{said_iter};

@@ -2,14 +2,14 @@
 -- first. Assumes nothing.
 use Prim.Native.Nat.{ℕ}
 use mathlib.Core.Bool.{Bool, true, false}
-use mathlib.Core.Path.{◌≡◌, refl, sym, ap, ◌∙◌}
-use mathlib.Core.List.{List, [], ◌∷◌}
+use mathlib.Core.Path.{◌≡◌, refl, ap, ◌∙◌}
+use mathlib.Core.List.{[], ◌∷◌}
 use mathlib.Core.Option.{Option, none, some}
 use native.Mathlib.Omega.{arith}
 use lib.Dec.{eqb}
 use borrow.Author.Tests.{eqb-true}
 use Rattle.answer.specs.Answer.{pick, both}
-use Rattle.answer.specs.Tables.{Line, ◌is◌, find}
+use Rattle.answer.specs.Tables.{◌is◌, find}
 use Rattle.record_layout.specs.Layouts.{Layout, Table, type_leaves, id_leaves}
 use Rattle.section_read.specs.Readers.{reader_of, taken_by, EachTaken}
 

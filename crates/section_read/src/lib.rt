@@ -1,5 +1,7 @@
 // What an entry of a section says: R-6 of document 02. "An object file numbers types and ids in one run; each item goes to the reader that
 // takes its leaf": the id reader for the seven id leaves, the type reader for all others. So do the lists of records.
+#![tactic(auto, using(crate::proofs::Used::laws), unfolding(answer::specs::Tables::find, record_layout::specs::Layouts::id_leaves, crate::specs::Readers::read_of, crate::specs::Readers::reader_at, crate::specs::Readers::reader_of, crate::specs::Readers::tag_of))]
+
 ghost use Rattle.std.specs.Prelude.{◌≡◌};
 ghost use Rattle.record_list.specs.Lists.{start_of};
 ghost use Rattle.record_list.specs.Said.{said_start};

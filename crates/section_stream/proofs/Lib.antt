@@ -1,3 +1,4 @@
 pub mod StreamLaws
 pub mod MadeProof
 pub mod Examples
+pub mod Used

@@ -11,11 +11,10 @@ use borrow.Author.Tests.{le-leb, lt-leb, le-ltb, lt-ltb, leb-true, leb-false, lt
 use Rattle.answer.specs.Answer.{Answer, answered, refused, pick, stop, then}
 use Rattle.field.specs.Fields.{little_at}
 use Rattle.stream_header.specs.Header.{longest, header_of}
-use Rattle.stream_header.specs.declared.Header.{Header}
 use Rattle.field.specs.Indices.{index_in}
 use Rattle.stream_item.specs.Links.{link_at, Walk, reached, broke, passing, linked, chain, landing, land, link_of}
-use Rattle.stream_item.specs.Iterator.{iter_of, Next, done, yielded, over_record, next_of}
-use Rattle.stream_item.proofs.LinkLaws.{Bounded, chain-bounds}
+use Rattle.stream_item.specs.Iterator.{Next, done, over_record, next_of}
+use Rattle.stream_item.proofs.LinkLaws.{chain-bounds}
 use Rattle.stream_item.proofs.NextLaws.{passed, iter-is}
 use Rattle.field.specs.declared.index.ItemIndex.{ItemIndex}
 use Rattle.field.specs.declared.index.Stream.TheVariants.{Types}
@@ -29,15 +28,15 @@ use Rattle.stream_finder.specs.declared.ItemFinder.{ItemFinder}
 use Rattle.stream_finder.specs.Demand as stream
 use Rattle.stream_finder.specs.Demand.{gives, looked, Demand3By, Demand3Every}
 use Rattle.stream_finder.proofs.DemandProof.{demand3-every}
-use Rattle.write_header.specs.Headers.{header_fields, header_bytes, Narrow}
+use Rattle.write_header.specs.Headers.{header_fields, Narrow}
 use Rattle.write_header.proofs.HeaderBack.{header-reads-back}
-use Rattle.section_item.specs.Sections.{first, count_of}
+use Rattle.section_item.specs.Sections.{count_of}
 use Rattle.section_item.proofs.SectionLaws.{Counted, counted}
 use Rattle.section_finder.specs.Finders.{section_records}
 use Rattle.section_finder.specs.Demand.{SectionPremises, SectionDemand3}
 use Rattle.section_finder.proofs.DemandProof.{of-sections}
 use Rattle.section_stream.specs.Streams.{header_for, stream_bytes, section_stream}
-use Rattle.section_stream.specs.Made.{up_cursor, up_item, up_next, up_hit, up_entry, up_found, SectionMade, StreamMade}
+use Rattle.section_stream.specs.Made.{up_cursor, up_next, up_hit, up_found, SectionMade, StreamMade}
 use Rattle.section_stream.proofs.StreamLaws.{head-length, stream-length, head_bytes}
 
 -- ---- tests of numbers that are both 52 higher

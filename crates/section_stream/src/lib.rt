@@ -1,5 +1,7 @@
 // A type stream made of a section of an object file: R-6 of document 02. Document 01's header E, its maximum and gprec_size fitted to the
 // records, and then the records as they are: so they stand 52 bytes higher than in the section.
+#![tactic(auto, using(crate::proofs::Used::laws))]
+
 ghost use Rattle.std.specs.Prelude.{◌≡◌, ◌+◌, ◌≤◌, length};
 ghost use Rattle.answer.specs.Answer.{answered};
 ghost use Rattle.write_layout.specs.Buffer.{lay, Writes};

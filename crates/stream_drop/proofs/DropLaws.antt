@@ -1,30 +1,30 @@
 -- R-13's definition at each outcome that the code comes to, from what its passes leave. Assumes nothing.
-use Prim.Native.Nat.{ℕ, zero, suc, ◌+◌, ◌-◌, ◌≤◌, ◌<◌}
+use Prim.Native.Nat.{ℕ, suc, ◌+◌, ◌-◌, ◌≤◌, ◌<◌}
 use native.Mathlib.Omega.{arith}
 use mathlib.Core.Bool.{Bool, true, false}
 use mathlib.Core.List.{List, [], ◌∷◌, map}
-use mathlib.Core.Option.{Option, none, some}
+use mathlib.Core.Option.{none, some}
 use mathlib.Core.Path.{◌≡◌, refl, sym, ap, ◌∙◌}
-use mathlib.Core.Logic.{◌⊎◌, inl, inr}
+use mathlib.Core.Logic.{inl, inr}
 use lib.ListN.{length}
-use lib.Dec.{leb, ltb}
-use borrow.Author.Tests.{lt-ltb, le-ltb, leb-true, leb-false, le-leb, lt-leb}
-use Rattle.answer.specs.Answer.{Answer, answered, refused, pick}
+use lib.Dec.{leb}
+use borrow.Author.Tests.{lt-ltb, le-ltb, leb-true, leb-false, le-leb}
+use Rattle.answer.specs.Answer.{answered, pick}
 use Rattle.field.specs.declared.index.Stream.TheVariants as stream
 use Rattle.field_put.specs.Bytes.{put, Octets}
 use Rattle.stream_header.specs.Header.{zero_header, header_of}
 use Rattle.stream_header.specs.declared.Header.{Header}
-use Rattle.stream_item.specs.Iterator.{iter_of, next_of}
+use Rattle.stream_item.specs.Iterator.{iter_of}
 use Rattle.stream_item.specs.declared.iter.ItemIter.{ItemIter}
 use Rattle.answer.specs.Refusals.{no}
 use Rattle.answer.specs.declared.Refusal.{Refusal}
 use Rattle.answer.specs.declared.Refusal.TheVariants as refusal
 use Rattle.stream_fit.specs.Fit.{fit, unfit, fit_of}
-use Rattle.stream_prune.specs.Links.{ComesPast, payloads_from}
+use Rattle.stream_prune.specs.Links.{payloads_from}
 use Rattle.stream_prune.specs.Pruned.{rank, numbers, link_bytes, new_stream}
 use Rattle.stream_prune.specs.Dropped.{IsIn, mark_all, pass, marks, roots_from, marks_of}
 use Rattle.stream_prune.proofs.HeadLaws.{opened, size-inside, minimum-is, maximum-is}
-use Rattle.stream_prune.proofs.NewStream.{Old, op, count, low, new-long, new-shorter, pruning}
+use Rattle.stream_prune.proofs.NewStream.{Old, op, new-long, new-shorter, pruning}
 use Rattle.stream_prune.proofs.Walks.{fit-payloads, payloads-count}
 use Rattle.stream_drop.specs.Each.{Held, held_of}
 use Rattle.stream_drop.specs.Passes.{Numbered, numbered_to, number_from, up_from, marked_in, asked_in, written_in}

@@ -3,14 +3,13 @@ use Prim.Native.Nat.{ℕ, zero, suc, ◌+◌, ◌-◌, ◌≤◌, ◌<◌}
 use native.Mathlib.Omega.{arith}
 use mathlib.Core.Bool.{Bool, true, false}
 use mathlib.Core.List.{List, [], ◌∷◌, ◌++◌}
-use mathlib.Core.Path.{◌≡◌, refl, sym, ap, ◌∙◌}
+use mathlib.Core.Path.{◌≡◌, refl, sym}
 use lib.ListN.{length, get_or, set, get_or-eq_default}
 use lib.Seq.{set_out}
-use lib.Dec.{leb, ltb, eqb}
 use borrow.Author.Tests.{lt-ltb, le-ltb, le-leb, lt-leb, eq-eqb, ne_eqb}
-use Rattle.answer.specs.Answer.{Answer, answered, refused, pick, then}
+use Rattle.answer.specs.Answer.{Answer, answered, refused}
 use Rattle.field.specs.Bytes.{bytes}
-use Rattle.field_put.specs.Bytes.{put, Lays}
+use Rattle.field_put.specs.Bytes.{Lays}
 use Rattle.field_put.proofs.PutLaws.{length-bytes}
 use Rattle.record_layout.specs.Fields.{Shown}
 use Rattle.record_layout.specs.Layouts.{type_leaves, record_of}

@@ -12,3 +12,4 @@ pub mod OneOutcome
 pub mod OutcomeLaws
 pub mod SentenceLaws
 pub mod Examples
+pub mod Used

@@ -3,10 +3,9 @@ use Prim.Native.Nat.{ℕ, zero, suc, ◌+◌, ◌-◌, ◌%◌, ◌≤◌, ◌<�
 use native.Mathlib.Omega.{arith}
 use mathlib.Core.Bool.{Bool, true, false}
 use mathlib.Core.List.{List, [], ◌∷◌}
-use mathlib.Core.Path.{◌≡◌, refl, sym, ap, ◌∙◌}
+use mathlib.Core.Path.{◌≡◌, refl, ap, ◌∙◌}
 use lib.ListN.{length, get_or, set, drop, drop_of_length-le}
 use lib.Seq.{drop-cons}
-use lib.Dec.{ltb, eqb}
 use borrow.Author.Tests.{lt-ltb, le-ltb, eq-eqb, ne_eqb}
 use Rattle.answer.specs.Answer.{answered, refused}
 use Rattle.field.specs.Bytes.{bytes}
@@ -18,7 +17,7 @@ use Rattle.stream_item.specs.declared.iter.ItemIter.{ItemIter}
 use Rattle.stream_fit.specs.Fit.{payload_of}
 use Rattle.stream_prune.specs.Links.{payloads_from}
 use Rattle.stream_drop.specs.Each.{Held, held_of, raised, laid, done_of}
-use Rattle.stream_drop.specs.Passes.{lengths_in, rooted, roots_in, visited, down_from, Numbered, numbered_at, number_from, link_laid, place_behind, kept_at, up_at, up_from}
+use Rattle.stream_drop.specs.Passes.{lengths_in, rooted, roots_in, visited, down_from, Numbered, numbered_at, number_from, link_laid, place_behind, up_at, up_from}
 use Rattle.stream_drop.specs.declared.each.Job.TheVariants as job
 use Rattle.stream_drop.proofs.EachLaws.{laid_by}
 

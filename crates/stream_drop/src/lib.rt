@@ -2,6 +2,8 @@
 // a lent buffer, renumbered without holes; a lent table, an entry for each record, says old to new. Nothing else is stored: the table is all the
 // memory there is. One walk that asks whether the stream is fit, one for the lengths, one pass down over what is marked, and one up over what is
 // kept: linear in the stream and the roots. specs/Drop.antt has the definition, specs/Sentences.antt what it is good for.
+#![tactic(auto, using(crate::proofs::Used::laws), unfolding(field_put::specs::Bytes::Octets, record_list::specs::Lists::start_of, crate::specs::Each::done_all))]
+
 mod each;
 mod passes;
 

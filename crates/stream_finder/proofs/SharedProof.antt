@@ -2,18 +2,17 @@
 use Prim.Native.Nat.{ℕ, ◌+◌, ◌*◌, ◌/◌, ◌%◌, ◌≤◌, ◌<◌}
 use mathlib.Core.Bool.{Bool, true, false}
 use mathlib.Core.Path.{◌≡◌, refl, sym, ap, subst, ◌∙◌}
-use mathlib.Core.List.{List, [], ◌∷◌}
+use mathlib.Core.List.{List}
 use native.Mathlib.Omega.{arith}
 use lib.ListN.{length, length-set}
 use lib.Dec.{eqb, leb, ltb}
 use borrow.Author.Tests.{ltb-true, ltb-false}
-use Rattle.answer.specs.Answer.{Answer, answered, refused, pick}
+use Rattle.answer.specs.Answer.{Answer, answered, refused}
 use Rattle.stream_header.specs.Header.{longest, header_of}
 use Rattle.stream_header.specs.declared.Header.{Header}
 use Rattle.field.specs.Indices.{index_in}
 use Rattle.stream_item.specs.Links.{link_of}
 use Rattle.stream_item.specs.Iterator.{Next, done, yielded, next_of}
-use Rattle.field.specs.declared.index.Stream.{Stream}
 use Rattle.stream_item.specs.declared.iter.ItemIter.{ItemIter}
 use Rattle.stream_item.proofs.NextLaws.{passed}
 use Rattle.stream_finder.specs.Finder.{State, state, block_of, header_records, holding_in, begun_in, update_of, after, max_index_of, Found, find_of}

@@ -9,6 +9,8 @@
 //
 // The places live in a table that the caller lends; the finder itself is a few numbers, and comes and goes by value;
 // lent.rt has it lent by `&mut`.
+#![tactic(auto, using(crate::proofs::Used::laws))]
+
 pub mod lent;
 
 ghost use Rattle.std.specs.Prelude.{◌≡◌, ◌%◌, ◌^◌, ◌≤◌, length};

@@ -5,3 +5,4 @@ pub mod SentenceLaws
 pub mod OneOutcome
 pub mod Examples
 pub mod AfterLaws
+pub mod Used

@@ -1,5 +1,7 @@
 // Is a type stream fit to bind? Document 02, R-9: one walk by `next` over the stream, each record and each element read once, nothing stored.
 // specs/Fit.antt has the verdict, specs/Sentences.antt what a yes and a no say.
+#![tactic(auto, using(crate::proofs::Used::laws), unfolding(record_list::specs::Lists::start_of, crate::specs::Fit::fit_of, crate::specs::Worst::worst))]
+
 ghost use Rattle.std.specs.Prelude.{ℕ, suc, ◌≡◌, length};
 ghost use Rattle.answer.specs.Answer.{answered, pick};
 ghost use Rattle.word_primitive.specs.Primitive.{primitive_of};

@@ -1,9 +1,7 @@
 -- What a header's answer says fixes the answer. Assumes nothing.
 use mathlib.Core.Path.{◌≡◌, refl}
-use Rattle.answer.specs.Answer.{Answer}
 use Rattle.answer.proofs.OneOutcome.{one_of, heard, heard-no}
 use Rattle.stream_header.specs.Header.{said_header}
-use Rattle.stream_header.specs.declared.Header.{Header}
 use Rattle.stream_header.specs.declared.HeaderAnswer.{HeaderAnswer}
 use Rattle.stream_header.specs.declared.HeaderAnswer.TheVariants as header
 

@@ -3,3 +3,4 @@ pub mod OneWalk
 pub mod WalkedWhole
 pub mod OneOutcome
 pub mod Examples
+pub mod Used

@@ -1,5 +1,7 @@
 // Indexing a whole stream: the loop that every user of a finder writes. Each turn takes the iterator one record on and updates the finder
 // with the cursor behind it; the walk ends where the iterator is done, or at the first refusal of either, such as a table that is full.
+#![tactic(auto, using(crate::proofs::Used::laws))]
+
 ghost use Rattle.stream_finder.specs.Finder.{state};
 ghost use Rattle.stream_index.specs.Walk.{turn_of, Leads, Walks, IndexesBy, Indexes};
 

@@ -1,6 +1,8 @@
 // Items of a TPI or IPI stream: where an item's bytes lie, and the marker that stands for an index below the stream's minimum.
 // link.rt has the links that records lie in, iter.rt the iterator over them, information.rt a stream's count.
 // An item's bytes are given by the crate stream_view.
+#![tactic(auto, using(crate::proofs::Used::laws), unfolding(crate::specs::Information::is_empty_of, crate::specs::Information::len_of, crate::specs::Iterator::iter_of))]
+
 pub mod information;
 pub mod iter;
 pub mod link;

@@ -1,9 +1,8 @@
 -- A places file that was written reads back, and one that was read is written again: numbers, letters, trailer. Assumes nothing.
-use Prim.Native.Nat.{ℕ, zero, suc, ◌+◌, ◌-◌, ◌*◌, ◌^◌, ◌≤◌, ◌<◌}
+use Prim.Native.Nat.{ℕ, zero, suc, ◌+◌, ◌*◌, ◌^◌, ◌≤◌, ◌<◌}
 use native.Mathlib.Omega.{arith}
-use native.Mathlib.Nat.{add-zero}
 use native.Mathlib.Numerals.{add-one}
-use mathlib.Core.Path.{◌≡◌, refl, sym, ap, subst, ◌∙◌}
+use mathlib.Core.Path.{◌≡◌, refl, sym, ap, ◌∙◌}
 use mathlib.Core.Bool.{Bool, true, false}
 use mathlib.Core.List.{List, [], ◌∷◌, ◌++◌, append_assoc}
 use lib.ListN.{length, get_or, drop, drop_of_length-le}
@@ -13,7 +12,6 @@ use borrow.Author.Tests.{eq-eqb, eqb-true}
 use Rattle.answer.specs.Answer.{both}
 use Rattle.field.specs.Fields.{little_at}
 use Rattle.field_put.specs.Bytes.{bytes, Octets}
-use Rattle.field_put.proofs.PutLaws.{length-bytes}
 use Rattle.field_put.proofs.BackLaws.{head_at, tail_at, after-at, little-back, little-after, bytes_back}
 use Rattle.stream_places.specs.File.{FileForm, trailer_size, word_bytes, trailer_bytes, words_at, trailer_at, spells}
 use Rattle.stream_places.specs.declared.trailer.Trailer.{Trailer}

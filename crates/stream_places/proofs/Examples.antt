@@ -1,16 +1,16 @@
 -- Stream E and its places, saved and loaded: the premises of the promises are met, at the shift 3 and at 0, and each refusal is given.
-use Prim.Native.Nat.{ℕ, zero, suc, ◌*◌, ◌<◌}
+use Prim.Native.Nat.{ℕ, zero, suc}
 use mathlib.Core.Path.{◌≡◌, refl}
 use mathlib.Core.List.{List, [], ◌∷◌, ◌++◌}
-use lib.ListN.{replicate, get_or}
+use lib.ListN.{replicate}
 use native.Mathlib.Omega.{arith}
 use Rattle.answer.specs.Answer.{answered, refused}
 use Rattle.field.specs.Fields.{little_at}
 use Rattle.field_put.specs.Bytes.{bytes, put}
 use Rattle.stream_header.specs.Header.{header_of}
 use Rattle.stream_header.specs.Examples.{stream_e}
-use Rattle.stream_item.specs.Links.{link_at, chain, reached}
-use Rattle.stream_finder.specs.Finder.{State, state}
+use Rattle.stream_item.specs.Links.{link_at, chain}
+use Rattle.stream_finder.specs.Finder.{state}
 use Rattle.stream_finder.specs.Places.{Placed}
 use Rattle.stream_finder.proofs.Examples.{finder_by, finder_to}
 use Rattle.stream_places.specs.File.{wide, word_bytes, trailer_bytes, words_at, trailer_at, spells, checked, trailer_by}

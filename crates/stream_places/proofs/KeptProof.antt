@@ -2,26 +2,25 @@
 -- of the file. The law of the held places is stream_finder's own. Assumes nothing.
 use Prim.Native.Nat.{ℕ, zero, suc, ◌+◌, ◌-◌, ◌*◌, ◌/◌, ◌%◌, ◌^◌, ◌≤◌, ◌<◌}
 use native.Mathlib.Omega.{arith}
-use native.Mathlib.Nat.{zero-add, min-eq_left, mul_comm, mul-div_cancel_left}
+use native.Mathlib.Nat.{min-eq_left, mul-div_cancel_left}
 use native.Mathlib.Numerals.{one-add}
 use mathlib.Core.Path.{◌≡◌, refl, sym, ap, subst, ◌∙◌}
 use mathlib.Core.Bool.{Bool, true, false, not}
 use mathlib.Core.Logic.{◌⊎◌, inl, inr}
-use mathlib.Core.List.{List, [], ◌∷◌, ◌++◌}
+use mathlib.Core.List.{List, [], ◌++◌}
 use lib.ListN.{length, get_or, take, drop, length-take, length-append}
 use lib.Seq.{get_or-take, take-append_seam, drop-append_seam}
 use lib.Dec.{leb, ltb, eqb}
 use lib.Pow.{pow_pos}
-use borrow.Author.Tests.{lt-ltb, le-ltb, ltb-true, ltb-false, eq-eqb, ne_eqb, eqb-true, eqb-false, not-false}
-use Rattle.answer.specs.Answer.{Answer, answered, refused, pick, both, then}
-use Rattle.field.specs.Fields.{little_at}
+use borrow.Author.Tests.{lt-ltb, le-ltb, ltb-true, ltb-false, ne_eqb, eqb-true, not-false}
+use Rattle.answer.specs.Answer.{Answer, answered, refused, both, then}
 use Rattle.field.proofs.FieldLaws.{little-below}
 use Rattle.field_put.specs.Bytes.{put, Octets}
 use Rattle.field_put.proofs.PutLaws.{put_is, length-put}
-use Rattle.stream_header.specs.Header.{longest, zero_header, fields_of, header_of}
+use Rattle.stream_header.specs.Header.{header_of}
 use Rattle.stream_header.specs.declared.Header.{Header}
 use Rattle.field.specs.Indices.{index_in}
-use Rattle.stream_item.specs.Links.{link_of, chain, reached}
+use Rattle.stream_item.specs.Links.{link_of}
 use Rattle.field.specs.declared.index.Stream.{Stream}
 use Rattle.stream_item.proofs.LinkLaws.{Bounded, chain-bounds}
 use Rattle.stream_item.proofs.NextLaws.{passed}
@@ -29,17 +28,16 @@ use Rattle.stream_finder.specs.Finder.{State, state, block_of, holding, max_inde
 use Rattle.stream_finder.specs.declared.ItemFinder.{ItemFinder}
 use Rattle.stream_finder.specs.Places.{Placed, Ready}
 use Rattle.stream_finder.specs.Demand.{looked, number_given}
-use Rattle.stream_finder.specs.Shared.{Serves}
 use Rattle.stream_finder.proofs.PlaceLaws.{find-placed}
 use Rattle.stream_finder.proofs.DemandProof.{looked-number}
 use Rattle.stream_places.specs.File.{FileForm, narrow, wide, trailer_size, word_bytes, trailer_bytes, words_at, trailer_at, spells, trailer_by, trailer_of, file_form_of, trailer_of_either}
-use Rattle.stream_places.specs.Places.{on_chain, load_for, load_by, load_of, load_wide_of, trailer_for, file_of, form_for, save_for, save_by, save_of, save_wide_of, file_buffer_after}
+use Rattle.stream_places.specs.Places.{on_chain, load_for, load_by, load_of, load_wide_of, trailer_for, file_of, form_for, save_for, save_wide_of, file_buffer_after}
 use Rattle.stream_places.specs.Kept.{records_of, Loaded, Serving, LoadServes, WideServes, TripOf, RoundTrip, WideTrip, Encoding, OneEncoding, OneEncodingWide, LoadersAgree}
 use Rattle.stream_places.specs.declared.trailer.Trailer.{Trailer}
 use Rattle.stream_places.proofs.FileLaws.{length-words, length-word-bytes, length-trailer, one_tag, other_tag, trailer-letters, trailer-short, trailer-by, form-wide as letters-wide, form-narrow as letters-narrow, checked-right, Trailed, trailed, Taken, as_narrow, as_wide, taken-either}
 use Rattle.stream_places.proofs.BackLaws.{words_back, words-again, Fits, Back, trailer-back, trailer-again}
-use Rattle.stream_places.proofs.PlacesLaws.{Ours, load-header, load-trailer, load-done, Bounds, save-header, save-by, save-done, header-short, header-fields}
-use Rattle.stream_places.proofs.ChainLaws.{Chained, chained, unchained, chained-placed, placed-chained}
+use Rattle.stream_places.proofs.PlacesLaws.{Ours, load-header, load-trailer, load-done, save-header, save-by, save-done, header-short, header-fields}
+use Rattle.stream_places.proofs.ChainLaws.{chained, unchained, chained-placed, placed-chained}
 
 -- ---- what the proofs ask of a form: four letters, a count that holds the most places, a distance that fits
 record Sound (F : FileForm) : Type 0 where

@@ -5,3 +5,4 @@ pub mod ChainLaws
 pub mod KeptProof
 pub mod OneOutcome
 pub mod Examples
+pub mod Used

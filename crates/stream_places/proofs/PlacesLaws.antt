@@ -1,13 +1,12 @@
 -- The outcomes of loading and saving, a law for each, in the order of their tests; and a turn of the loop over the places. Assumes nothing.
-use Prim.Native.Nat.{ℕ, zero, suc, ◌+◌, ◌-◌, ◌*◌, ◌^◌, ◌≤◌, ◌<◌}
+use Prim.Native.Nat.{ℕ, suc, ◌+◌, ◌-◌, ◌*◌, ◌^◌, ◌≤◌, ◌<◌}
 use native.Mathlib.Omega.{arith}
 use native.Mathlib.Nat.{zero-add, add-sub_of_le}
 use native.Mathlib.Numerals.{add-one}
-use mathlib.Core.Path.{◌≡◌, refl, sym, ap, ◌∙◌}
-use mathlib.Core.Bool.{Bool, true, false, not}
-use mathlib.Core.List.{List, [], ◌∷◌, ◌++◌}
-use lib.ListN.{length, get_or, take, drop, length-take}
-use lib.Seq.{drop-cons}
+use mathlib.Core.Path.{◌≡◌, sym, ap, ◌∙◌}
+use mathlib.Core.Bool.{Bool, true, false}
+use mathlib.Core.List.{List, [], ◌++◌}
+use lib.ListN.{length, take}
 use lib.Dec.{ltb, eqb}
 use borrow.Author.Tests.{lt-ltb, le-ltb, eq-eqb, ne_eqb, ltb-false, eqb-true}
 use Rattle.answer.specs.Answer.{Answer, answered, refused, pick, both, then}
@@ -20,7 +19,7 @@ use Rattle.stream_item.proofs.LinkLaws.{link-broken, chain-break, chain-stays, c
 use Rattle.stream_item.proofs.NextLaws.{passed}
 use Rattle.stream_finder.specs.Finder.{State, state, holding}
 use Rattle.stream_places.specs.File.{FileForm, trailer_size, word_bytes, trailer_bytes, words_at, trailer_by}
-use Rattle.stream_places.specs.Places.{ends, follows, on_chain, Takes, load_for, load_by, trailer_for, file_of, save_for, save_by, file_size, file_buffer_after, said_save, Saves}
+use Rattle.stream_places.specs.Places.{ends, follows, on_chain, Takes, load_for, load_by, file_of, save_for, save_by, file_size, file_buffer_after, said_save, Saves}
 use Rattle.stream_places.specs.declared.trailer.Trailer.{Trailer}
 use Rattle.stream_places.specs.declared.SaveAnswer.{SaveAnswer}
 use Rattle.stream_places.specs.declared.SaveAnswer.TheVariants as save

@@ -5,6 +5,8 @@
 //
 // Loading goes over every link up to the last place once, to see that the places are on the chain: it reads the u16 length of each link, and
 // nothing else of the stream but its header.
+#![tactic(auto, using(crate::proofs::Used::laws), unfolding(crate::specs::File::trailer_at, crate::specs::File::trailer_bytes))]
+
 pub mod trailer;
 
 ghost use Rattle.std.specs.Prelude.{◌≡◌, Bool, ◌+◌, ◌*◌, ◌^◌, ◌≤◌, ◌<◌, eqb, ltb, length, take};

@@ -1,7 +1,7 @@
 -- The largest payload of a report is that of the first record that has it: indices rise along a stream, and a record takes the largest's place only if it is
 -- longer. Assumes nothing.
-use Prim.Native.Nat.{ℕ, zero, suc, ◌+◌, ◌-◌, ◌≤◌, ◌<◌}
-use mathlib.Core.Path.{◌≡◌, refl, sym, ap, ◌∙◌, subst}
+use Prim.Native.Nat.{ℕ, zero, suc, ◌≤◌, ◌<◌}
+use mathlib.Core.Path.{◌≡◌, refl, sym, ◌∙◌, subst}
 use mathlib.Core.Bool.{Bool, true, false}
 use mathlib.Core.List.{List, [], ◌∷◌}
 use mathlib.Core.Logic.{◌⊎◌, inl, inr}
@@ -17,7 +17,7 @@ use Rattle.stream_item.specs.declared.Item.{Item}
 use Rattle.stream_item.specs.declared.iter.ItemIter.{ItemIter}
 use Rattle.stream_report.specs.declared.Largest.{Largest}
 use Rattle.stream_report.specs.Report.{Counting, counted, larger}
-use Rattle.stream_report.specs.Sums.{RecordSeen, Stream, seeing, seen_by, stream_of, count_all, Among, first, later, RecordIn, in_last, in_earlier, Precedes, NoRecord, FirstLongest}
+use Rattle.stream_report.specs.Sums.{RecordSeen, Stream, seen_by, stream_of, count_all, Among, first, later, RecordIn, in_last, in_earlier, Precedes, NoRecord, FirstLongest}
 use Rattle.stream_report.proofs.SumLaws.{never, seen_step}
 use Rattle.stream_report.proofs.WalkLaws.{Further, further}
 

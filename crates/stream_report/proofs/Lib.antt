@@ -7,3 +7,4 @@ pub mod SumLaws
 pub mod LargestLaws
 pub mod MadeSums
 pub mod Examples
+pub mod Used

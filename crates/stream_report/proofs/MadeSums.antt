@@ -1,15 +1,13 @@
 -- What is true of a report that was made from a fresh one. Assumes nothing.
-use Prim.Native.Nat.{ℕ, ◌+◌, ◌*◌, ◌≤◌}
+use Prim.Native.Nat.{ℕ}
 use mathlib.Core.Path.{◌≡◌, refl, sym, ap, ◌∙◌, subst}
 use mathlib.Core.Bool.{Bool, true, false}
 use mathlib.Core.List.{List, [], ◌∷◌}
 use native.Mathlib.Omega.{arith}
-use lib.ListN.{length}
-use lib.Dec.{ltb}
 use borrow.Author.Tests.{ltb-false}
 use Rattle.answer.specs.Answer.{Answer, answered, refused, stop}
-use Rattle.stream_report.specs.Report.{Entry, Report, fresh, begun, refusing, too_large, settled_report, add_of}
-use Rattle.stream_report.specs.Sums.{Stream, stream_of, seen_bytes, records_with, bytes_with, AddsUp, count_all, by_records, tally_all, Made, new, added, each, sum, lengths, one, refused_streams, records_for, bytes_for, all_records, all_bytes, distinct, Sums, MadeSums}
+use Rattle.stream_report.specs.Report.{Entry, Report, fresh, begun, refusing, too_large, add_of}
+use Rattle.stream_report.specs.Sums.{Stream, stream_of, AddsUp, count_all, by_records, new, added, sum, lengths, refused_streams, records_for, bytes_for, all_records, all_bytes, distinct, Sums, MadeSums}
 use Rattle.stream_report.proofs.SumLaws.{adds-up, exactly, Plain, plain, open-entries, full-leaves, all-tallied, each-tallied, distinct-tallied}
 use Rattle.stream_report.proofs.LargestLaws.{LargestIs, fresh-largest, refused-largest, counted-largest}
 

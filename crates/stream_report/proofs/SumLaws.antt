@@ -7,15 +7,15 @@ use native.Mathlib.Omega.{arith}
 use lib.ListN.{length}
 use lib.Dec.{ltb, eqb}
 use borrow.Author.Tests.{lt-ltb, le-ltb, ltb-true, ltb-false, eq-eqb, ne_eqb, eqb-true, eqb-false}
-use Rattle.answer.specs.Answer.{Answer, answered, refused, pick, stop, then}
+use Rattle.answer.specs.Answer.{Answer, answered, refused, pick, then}
 use Rattle.field.specs.Fields.{little_at}
 use Rattle.field.specs.declared.index.Stream.TheVariants as stream
 use Rattle.stream_item.specs.Iterator.{iter_of, Next, done, yielded, next_of}
 use Rattle.stream_item.specs.declared.Item.{Item}
 use Rattle.stream_item.specs.declared.iter.ItemIter.{ItemIter}
-use Rattle.stream_report.specs.Report.{Entry, Report, fresh, Counting, counted, grown, tallied, has, room, after_step, run_by, count_run, begun, refusing, count_stream, most, passes, too_large, settled_report, concluded, add_of}
+use Rattle.stream_report.specs.Report.{Entry, Report, Counting, counted, grown, tallied, has, room, after_step, run_by, count_run, begun, count_stream, concluded, add_of}
 use Rattle.stream_report.specs.Sums.{RecordSeen, Stream, seeing, seen_by, stream_of, seen_bytes, records_with, bytes_with, AddsUp, count_all, by_records, tally_all, Exactly, records_for, bytes_for, all_records, all_bytes, distinct}
-use Rattle.stream_report.proofs.WalkLaws.{Further, further, over-end, run_step}
+use Rattle.stream_report.proofs.WalkLaws.{Further, further, over-end}
 
 pub never : {A : Type 0} {X : Type 0} (a : A) (n : ℕ) (x : List ℕ) → ◌≡◌ {A = Answer A} (refused n x) (answered a) → X
 never a n x e = let z : ◌≡◌ {A = ℕ} 0 1 = cc in absurd (omega arith)

@@ -1,5 +1,7 @@
 // The week's numbers: R-12 of document 02. A report is its totals, by value, and a lent table of 64 rows of three numbers: leaf, records, payload
 // bytes. Streams are added to it one by one; a fresh report is all zero, whatever its table holds.
+#![tactic(auto, using(crate::proofs::Used::laws), unfolding(crate::specs::Held::settled_of))]
+
 ghost use Rattle.std.specs.Prelude.{◌≡◌, ◌+◌, ◌-◌, ◌*◌, ◌≤◌, ◌<◌, ltb, length};
 ghost use Rattle.field.specs.Fields.{little_at};
 ghost use Rattle.stream_report.specs.Report.{fresh, totals_of, larger, most, at_most_64, count_run, begun, concluded, report_in, add_of, said_report, Reports};

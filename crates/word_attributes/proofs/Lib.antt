@@ -1,3 +1,4 @@
 pub mod OneOutcome
 pub mod Examples
 pub mod WordLaws
+pub mod Used

@@ -2,6 +2,8 @@
 // whether it is set. Three answers follow cvinfo.h where the crate does not (document 02, R-2; docs/DIFFERENCES.md): `intrinsic_type`, `mocom` and a
 // pointer's `is_mocom`.
 // specs/Bits.antt has what a bit and a field of bits are, specs/Pointers.antt what a pointer word answers.
+#![tactic(auto, using(crate::proofs::Used::laws), unfolding(answer::specs::Tables::among, answer::specs::Tables::find, crate::specs::Pointers::kind_of, crate::specs::Pointers::mode_of, crate::specs::Pointers::pointer_kinds, crate::specs::Pointers::pointer_modes, crate::specs::Pointers::reference_of, crate::specs::Pointers::size_of, crate::specs::Pointers::to_member_of, crate::specs::Words::introducing))]
+
 ghost use Rattle.std.specs.Prelude.{◌≡◌, eqb};
 ghost use Rattle.word_attributes.specs.Bits.{bit, bits};
 ghost use Rattle.word_attributes.specs.Words.{method_property, introducing};

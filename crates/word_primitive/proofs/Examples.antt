@@ -1,7 +1,7 @@
 -- Document 01's examples of primitives, computed by the definition that the contract cites. Assumes nothing.
 use mathlib.Core.Path.{◌≡◌, refl}
-use mathlib.Core.List.{List, [], ◌∷◌}
-use Rattle.answer.specs.Answer.{Answer, answered, refused}
+use mathlib.Core.List.{[], ◌∷◌}
+use Rattle.answer.specs.Answer.{answered, refused}
 use Rattle.answer.specs.Tables.{find}
 use Rattle.word_primitive.specs.Kinds.{kinds, indirections}
 use Rattle.word_primitive.specs.Primitive.{primitive_of}

@@ -1,6 +1,8 @@
 // The primitive types of document 01, "Indices and primitives" (the crate's primitive.rs): an index below 0x1000 names a
 // simple type, or a pointer to one. specs/Kinds.antt has the lists of kinds and indirections, specs/Primitive.antt the answer for every index,
 // specs/Sheet.antt what a number of the sheet stands for; sheet.rt is the sheet.
+#![tactic(auto)]
+
 ghost use Rattle.std.specs.Prelude.{◌≡◌};
 ghost use Rattle.word_primitive.specs.Primitive.{said_primitive, primitive_of};
 ghost use Rattle.word_primitive.specs.Sheet.{sheet_at, kind_by, indirection_by};

@@ -1,12 +1,12 @@
 -- A record of a leaf and its fields: what each way out of `write_by` has shown. Assumes nothing.
 use Prim.Native.Nat.{ℕ, ◌+◌, ◌≤◌, ◌<◌, min}
 use native.Mathlib.Omega.{arith}
-use mathlib.Core.Bool.{Bool, true, false}
-use mathlib.Core.Path.{◌≡◌, refl, ap, sym, ◌∙◌}
-use mathlib.Core.List.{List, [], ◌∷◌, ◌++◌, append_assoc}
+use mathlib.Core.Bool.{true}
+use mathlib.Core.Path.{◌≡◌, refl, ap, ◌∙◌}
+use mathlib.Core.List.{List, [], ◌++◌, append_assoc}
 use lib.ListN.{length, length-append}
 use borrow.Author.Tests.{lt-ltb, eq-eqb, ne_eqb}
-use Rattle.answer.specs.Answer.{Answer, answered, refused, then}
+use Rattle.answer.specs.Answer.{answered, refused}
 use Rattle.field.specs.Bytes.{bytes}
 use Rattle.field.proofs.ByteLaws.{length-bytes}
 use Rattle.field_put.specs.Bytes.{Puts, Room}
@@ -16,7 +16,7 @@ use Rattle.write_layout.proofs.RunLaws.{length-pads}
 use Rattle.write_layout.specs.Fields.{Encoded, bad, fixed_bytes, and_also, encodes, encoded_bytes}
 use Rattle.write_layout.specs.Records.{missing, filled, record_bytes}
 use Rattle.write_layout.specs.Buffer.{lay, Writes}
-use Rattle.write_pieces.proofs.RecordLaws.{long, short, refuse-bad, refuse-long, refuse-small, laid}
+use Rattle.write_pieces.proofs.RecordLaws.{long, short, refuse-long, refuse-small, laid}
 use Rattle.write_cells.specs.Cells.{left_bytes, cell_bytes}
 use Rattle.write_cells.proofs.LoopLaws.{measure_of, good-is}
 

@@ -1,4 +1,6 @@
 // Any record from its row, by the layout of its leaf: one loop for every layout that measures, and one that puts each field's bytes into the buffer.
+#![tactic(auto, using(crate::proofs::Used::laws), unfolding(answer::specs::Tables::among, answer::specs::Tables::find, field::specs::Bytes::bytes, field_put::specs::Bytes::put, field_text::specs::Texts::string_at, field_text::specs::Texts::to_zero, record_cells::specs::Codes::codes, record_cells::specs::Codes::field_of, word_attributes::specs::Words::introducing, write_layout::specs::Buffer::lay, write_layout::specs::Fields::optional_bytes, write_layout::specs::Fields::size_bytes, write_layout::specs::Fields::write_field, write_layout::specs::Records::missing, write_layout::specs::Records::write_leaf, write_layout::specs::Records::write_record, write_layout::specs::Runs::no_zero, write_layout::specs::Runs::pads, write_layout::specs::Runs::part_at, write_layout::specs::Runs::zeros, write_pieces::specs::Pieces::fine, write_pieces::specs::Pieces::piece_of, write_pieces::specs::Pieces::raw))]
+
 mod put;
 
 ghost use Rattle.std.specs.Prelude.{◌≡◌, true, List, [], ◌++◌, ℕ, ◌+◌, ◌≤◌, ◌<◌, min, negsuc, length};

@@ -1,18 +1,18 @@
 -- R-1 of a header: reading back gives the fields. Assumes nothing.
-use Prim.Native.Nat.{ℕ, zero, suc, ◌+◌, ◌-◌, ◌*◌, ◌/◌, ◌%◌, ◌^◌, ◌≤◌, ◌<◌}
+use Prim.Native.Nat.{ℕ, suc, ◌+◌, ◌-◌, ◌*◌, ◌/◌, ◌%◌, ◌^◌, ◌≤◌, ◌<◌}
 use native.Mathlib.Omega.{arith}
 use mathlib.Core.Bool.{Bool, true, false}
-use mathlib.Core.Path.{◌≡◌, refl, ap, sym, ◌∙◌}
-use mathlib.Core.List.{List, [], ◌∷◌, ◌++◌}
+use mathlib.Core.Path.{◌≡◌, refl, ap}
+use mathlib.Core.List.{List, ◌++◌}
 use lib.ListN.{length, length-append}
-use lib.Dec.{ltb, eqb}
+use lib.Dec.{ltb}
 use lib.IntN.{ℤ, pos, negsuc}
 use borrow.Author.Tests.{lt-ltb, le-ltb, ne_eqb, ltb-false}
-use Rattle.answer.specs.Answer.{Answer, answered, refused, pick, stop}
+use Rattle.answer.specs.Answer.{answered, stop}
 use Rattle.field.specs.Fields.{little_at, twos}
 use Rattle.field.specs.Bytes.{bytes}
 use Rattle.stream_header.specs.declared.Header.{Header}
-use Rattle.stream_header.specs.Header.{header_of, fields_of, longest}
+use Rattle.stream_header.specs.Header.{header_of, fields_of}
 use Rattle.write_layout.specs.Fields.{Encoded}
 use Rattle.write_header.specs.Headers.{offset_bits, header_fields, header_bytes, Fits32, Narrow, HeaderReadsBack}
 use Rattle.write_header.proofs.HeaderLaws.{header-length}

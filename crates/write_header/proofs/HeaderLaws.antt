@@ -1,14 +1,13 @@
 -- The ways out of `write_header`. Assumes nothing.
-use Prim.Native.Nat.{ℕ, zero, suc, ◌+◌, ◌-◌, ◌≤◌, ◌<◌}
+use Prim.Native.Nat.{ℕ, ◌-◌, ◌≤◌, ◌<◌}
 use native.Mathlib.Omega.{arith}
-use mathlib.Core.Path.{◌≡◌, refl, ap, sym, ◌∙◌}
+use mathlib.Core.Path.{◌≡◌, refl}
 use mathlib.Core.List.{List, []}
 use lib.ListN.{length}
 use borrow.Author.Tests.{lt-ltb, le-ltb}
 use Rattle.answer.specs.Answer.{answered, refused}
 use Rattle.field.specs.Bytes.{bytes}
 use Rattle.stream_header.specs.declared.Header.{Header}
-use Rattle.write_layout.specs.Runs.{zeros}
 use Rattle.write_layout.specs.Records.{limited}
 use Rattle.write_layout.specs.Buffer.{lay, Writes}
 use Rattle.write_layout.proofs.RunLaws.{length-zeros}

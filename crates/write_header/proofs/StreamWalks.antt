@@ -1,5 +1,5 @@
 -- A stream of a written header and written records walks to done with those items. Assumes nothing.
-use Prim.Native.Nat.{ℕ, zero, suc, ◌+◌, ◌-◌, ◌^◌, ◌≤◌, ◌<◌}
+use Prim.Native.Nat.{ℕ, suc, ◌+◌, ◌^◌, ◌≤◌, ◌<◌}
 use native.Mathlib.Omega.{arith}
 use mathlib.Core.Bool.{Bool, true, false}
 use mathlib.Core.Path.{◌≡◌, refl, ap, sym, ◌∙◌}
@@ -8,14 +8,13 @@ use lib.ListN.{length, take, drop, length-append, length-drop}
 use lib.Seq.{take-append_seam, drop-append_seam}
 use lib.Dec.{ltb}
 use borrow.Author.Tests.{le-leb, lt-leb, le-ltb, ltb-false}
-use Rattle.answer.specs.Answer.{answered, refused, got, stop, then}
+use Rattle.answer.specs.Answer.{answered, refused, stop, then}
 use Rattle.answer.specs.Tables.{find}
-use Rattle.field.specs.Fields.{little_at, fixed_at}
+use Rattle.field.specs.Fields.{little_at}
 use Rattle.field.specs.Bytes.{bytes}
 use Rattle.field.proofs.FieldLaws.{field-got}
 use Rattle.field.proofs.ByteLaws.{Stands, first, next, room, fixed_back, length-bytes}
-use Rattle.stream_header.specs.Header.{longest, header_of}
-use Rattle.stream_header.specs.declared.Header.{Header}
+use Rattle.stream_header.specs.Header.{longest}
 use Rattle.stream_item.specs.Iterator.{done, over_record, iter_of, next_of}
 use Rattle.stream_item.specs.declared.iter.ItemIter.{ItemIter}
 use Rattle.record_layout.specs.Fields.{number, numeral, absent, many}
@@ -25,10 +24,9 @@ use Rattle.write_layout.specs.Fields.{ToWrite, Encoded, fixed_bytes, and_also}
 use Rattle.write_layout.specs.Records.{written_by, write_leaf, missing, filled, whole as whole_record, record_bytes, write_record}
 use Rattle.write_layout.specs.Lists.{members_bytes, field_list_bytes, methods_bytes, method_list_bytes}
 use Rattle.write_layout.proofs.Back.{refusal, passed, written_both}
-use Rattle.write_header.specs.Headers.{header_bytes, Narrow}
 use Rattle.write_header.specs.Streams.{links_of, Payload, Payloads, behind_record, HasPayloads, LinksWalk, WrittenAs, by_table, field_list, method_list, AllWritten, in_order, behind_length, StreamWalks}
 use Rattle.write_header.proofs.HeaderLaws.{header-length}
-use Rattle.write_header.proofs.HeaderBack.{Checked, checked, header-reads-back}
+use Rattle.write_header.proofs.HeaderBack.{checked, header-reads-back}
 
 module _ (s : List ℕ) (l : length s ≤ longest) where
   at-end : (c : ItemIter) → Stands s c.at [] [] → next_of s c ≡ answered done

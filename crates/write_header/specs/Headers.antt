@@ -1,5 +1,5 @@
 -- R-1: a header as it is written: 56 bytes by document 01's "Header", and zeros up to header_size.
-use Rattle.std.specs.Prelude.{ℕ, suc, ◌+◌, ◌-◌, ◌^◌, ◌≤◌, ◌<◌, ◌≡◌, List, ◌++◌, length, ltb, ℤ, pos, negsuc}
+use Rattle.std.specs.Prelude.{ℕ, suc, ◌-◌, ◌^◌, ◌≤◌, ◌<◌, ◌≡◌, List, ◌++◌, length, ltb, ℤ, pos, negsuc}
 use Rattle.answer.specs.Answer.{answered, stop}
 use Rattle.field.specs.Bytes.{bytes}
 use Rattle.stream_header.specs.Header.{header_of, longest}

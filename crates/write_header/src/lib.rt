@@ -1,4 +1,6 @@
 // The header of a stream, into a lent buffer: 56 bytes, and zeros up to header_size.
+#![tactic(auto, using(crate::proofs::Used::laws), unfolding(crate::specs::Headers::header_fields, write_pieces::specs::Pieces::fine, write_pieces::specs::Pieces::piece_of, write_pieces::specs::Pieces::pieces_of, write_pieces::specs::Pieces::raw))]
+
 ghost use Rattle.std.specs.Prelude.{◌≡◌, List, ℕ, ◌≤◌};
 ghost use Rattle.answer.specs.Answer.{answered};
 ghost use Rattle.write_layout.specs.Buffer.{lay, Writes};

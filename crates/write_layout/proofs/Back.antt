@@ -1,17 +1,17 @@
 -- What is written by a layout reads back by it: `back`, for every layout at once, whatever is said of a number's form. Assumes nothing.
-use Prim.Native.Nat.{ℕ, zero, suc, ◌+◌, ◌-◌, ◌*◌, ◌/◌, ◌%◌, ◌^◌, ◌≤◌, ◌<◌}
+use Prim.Native.Nat.{ℕ, zero, suc, ◌+◌, ◌-◌, ◌^◌}
 use native.Mathlib.Omega.{arith}
 use native.Mathlib.Nat.{zero-add}
 use mathlib.Core.Bool.{Bool, true, false}
 use mathlib.Core.Path.{◌≡◌, refl, ap, sym, ◌∙◌}
 use mathlib.Core.List.{List, [], ◌∷◌, ◌++◌, append_assoc}
-use mathlib.Core.Option.{Option, none, some}
-use lib.ListN.{length, get_or, take, drop, length-drop, length-append}
+use mathlib.Core.Option.{none, some}
+use lib.ListN.{length, drop, length-append}
 use lib.Seq.{take-append_seam}
-use lib.Dec.{leb, ltb, eqb}
+use lib.Dec.{ltb, eqb}
 use lib.IntN.{ℤ, pos, negsuc}
 use borrow.Author.Tests.{le-leb, le-ltb, ltb-true, eqb-true}
-use Rattle.answer.specs.Answer.{Answer, answered, refused, Read, Got, got, pick, then, and_then}
+use Rattle.answer.specs.Answer.{answered, refused, Read, got, pick, then, and_then}
 use Rattle.answer.specs.Tables.{among}
 use Rattle.field.specs.Fields.{fixed_at}
 use Rattle.field.specs.Bytes.{bytes}

@@ -1,11 +1,11 @@
 -- What is written is bytes, or 17 and nothing else, where the strings and runs given are bytes. Assumes nothing.
-use Prim.Native.Nat.{ℕ, zero, suc, ◌+◌, ◌-◌, ◌^◌, ◌<◌}
+use Prim.Native.Nat.{ℕ, zero, suc, ◌-◌, ◌^◌}
 use native.Mathlib.Omega.{arith}
 use mathlib.Core.Bool.{Bool, true, false}
 use mathlib.Core.Path.{◌≡◌, refl}
 use mathlib.Core.List.{List, [], ◌∷◌, ◌++◌}
 use mathlib.Core.Option.{Option, none, some}
-use lib.ListN.{length, get_or}
+use lib.ListN.{length}
 use lib.Dec.{ltb, eqb}
 use lib.IntN.{ℤ, pos, negsuc}
 use Rattle.answer.specs.Answer.{answered, refused, pick}
@@ -16,7 +16,7 @@ use Rattle.field.proofs.ByteLaws.{bytes_small}
 use Rattle.field_number.specs.Forms.{prefixed, shortest, carried, AllBytes}
 use Rattle.record_layout.specs.Fields.{number, numeral, absent, many, Field, fixed, type, id, string_reference, optional_type, optional_id, word, gap, numeric, size, string, run, methods, members, when, run_bytes, word_after}
 use Rattle.record_layout.specs.Layouts.{Layout, Table}
-use Rattle.write_layout.specs.Runs.{no_zero, pads}
+use Rattle.write_layout.specs.Runs.{no_zero}
 use Rattle.write_layout.specs.Fields.{ToWrite, Encoded, bad, only, of_number, of_numeral, of_absent, of_many, fixed_bytes, optional_bytes, numeric_bytes, size_bytes, string_bytes, write_field, and_also, write_fields}
 use Rattle.write_layout.specs.Records.{written_by, write_leaf}
 use Rattle.write_layout.specs.RoundTrip.{InBytes, AllInBytes}

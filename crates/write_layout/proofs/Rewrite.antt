@@ -2,14 +2,14 @@
 use Prim.Native.Nat.{ℕ, zero, suc, ◌+◌, ◌-◌, ◌^◌, ◌≤◌, ◌<◌}
 use native.Mathlib.Omega.{arith}
 use mathlib.Core.Bool.{Bool, true, false}
-use mathlib.Core.Path.{◌≡◌, refl, ap, sym, ◌∙◌}
+use mathlib.Core.Path.{◌≡◌, refl, ap}
 use mathlib.Core.List.{List, [], ◌∷◌, ◌++◌, append-nil}
 use mathlib.Core.Option.{Option, none, some}
 use lib.ListN.{length, take, drop, length-drop}
-use lib.Dec.{leb, ltb, eqb}
+use lib.Dec.{ltb, eqb}
 use lib.IntN.{ℤ, pos, negsuc}
 use borrow.Author.Tests.{le-leb, lt-ltb, ltb-false, eq-eqb}
-use Rattle.answer.specs.Answer.{Answer, answered, refused, Read, Got, got, pick, stop, then, and_then}
+use Rattle.answer.specs.Answer.{Answer, answered, refused, Read, got, pick, stop, then, and_then}
 use Rattle.answer.specs.Tables.{find, among}
 use Rattle.field.specs.Fields.{fixed_at}
 use Rattle.field.specs.Bytes.{bytes}
@@ -18,15 +18,15 @@ use Rattle.field.specs.Runs.{bytes_after}
 use Rattle.field.proofs.FieldLaws.{field-got, little-below}
 use Rattle.field_text.specs.Texts.{Part, to_zero, part_or, string_at}
 use Rattle.field_number.specs.Numbers.{numeric_at, natural, size_at}
-use Rattle.field_number.specs.Forms.{form_of, shortest, carried, Numeral, numeral_by, sized_by, AllBytes}
+use Rattle.field_number.specs.Forms.{form_of, shortest, Numeral, numeral_by, sized_by, AllBytes}
 use Rattle.field_number.proofs.FormLaws.{refusal, read-carried}
 use Rattle.record_layout.specs.Fields.{Value, Shown, number, numeral, absent, many, or_absent, Field, fixed, type, id, string_reference, optional_type, optional_id, word, gap, numeric, size, string, run, methods, members, when, run_bytes, word_after, read_field_by, read_fields_by, unsaid}
 use Rattle.record_layout.specs.Layouts.{Layout, Table, read_leaf, leaf_of, record_of}
 use Rattle.record_layout.specs.Layouts as reading
 use Rattle.write_layout.specs.Runs.{part_at, no_zero}
 use Rattle.write_layout.specs.Fields.{ToWrite, bytes_in, given, given_all, Encoded, bad, only, of_number, of_numeral, of_absent, of_many, fixed_bytes, optional_bytes, numeric_bytes, size_bytes, string_bytes, write_field, and_also, write_fields}
-use Rattle.write_layout.specs.Records.{written_by, write_leaf, filled, record_bytes, write_record}
-use Rattle.write_layout.specs.RoundTrip.{InBytes, AllInBytes, WouldRead, Exactly17}
+use Rattle.write_layout.specs.Records.{write_leaf, filled, record_bytes, write_record}
+use Rattle.write_layout.specs.RoundTrip.{AllInBytes, WouldRead, Exactly17}
 use Rattle.write_layout.proofs.RunLaws.{part_length}
 use Rattle.write_layout.proofs.Back.{same_word}
 use Rattle.write_layout.proofs.Octets.{Sound, leaf-sound}

@@ -1,5 +1,5 @@
 -- The statements of specs/RoundTrip.antt. Assumes nothing.
-use Prim.Native.Nat.{ℕ, zero, suc, ◌+◌, ◌-◌, ◌%◌, ◌^◌, ◌≤◌, ◌<◌}
+use Prim.Native.Nat.{ℕ, ◌+◌, ◌^◌}
 use native.Mathlib.Omega.{arith}
 use native.Mathlib.Nat.{le_refl}
 use mathlib.Core.Bool.{Bool, true, false}
@@ -8,21 +8,19 @@ use mathlib.Core.List.{List, [], ◌∷◌, ◌++◌}
 use mathlib.Core.Option.{Option, none, some}
 use lib.ListN.{length, length-append}
 use lib.Dec.{ltb}
-use lib.IntN.{ℤ}
 use borrow.Author.Tests.{ltb-true, ltb-false, le-ltb}
-use Rattle.answer.specs.Answer.{Answer, answered, refused, Read, got, stop, then, and_then}
+use Rattle.answer.specs.Answer.{answered, refused, got, stop, then}
 use Rattle.answer.specs.Tables.{find}
 use Rattle.field.specs.Fields.{fixed_at}
 use Rattle.field.specs.Bytes.{bytes}
 use Rattle.field.proofs.ByteLaws.{Stands, stands, first, next, fixed_back, length-bytes}
-use Rattle.field_text.specs.Texts.{Part}
-use Rattle.field_number.specs.Forms.{Form, form_of, shortest}
-use Rattle.record_layout.specs.Fields.{Value, Shown, number, numeral, absent, many}
+use Rattle.field_number.specs.Forms.{form_of, shortest}
+use Rattle.record_layout.specs.Fields.{Shown, number, numeral, absent, many}
 use Rattle.record_layout.specs.Layouts.{Layout, Table, read_leaf, leaf_of, record_of}
 use Rattle.write_layout.specs.Runs.{pads}
-use Rattle.write_layout.specs.Fields.{ToWrite, given, given_all, Encoded, fixed_bytes}
+use Rattle.write_layout.specs.Fields.{ToWrite, given_all, Encoded, fixed_bytes}
 use Rattle.write_layout.specs.Records.{written_by, write_leaf, missing, filled, whole, record_bytes, write_record}
-use Rattle.write_layout.specs.RoundTrip.{InShortest, AllInShortest, ReadAs, FieldsReadBack, NoneShorter, NoShorter, ReadsBack, RecordReadsBack}
+use Rattle.write_layout.specs.RoundTrip.{InShortest, AllInShortest, FieldsReadBack, NoneShorter, NoShorter, ReadsBack, RecordReadsBack}
 use Rattle.write_layout.proofs.RunLaws.{length-pads}
 use Rattle.write_layout.proofs.Back.{refusal, passed, written_both, back}
 use Rattle.write_layout.proofs.Padding.{missing-fills}

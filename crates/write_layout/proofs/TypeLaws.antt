@@ -1,5 +1,5 @@
 -- The table without the two lists: a leaf that is left is written as by the whole table, and one that is not is 17. Assumes nothing.
-use Prim.Native.Nat.{ℕ, ◌^◌, ◌<◌}
+use Prim.Native.Nat.{ℕ, ◌^◌}
 use native.Mathlib.Omega.{arith}
 use mathlib.Core.Bool.{Bool, true, false}
 use mathlib.Core.Path.{◌≡◌, refl, sym, ap, ◌∙◌}
@@ -8,12 +8,12 @@ use mathlib.Core.Option.{Option, none, some}
 use lib.Dec.{ltb, eqb}
 use borrow.Author.Tests.{eqb-true}
 use Rattle.answer.specs.Answer.{answered, refused, pick}
-use Rattle.answer.specs.Tables.{Line, ◌is◌, find, among}
+use Rattle.answer.specs.Tables.{◌is◌, find, among}
 use Rattle.field.specs.Bytes.{bytes}
 use Rattle.record_layout.specs.Fields.{number, numeral, absent, many}
 use Rattle.record_layout.specs.Layouts.{Layout, Table, type_leaves}
 use Rattle.write_layout.specs.Fields.{ToWrite, Encoded, bad, fixed_bytes, and_also}
-use Rattle.write_layout.specs.Records.{written_by, write_leaf, record_bytes, write_record}
+use Rattle.write_layout.specs.Records.{write_leaf, record_bytes, write_record}
 use Rattle.write_layout.specs.Types.{without, element_leaves, written_leaves, TypesWritten}
 
 -- what is found without some leaves

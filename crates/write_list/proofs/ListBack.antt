@@ -1,5 +1,5 @@
 -- The elements of a written list read back, one after the other, and then the list ends. Assumes nothing.
-use Prim.Native.Nat.{ℕ, zero, suc, ◌+◌, ◌-◌, ◌*◌, ◌%◌, ◌^◌, ◌≤◌, ◌<◌}
+use Prim.Native.Nat.{ℕ, zero, suc, ◌+◌, ◌%◌, ◌^◌, ◌≤◌, ◌<◌}
 use native.Mathlib.Omega.{arith}
 use mathlib.Core.Bool.{Bool, true, false}
 use mathlib.Core.Path.{◌≡◌, refl, ap, sym, subst, ◌∙◌}
@@ -7,9 +7,9 @@ use mathlib.Core.List.{List, [], ◌∷◌, ◌++◌, map, append_assoc, append-
 use mathlib.Core.Option.{Option, none, some}
 use lib.ListN.{length, take, drop, length-append, length-drop}
 use lib.Seq.{take_at, drop_at}
-use lib.Dec.{leb, ltb, eqb, lit<}
+use lib.Dec.{ltb, eqb, lit<}
 use borrow.Author.Tests.{le-leb, lt-leb, lt-ltb, ltb-true, ltb-false, eqb-true}
-use Rattle.answer.specs.Answer.{Answer, answered, refused, got, pick, stop, then, and_then}
+use Rattle.answer.specs.Answer.{Answer, answered, refused, got, pick, stop, then}
 use Rattle.answer.specs.Tables.{find}
 use Rattle.field.specs.Fields.{fixed_at}
 use Rattle.field.specs.Bytes.{bytes}
@@ -21,22 +21,22 @@ use Rattle.record_layout.specs.Layouts.{field_word, type_index, offset, Layout, 
 use Rattle.record_member.specs.Said.{member_leaf, member_values, entry_values}
 use Rattle.record_member.specs.declared.Member.{Member}
 use Rattle.record_member.specs.declared.MethodListEntry.{MethodListEntry}
-use Rattle.record_list.specs.Lists.{ElementValues, type_element, id_element, member_element, method_element, Step, step_to, to_the_end, after_member, start_types, start_of, left_after, member_step, method_step, next_member, step_of, element_by, element_of}
+use Rattle.record_list.specs.Lists.{ElementValues, type_element, id_element, member_element, method_element, step_to, to_the_end, after_member, start_types, start_of, left_after, member_step, method_step, next_member, step_of, element_by, element_of}
 use Rattle.record_list.specs.declared.ListCursor.{ListCursor}
 use Rattle.field.specs.declared.index.Stream.TheVariants as stream
 use Rattle.write_layout.specs.Runs.{part_at, pads}
-use Rattle.write_layout.specs.Fields.{ToWrite, bytes_in, given_all, Encoded, bad, fixed_bytes, of_number, of_absent, and_also, write_field, write_fields}
+use Rattle.write_layout.specs.Fields.{ToWrite, bytes_in, given_all, Encoded, fixed_bytes, of_number, of_absent, and_also, write_field, write_fields}
 use Rattle.write_layout.specs.Records.{written_by, write_leaf, missing, filled, whole, record_bytes}
 use Rattle.write_layout.specs.Lists.{filled_member, filled_each, member_bytes, ends_list, members_bytes, methods_bytes, field_list_bytes, method_list_bytes}
 use Rattle.write_layout.specs.RoundTrip.{NoShorter}
 use Rattle.write_layout.proofs.RunLaws.{length-pads}
-use Rattle.write_layout.proofs.Back.{refusal, passed, Both, written_both, BackAll, back}
+use Rattle.write_layout.proofs.Back.{refusal, passed, written_both, back}
 use Rattle.write_layout.proofs.Padding.{missing-few, missing-fills, quiet, padding-back}
 use Rattle.write_layout.proofs.RoundTripProof.{no-shorter}
 use Rattle.write_pieces.proofs.RecordLaws.{member-length}
-use Rattle.write_list.specs.Rows.{row_values, list_method, member_rows, method_rows, row_of_member, row_of_method, RowsShow}
+use Rattle.write_list.specs.Rows.{row_values, list_method, member_rows, method_rows, row_of_member, row_of_method}
 use Rattle.write_list.proofs.RowLaws.{rows-show}
-use Rattle.write_list.specs.ListsBack.{Shows, ElementIs, ListBack, MemberAt, InFours, ElementsAre, payload_in, ListsReadBack}
+use Rattle.write_list.specs.ListsBack.{Shows, ElementIs, ListBack, InFours, ElementsAre, payload_in, ListsReadBack}
 use Rattle.write_list.proofs.ListLaws.{fixed-long, gap-long, nothing-long, offset-long}
 
 -- A record anywhere ---------------------------------------------------------------------------------------------------------------

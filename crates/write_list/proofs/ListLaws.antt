@@ -1,23 +1,23 @@
 -- The two lists are what write_layout says of them. Assumes nothing.
-use Prim.Native.Nat.{ℕ, zero, suc, ◌+◌, ◌-◌, ◌%◌, ◌^◌, ◌≤◌, ◌<◌}
+use Prim.Native.Nat.{ℕ, ◌-◌, ◌%◌, ◌^◌}
 use native.Mathlib.Omega.{arith}
 use mathlib.Core.Bool.{Bool, true, false}
 use mathlib.Core.Path.{◌≡◌, refl, ap, sym, ◌∙◌}
-use mathlib.Core.List.{List, [], ◌∷◌, ◌++◌, append-nil}
+use mathlib.Core.List.{List, [], ◌∷◌, append-nil}
 use lib.ListN.{length, length-append}
 use lib.Dec.{eqb, ltb}
 use borrow.Author.Tests.{eqb-true}
-use Rattle.answer.specs.Answer.{Answer, answered, refused, pick, both, then}
+use Rattle.answer.specs.Answer.{answered, refused, pick}
 use Rattle.field.specs.Bytes.{bytes}
 use Rattle.field.proofs.ByteLaws.{length-bytes}
 use Rattle.word_attributes.specs.Words.{introducing}
 use Rattle.record_layout.specs.Fields.{number, numeral, absent, many, gap}
 use Rattle.record_layout.specs.Layouts.{type_index, offset, method}
 use Rattle.write_layout.specs.Runs.{pads}
-use Rattle.write_layout.specs.Fields.{ToWrite, Encoded, bad, only, fixed_bytes, given, given_all, of_absent, of_number, and_also, write_field, write_fields}
+use Rattle.write_layout.specs.Fields.{ToWrite, Encoded, bad, only, fixed_bytes, given, given_all, of_absent, of_number, write_field, write_fields}
 use Rattle.write_layout.specs.Records.{missing}
 use Rattle.write_layout.specs.Lists.{filled_member, filled_each, member_bytes, ends_list, members_bytes, methods_bytes}
-use Rattle.write_layout.proofs.Back.{Both, written_both}
+use Rattle.write_layout.proofs.Back.{written_both}
 use Rattle.write_list.specs.Rows.{Bare, slot_at, present_of, base_class, direct_base, indirect_base, continuation, table_pointer, enumerate, data_member, static_member, overloads, nested, one_method, row_values, list_method, member_rows, method_rows}
 use Rattle.write_list.specs.Elements.{element_bytes, ends_after, elements_bytes}
 

@@ -1,16 +1,16 @@
 -- 17 of a list is given exactly if no payload has its elements: what is written reads back, and whatever the list reader gives can be written. Assumes
 -- nothing.
-use Prim.Native.Nat.{ℕ, zero, suc, ◌+◌, ◌^◌, ◌≤◌, ◌<◌}
+use Prim.Native.Nat.{ℕ, zero, suc, ◌^◌, ◌≤◌, ◌<◌}
 use native.Mathlib.Omega.{arith}
 use mathlib.Core.Bool.{Bool, true, false}
 use mathlib.Core.Path.{◌≡◌, refl, ap, sym, subst, ◌∙◌}
 use mathlib.Core.List.{List, [], ◌∷◌, ◌++◌}
 use mathlib.Core.Option.{Option, none, some}
-use lib.ListN.{length, get_or}
+use lib.ListN.{length}
 use lib.Dec.{leb, ltb, eqb, lit<}
-use borrow.Author.Tests.{lt-ltb, le-ltb, ltb-true, ltb-false}
+use borrow.Author.Tests.{lt-ltb}
 use Rattle.answer.specs.Answer.{Answer, answered, refused, Read, got, pick, stop, then, and_then}
-use Rattle.answer.specs.Tables.{Line, ◌is◌, find}
+use Rattle.answer.specs.Tables.{◌is◌, find}
 use Rattle.field.specs.Fields.{little_at, fixed_at}
 use Rattle.field.specs.Bytes.{bytes}
 use Rattle.field.proofs.FieldLaws.{field-got, little-below}
@@ -29,12 +29,11 @@ use Rattle.write_layout.specs.Fields.{ToWrite, given_all, Encoded, bad, fixed_by
 use Rattle.write_layout.specs.Records.{write_leaf, missing, filled, record_bytes}
 use Rattle.write_layout.specs.Lists.{filled_member, filled_each, member_bytes, ends_list, members_bytes, methods_bytes, field_list_bytes, method_list_bytes}
 use Rattle.write_layout.specs.RoundTrip.{AllInBytes}
-use Rattle.write_layout.proofs.Back.{refusal, written_both}
 use Rattle.write_layout.proofs.Octets.{both_small, Sound, leaf-sound}
 use Rattle.write_layout.proofs.Padding.{missing-few}
-use Rattle.write_layout.proofs.Rewrite.{Answers, From, from, same-value, re-fields}
-use Rattle.write_list.specs.ListsBack.{Shows, ElementIs, ShowsAs, ElementAs, HasElements, EachInBytes, ListsExactly17}
-use Rattle.write_list.proofs.ListBack.{Plain, plain_of, fields-element, methods-element}
+use Rattle.write_layout.proofs.Rewrite.{Answers, from, same-value, re-fields}
+use Rattle.write_list.specs.ListsBack.{ElementIs, ShowsAs, ElementAs, HasElements, EachInBytes, ListsExactly17}
+use Rattle.write_list.proofs.ListBack.{fields-element, methods-element}
 
 no_answer : {X : Type 0} {A : Type 0} {n : ℕ} {d : List ℕ} {a : A} → ◌≡◌ {A = Answer A} (refused n d) (answered a) → X
 no_answer {X} {A} {n} {d} {a} h = let z : ◌≡◌ {A = ℕ} 0 1 = cc in absurd (omega arith)

@@ -1,6 +1,8 @@
 // A field list, 0x1203, and a method list, 0x1206, with all their elements in one call, into a lent buffer. The elements are rows of numbers
 // (rows.rt), their strings parts of a lent text. Every row is looked at before the first byte is written, so that 17 of any element comes
 // before 18 and 19 of the whole.
+#![tactic(auto, using(crate::proofs::Used::laws), unfolding(answer::specs::Tables::among, answer::specs::Tables::find, record_layout::specs::Layouts::member_leaves, word_attributes::specs::Words::introducing, write_layout::specs::Fields::size_bytes, write_layout::specs::Fields::write_field, write_layout::specs::Fields::write_fields, write_layout::specs::Lists::field_list_bytes, write_layout::specs::Lists::method_list_bytes, write_layout::specs::Records::missing, write_layout::specs::Records::write_leaf, crate::specs::Elements::element_bytes, crate::specs::Elements::ends_after, crate::specs::Rows::base_class, crate::specs::Rows::continuation, crate::specs::Rows::data_member, crate::specs::Rows::direct_base, crate::specs::Rows::enumerate, crate::specs::Rows::indirect_base, crate::specs::Rows::list_method, crate::specs::Rows::nested, crate::specs::Rows::one_method, crate::specs::Rows::overloads, crate::specs::Rows::row_values, crate::specs::Rows::static_member, crate::specs::Rows::table_pointer, write_pieces::specs::Pieces::fine, write_pieces::specs::Pieces::piece_of, write_pieces::specs::Pieces::pieces_of))]
+
 pub mod rows;
 
 ghost use Rattle.std.specs.Prelude.{true, false, ◌≡◌, List, ◌++◌, ℕ, ◌+◌, ◌≤◌, min, length, negsuc};

@@ -1,20 +1,19 @@
 -- Laws of pieces. Assumes nothing.
-use Prim.Native.Nat.{ℕ, zero, suc, ◌+◌, ◌≤◌, ◌<◌, min}
+use Prim.Native.Nat.{ℕ, ◌+◌, ◌≤◌, ◌<◌, min}
 use native.Mathlib.Omega.{arith}
 use native.Mathlib.Nat.{zero-add}
 use native.Mathlib.Numerals.{add-one}
 use mathlib.Core.Bool.{Bool, true, false}
-use mathlib.Core.Path.{◌≡◌, refl, ap, sym, ◌∙◌}
+use mathlib.Core.Path.{◌≡◌, refl, ap, ◌∙◌}
 use mathlib.Core.List.{List, [], ◌∷◌, ◌++◌}
 use lib.ListN.{length, get_or, drop, length-append, drop_of_length-le}
 use lib.Seq.{drop-cons}
-use lib.Dec.{leb}
 use borrow.Author.Tests.{le-leb, lt-leb, leb-true}
 use Rattle.answer.specs.Answer.{Answer, answered, refused, both, then}
 use Rattle.field_put.specs.Bytes.{Puts, put}
 use Rattle.write_layout.specs.Runs.{part_at, no_zero}
 use Rattle.write_layout.proofs.RunLaws.{part_length}
-use Rattle.write_layout.specs.Fields.{Encoded, bad, only, and_also}
+use Rattle.write_layout.specs.Fields.{Encoded, only, and_also}
 use Rattle.write_pieces.specs.declared.Piece.{Piece}
 use Rattle.write_pieces.specs.declared.Piece.TheVariants as piece
 use Rattle.write_pieces.specs.Pieces.{raw, fine, piece_of, pieces_of, fine_all, raw_all}

@@ -1,6 +1,8 @@
 // The pieces that a record is made of, measured before the first byte is written, and then written one after the other. This is the only code
 // of the writers that touches the lent buffer, but for the length and the leaf of a list. What a piece stands for is in specs/Pieces.antt, what
 // the writers mean in crates/write_layout.
+#![tactic(auto, using(crate::proofs::Used::laws), unfolding(field::specs::Bytes::bytes, field_put::specs::Bytes::put, write_layout::specs::Records::missing, write_layout::specs::Runs::no_zero, write_layout::specs::Runs::pads, write_layout::specs::Runs::zeros, crate::specs::Pieces::fine, crate::specs::Pieces::piece_of, crate::specs::Pieces::raw))]
+
 pub mod fields;
 
 ghost use Rattle.std.specs.Prelude.{◌≡◌, true, [], ◌∷◌, ◌++◌, ◌+◌, ◌≤◌, min, length};

@@ -1,0 +1,10 @@
+-- `field_text::zero_by_byte` meets its contract. The loop's invariant: what lies before `i` is passed. Assumes nothing.
+use Rattle.std.proofs.Common.{◌-◌, length}
+use Rattle.field_text.specs.Zeros.{Passed}
+use Rattle.field_text.proofs.zero_by_byte.Given as goal
+
+abbrev pub invariant-loop-i : goal.invariant-loop-i
+invariant-loop-i l = Passed l.s l.p l.i
+
+abbrev pub decreases-loop-i : goal.decreases-loop-i
+decreases-loop-i l = length l.s - l.i

@@ -1,0 +1,14 @@
+-- `write_cells::put::put_zeros` meets its contract: what is left to write stands in the invariant. Assumes nothing.
+use Prim.Native.Nat.{◌+◌, ◌≤◌}
+use mathlib.Core.Path.{◌≡◌}
+use lib.ListN.{length}
+use Rattle.field_put.specs.Bytes.{put}
+use Rattle.write_layout.specs.Runs.{zeros}
+use Rattle.write_cells.proofs.put.put_zeros.Given as goal
+
+abbrev pub invariant-loop-left : goal.invariant-loop-left
+invariant-loop-left l =
+    (l.to + l.left ≡ l.p + l.n) × (l.to + l.left ≤ length l.out) × (length l.out ≡ length l.initial.out) × (put l.initial.out l.p (zeros l.n) ≡ put l.out l.to (zeros l.left))
+
+abbrev pub decreases-loop-left : goal.decreases-loop-left
+decreases-loop-left l = l.left

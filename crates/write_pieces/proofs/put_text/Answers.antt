@@ -1,0 +1,8 @@
+-- `write_pieces::put_text` meets its contract. Assumes nothing.
+use Rattle.field.specs.Bytes.{bytes}
+use Rattle.field_put.proofs.PutLaws.{puts-both}
+use Rattle.write_pieces.proofs.put_text.Goals as goal
+
+pub returns : goal.returns
+unfolding bytes
+returns c = puts-both _ _ _ _ _ _ _ _ c.put_part-e.ensures c.put8.ensures
