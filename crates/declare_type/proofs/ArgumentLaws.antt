@@ -1,9 +1,9 @@
 -- Arguments, written from left to right. Assumes nothing.
 use Rattle.stream_finder.specs.Finder.{State}
-use Prim.Native.Nat.{ℕ, zero, suc, ◌+◌, ◌-◌, ◌*◌, ◌≤◌, ◌<◌}
+use Prim.Native.Nat.{ℕ, zero, suc, ◌+◌, ◌-◌, ◌≤◌, ◌<◌}
 use native.Mathlib.Omega.{arith}
 use mathlib.Core.Path.{◌≡◌, refl, ap, sym, ◌∙◌, subst}
-use mathlib.Core.Bool.{Bool, true, false, false≢true}
+use mathlib.Core.Bool.{false≢true}
 use mathlib.Core.List.{List, [], ◌∷◌, ◌++◌, append-nil, append_assoc}
 use lib.ListN.{length, length-append}
 use Rattle.declare_type.specs.Nodes.{index_at, list_of}
@@ -13,8 +13,8 @@ use Rattle.declare_type.specs.declared.token.Token.TheVariants as token
 use Rattle.declare_type.specs.Tokens.{text_of}
 use Rattle.declare_type.specs.Walk.{Spelled, printed, stopped, onto, fixed_then, rest_of, arguments_of, over_arguments, whole_text}
 use Rattle.field_put.specs.Bytes.{put, Puts, Room}
-use Rattle.declare_type.specs.Sides.{is_printed, left_of, right_of, SideRoom, Both, WholeRoom, Rest}
-use Rattle.declare_type.proofs.PutLaws.{put-append, put-comm, length-put, puts-two}
+use Rattle.declare_type.specs.Sides.{left_of, WholeRoom, Rest}
+use Rattle.declare_type.proofs.PutLaws.{put-append, length-put, puts-two}
 
 -- ---- arguments have no left side
 

@@ -3,24 +3,22 @@ use Prim.Native.Nat.{ℕ, ◌+◌, ◌-◌, ◌≤◌, ◌<◌}
 use native.Mathlib.Omega.{arith}
 use mathlib.Core.Path.{◌≡◌, refl, ap, sym, ◌∙◌}
 use mathlib.Core.Bool.{Bool, true, false, false≢true}
-use mathlib.Core.List.{List, [], ◌∷◌, ◌++◌}
-use lib.ListN.{length, take, drop, length-append}
+use mathlib.Core.List.{List, ◌++◌}
+use lib.ListN.{length, drop, length-append}
 use lib.Dec.{ltb}
 use borrow.Author.Tests.{lt-ltb, le-ltb}
-use Rattle.answer.specs.Answer.{Answer, answered, refused, pick, stop}
+use Rattle.answer.specs.Answer.{answered, pick}
 use Rattle.answer.specs.declared.Refusal.{Refusal}
 use Rattle.answer.specs.declared.Refusal.TheVariants as refusal
 use Rattle.stream_header.specs.Header.{longest}
 use Rattle.stream_finder.specs.Finder.{State}
 use Rattle.field_put.specs.Bytes.{put}
 use Rattle.field_put.proofs.PutLaws.{put_is}
-use Rattle.declare_type.specs.declared.walk.Measured.{Measured}
 use Rattle.declare_type.specs.declared.walk.Measured.TheVariants as measured
-use Rattle.declare_type.specs.Walk.{Spelled, printed, stopped, capped, whole_text, declaration_of}
+use Rattle.declare_type.specs.Walk.{Spelled, printed, stopped, capped, declaration_of}
 use Rattle.declare_type.proofs.RoomLaws.{fits-within}
-use Rattle.declare_type.specs.declared.DeclareAnswer.{DeclareAnswer}
 use Rattle.declare_type.specs.declared.DeclareAnswer.TheVariants as declare
-use Rattle.declare_type.specs.Sides.{is_printed, left_of, right_of, SideRoom, Both}
+use Rattle.declare_type.specs.Sides.{SideRoom, Both}
 use Rattle.declare_type.specs.Declares.{text_in, declare_of, Declares}
 use Rattle.declare_type.proofs.PutLaws.{put-append}
 use Rattle.declare_type.proofs.WriteLaws.{sides}

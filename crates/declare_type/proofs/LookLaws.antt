@@ -1,11 +1,10 @@
 -- The laws of lookups. Assumes nothing.
 use Prim.Native.Nat.{ℕ, ◌+◌, ◌-◌, ◌≤◌, ◌<◌}
 use native.Mathlib.Omega.{arith}
-use mathlib.Core.Path.{◌≡◌, refl, ap, sym, ◌∙◌}
+use mathlib.Core.Path.{◌≡◌, refl, ap, sym}
 use mathlib.Core.Bool.{Bool, true, false}
-use mathlib.Core.List.{List, [], ◌∷◌}
+use mathlib.Core.List.{List}
 use lib.ListN.{length, take, drop, length-take, length-drop}
-use lib.Dec.{ltb, eqb}
 use borrow.Author.Tests.{lt-ltb, le-ltb, ne_eqb}
 use Rattle.answer.specs.Answer.{Answer, answered, refused, pick}
 use Rattle.answer.specs.Tables.{among}
@@ -14,14 +13,11 @@ use Rattle.answer.proofs.OneOutcome.{back}
 use Rattle.answer.specs.declared.Refusal.{Refusal}
 use Rattle.answer.specs.declared.Refusal.TheVariants as refusal
 use Rattle.field.specs.Fields.{fixed_at}
-use Rattle.word_primitive.specs.Primitive.{primitive_of}
-use Rattle.stream_item.specs.declared.Entry.{Entry}
-use Rattle.stream_item.specs.declared.Entry.TheVariants as entry
 use Rattle.declare_type.specs.declared.node.Looked as declared
 use Rattle.declare_type.specs.declared.node.Looked.TheVariants as looked
 use Rattle.word_primitive.specs.declared.PrimitiveType.{PrimitiveType}
 use Rattle.declare_type.specs.Inside.{HeldAt, HeldInside}
-use Rattle.declare_type.specs.Looked.{Seen, numbered, held, nothing, or_ended, unread, declared_leaves, list_leaves, as_primitive, by_leaf, bytes_seen, said_looked}
+use Rattle.declare_type.specs.Looked.{Seen, nothing, or_ended, unread, declared_leaves, as_primitive, by_leaf, bytes_seen, said_looked}
 
 -- a refusal that is passed on
 pub passed_on : (e : Refusal) → nothing e ≡ unread (number_of e) (details_of e)

@@ -3,7 +3,7 @@ use Prim.Native.Nat.{ℕ, zero, suc, ◌+◌, ◌-◌, ◌*◌, ◌/◌, ◌%◌
 use native.Mathlib.Omega.{arith}
 use mathlib.Core.Path.{◌≡◌, refl, ap, sym, ◌∙◌}
 use mathlib.Core.Bool.{Bool, true, false}
-use mathlib.Core.List.{List, [], ◌∷◌}
+use mathlib.Core.List.{List}
 use lib.ListN.{length}
 use lib.Dec.{leb, eqb}
 use borrow.Author.Tests.{le-leb, lt-leb, leb-true, eq-eqb, ne_eqb}
@@ -13,21 +13,20 @@ use Rattle.answer.specs.declared.Refusal.TheVariants as refusal
 use Rattle.field_text.specs.Texts.{Part}
 use Rattle.record_layout.specs.Fields.{Shown, number, numeral, absent, many}
 use Rattle.record_layout.specs.Values.{nth}
-use Rattle.record_data.specs.Said.{kind_values, type_values}
+use Rattle.record_data.specs.Said.{kind_values}
 use Rattle.record_data.specs.declared.ClassKind.{ClassKind}
 use Rattle.record_data.specs.declared.ClassKind.TheVariants as kind
 use Rattle.record_data.specs.declared.ClassType.{ClassType}
 use Rattle.field_text.specs.Texts.{part}
 use Rattle.stream_finder.specs.Finder.{State}
 use Rattle.declare_spelling.specs.declared.Extent.TheVariants as extent
-use Rattle.declare_type.specs.declared.node.Node.{Node}
 use Rattle.declare_type.specs.declared.node.Node.TheVariants as node
 use Rattle.declare_type.specs.declared.node.Arguments.{Arguments}
 use Rattle.declare_type.specs.declared.node.Arguments.TheVariants as arguments
 use Rattle.declare_type.specs.declared.node.Sized.{Sized}
 use Rattle.declare_type.specs.declared.node.Sized.TheVariants as sized
-use Rattle.declare_type.specs.Looked.{Seen, numbered, held, nothing, declared_leaves, list_leaves, type_seen}
-use Rattle.declare_type.specs.Nodes.{leaf_in, num, classes, sized_in, sized_from, through, size_through, extent_of, name_in, node_in, node_by, node_of, list_in, list_by, list_of}
+use Rattle.declare_type.specs.Looked.{Seen, held, type_seen}
+use Rattle.declare_type.specs.Nodes.{leaf_in, num, classes, sized_in, sized_from, through, size_through, extent_of, name_in, node_in, list_in, list_by}
 use Rattle.declare_type.specs.Inside.{ListInside}
 use Rattle.field.specs.declared.index.TypeIndex.{TypeIndex}
 

@@ -1,14 +1,14 @@
 -- The two sides of a declaration, written token by token from the outside inward. Assumes nothing.
-use Prim.Native.Nat.{ℕ, zero, suc, ◌+◌, ◌-◌, ◌*◌, ◌≤◌, ◌<◌}
+use Prim.Native.Nat.{ℕ, ◌+◌, ◌-◌, ◌≤◌}
 use native.Mathlib.Omega.{arith}
 use mathlib.Core.Path.{◌≡◌, refl, ap, sym, ◌∙◌}
-use mathlib.Core.Bool.{Bool, true, false, false≢true}
-use mathlib.Core.List.{List, [], ◌∷◌, ◌++◌, append-nil, append_assoc}
+use mathlib.Core.Bool.{false≢true}
+use mathlib.Core.List.{List, [], ◌++◌}
 use lib.ListN.{length, length-append}
 use Rattle.declare_type.specs.Walk.{Spelled, printed, stopped, onto, fixed_then, whole_text}
-use Rattle.field_put.specs.Bytes.{put, Puts, Room}
-use Rattle.declare_type.specs.Sides.{is_printed, left_of, right_of, SideRoom, Both, WholeRoom, Rest}
-use Rattle.declare_type.proofs.PutLaws.{put-append, put-comm, length-put}
+use Rattle.field_put.specs.Bytes.{put, Puts}
+use Rattle.declare_type.specs.Sides.{SideRoom, Both, WholeRoom}
+use Rattle.declare_type.proofs.PutLaws.{put-append, put-comm}
 
 -- ---- a token on each side
 

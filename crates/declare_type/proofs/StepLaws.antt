@@ -1,8 +1,7 @@
 -- The laws of steps. Assumes nothing.
 use Rattle.stream_finder.specs.Finder.{State}
 use Prim.Native.Nat.{ℕ}
-use mathlib.Core.Path.{◌≡◌, refl, ap, sym, ◌∙◌}
-use mathlib.Core.Bool.{Bool, true, false}
+use mathlib.Core.Path.{◌≡◌, sym, ◌∙◌}
 use mathlib.Core.List.{List}
 use Rattle.declare_type.specs.Nodes.{node_of}
 use Rattle.declare_type.specs.declared.node.Node.{Node}

@@ -1,15 +1,15 @@
 -- Texts that are put into a list, one behind the other. Assumes nothing.
 use Prim.Native.Nat.{ℕ, ◌+◌, ◌-◌, ◌≤◌, ◌<◌}
 use native.Mathlib.Omega.{arith}
-use mathlib.Core.Path.{◌≡◌, refl, ap, sym, ◌∙◌}
+use mathlib.Core.Path.{◌≡◌, refl, sym, ◌∙◌}
 use mathlib.Core.Bool.{Bool, true, false}
 use mathlib.Core.List.{List, [], ◌∷◌, ◌++◌, append-nil}
 use lib.Dec.{eqb}
-use lib.ListN.{length, take, drop, set, length-append, length-take, length-drop}
-use lib.Seq.{length-take-le, take_all}
+use lib.ListN.{length, take, drop, set, length-take, length-drop}
+use lib.Seq.{take_all}
 use borrow.Author.Tests.{eq-eqb, ne_eqb}
-use Rattle.field_put.specs.Bytes.{put, Room, Puts, Lays}
-use Rattle.field_put.proofs.PutLaws.{room-first, room_after, puts-both, laid, lays, lays-none}
+use Rattle.field_put.specs.Bytes.{put, Room, Puts}
+use Rattle.field_put.proofs.PutLaws.{room-first, room_after, puts-both}
 use Rattle.declare_spelling.specs.Spellings.{quoted}
 use Rattle.declare_type.specs.Tokens.{quals_in, space_before}
 use Rattle.declare_spelling.specs.Spelled.{Spells}

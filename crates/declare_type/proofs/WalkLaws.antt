@@ -1,14 +1,11 @@
 -- Each outcome of the measuring is one law: what the code knows at a return, and what the definition says there. Assumes nothing.
 use Rattle.stream_finder.specs.Finder.{State}
-use Prim.Native.Nat.{ℕ, zero, suc, ◌+◌, ◌-◌, ◌*◌, ◌≤◌, ◌<◌}
+use Prim.Native.Nat.{ℕ, suc, ◌+◌, ◌-◌, ◌≤◌, ◌<◌}
 use native.Mathlib.Omega.{arith}
 use mathlib.Core.Path.{◌≡◌, refl, ap, sym, ◌∙◌}
-use mathlib.Core.Bool.{Bool, true, false}
-use mathlib.Core.List.{List, [], ◌∷◌, ◌++◌}
-use lib.ListN.{length, length-append}
-use lib.Dec.{ltb}
-use borrow.Author.Tests.{lt-ltb, le-ltb, ltb-true, ltb-false}
-use Rattle.answer.specs.Answer.{pick}
+use mathlib.Core.List.{List, []}
+use lib.ListN.{length}
+use borrow.Author.Tests.{lt-ltb, le-ltb}
 use Rattle.field.specs.declared.index.TypeIndex.{TypeIndex}
 use Rattle.declare_type.specs.Nodes.{index_at, list_of}
 use Rattle.answer.specs.declared.Refusal.{Refusal}
@@ -24,7 +21,7 @@ use Rattle.declare_type.specs.declared.walk.Measured.{Measured}
 use Rattle.declare_type.specs.declared.walk.Measured.TheVariants as measured
 use Rattle.declare_type.specs.Tokens.{text_of}
 use Rattle.declare_type.specs.Steps.{around_first, inward_step}
-use Rattle.declare_type.specs.Walk.{Spelled, printed, stopped, onto, fixed_then, rest_of, arguments_of, over_arguments, stepped, walk, capped}
+use Rattle.declare_type.specs.Walk.{Spelled, onto, fixed_then, rest_of, arguments_of, over_arguments, stepped, walk, capped}
 use Rattle.declare_type.proofs.RoomLaws.{grown, over, within, within-right, joined-fits, joined-refused}
 
 -- a type that may be looked up

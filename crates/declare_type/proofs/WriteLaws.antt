@@ -1,28 +1,25 @@
 -- Each place of the writing is one law: what the code knows there, and what it asks. Assumes nothing.
 use Rattle.stream_finder.specs.Finder.{State}
-use Prim.Native.Nat.{ℕ, zero, suc, ◌+◌, ◌-◌, ◌*◌, ◌≤◌, ◌<◌}
+use Prim.Native.Nat.{ℕ, ◌+◌, ◌-◌, ◌≤◌, ◌<◌}
 use native.Mathlib.Omega.{arith}
-use mathlib.Core.Path.{◌≡◌, refl, ap, sym, ◌∙◌, subst}
+use mathlib.Core.Path.{◌≡◌, refl, ap, sym, ◌∙◌}
 use mathlib.Core.Bool.{Bool, true, false, false≢true}
-use mathlib.Core.List.{List, [], ◌∷◌, ◌++◌}
+use mathlib.Core.List.{List, []}
 use lib.ListN.{length, length-append}
 use lib.Dec.{ltb}
-use borrow.Author.Tests.{lt-ltb, le-ltb, ltb-true, ltb-false}
+use borrow.Author.Tests.{le-ltb}
 use Rattle.answer.specs.Answer.{pick}
 use Rattle.field.specs.declared.index.TypeIndex.{TypeIndex}
-use Rattle.declare_type.specs.Nodes.{index_at, list_of}
 use Rattle.answer.specs.declared.Refusal.{Refusal}
 use Rattle.answer.specs.declared.Refusal.TheVariants as refusal
 use Rattle.declare_type.specs.declared.step.Around.{Around}
 use Rattle.declare_type.specs.declared.token.Token.{Token}
-use Rattle.declare_type.specs.declared.token.Token.TheVariants as token
 use Rattle.declare_type.specs.declared.step.Step.{Step}
 use Rattle.declare_type.specs.declared.step.Step.TheVariants as step
-use Rattle.declare_type.specs.declared.walk.Measured.{Measured}
 use Rattle.declare_type.specs.declared.walk.Measured.TheVariants as measured
 use Rattle.declare_type.specs.Tokens.{text_of}
-use Rattle.declare_type.specs.Steps.{around_first, inward_step}
-use Rattle.declare_type.specs.Walk.{Spelled, printed, stopped, onto, fixed_then, over_arguments, stepped, walk, capped, whole_text}
+use Rattle.declare_type.specs.Steps.{inward_step}
+use Rattle.declare_type.specs.Walk.{Spelled, printed, stopped, onto, fixed_then, stepped, walk, capped, whole_text}
 use Rattle.field_put.specs.Bytes.{put, Puts, Room}
 use Rattle.declare_type.specs.Sides.{is_printed, left_of, right_of, SideRoom, Both, WholeRoom}
 use Rattle.declare_type.proofs.WalkLaws.{walk_is, args_in}

@@ -1,5 +1,7 @@
 // A type as a C declaration (R-5 of document 02): the walk measures it in the room that the buffer has, and if nothing is refused it is written.
 // `write_declarator` and `write_arguments` call each other, the depth left of 32 falling; `write_argument` stands between them.
+#![tactic(auto)]
+
 mod count;
 mod node;
 mod step;

@@ -9,7 +9,7 @@ use lib.Signed.{mag, non_neg, lt_z}
 use mir.Syntax.{w32, w64}
 use mir.Val.{to_z, of_z, SFits, Fits}
 use mir.Facts.{to_z-of_z}
-use borrow.Author.Tests.{le-ltb, ltb-true, ltb-false}
+use borrow.Author.Tests.{le-ltb, ltb-true}
 use Rattle.pane.specs.Out.{bits32}
 
 minus : (n : ℕ) → negsuc 0 -ℤ negsuc n ≡ pos n

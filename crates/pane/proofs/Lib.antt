@@ -5,3 +5,4 @@ pub mod TallyProof
 pub mod SameProof
 pub mod TallyWitness
 pub mod Examples
+pub mod Used

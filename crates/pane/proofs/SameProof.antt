@@ -1,28 +1,27 @@
 -- Five functions are enough. Assumes nothing.
-use Prim.Native.Nat.{ℕ, zero, suc, ◌+◌, ◌-◌, ◌*◌, ◌/◌, ◌%◌, ◌^◌, ◌≤◌, ◌<◌}
+use Prim.Native.Nat.{ℕ, ◌+◌, ◌-◌, ◌/◌, ◌%◌, ◌^◌, ◌≤◌, ◌<◌}
 use mathlib.Core.Bool.{Bool, true, false}
 use mathlib.Core.List.{List, [], ◌∷◌}
 use mathlib.Core.Option.{Option, none, some}
-use mathlib.Core.Path.{◌≡◌, refl, sym, ap, ◌∙◌, subst}
+use mathlib.Core.Path.{◌≡◌, refl, sym, ap, ◌∙◌}
 use native.Mathlib.Nat.{zero-div, zero-mod}
 use native.Mathlib.Omega.{arith}
-use lib.Dec.{leb, ltb, eqb}
+use lib.Dec.{leb, ltb}
 use lib.ListN.{length, get_or, set}
 use borrow.Author.Tests.{lt-ltb, le-ltb}
-use Rattle.answer.specs.Answer.{Answer, answered, refused, pick, stop, both}
+use Rattle.answer.specs.Answer.{Answer, answered, refused, pick, stop}
 use Rattle.answer.specs.Tables.{find}
 use Rattle.stream_header.specs.Header.{longest, header_of}
 use Rattle.stream_header.specs.declared.Header.{Header}
 use Rattle.field.specs.Fields.{little_at}
 use Rattle.field.specs.Indices.{index_in}
 use Rattle.stream_item.specs.Links.{link_of}
-use Rattle.stream_item.specs.Iterator.{Next, next_of, over_record, done}
+use Rattle.stream_item.specs.Iterator.{next_of, over_record, done}
 use Rattle.field.specs.declared.index.Stream.TheVariants.{Types, Ids}
 use Rattle.field.specs.declared.index.ItemIndex.{ItemIndex}
-use Rattle.stream_item.specs.declared.iter.ItemIter.{ItemIter}
 use Rattle.stream_item.specs.declared.link.Hit.{Hit}
 use Rattle.stream_item.specs.declared.link.Hit.TheVariants.{Landed, Missed}
-use Rattle.stream_finder.specs.Finder.{State, state, block_of, distance, holding, begun_by, create_by, due, update_of, Found, max_index_of, landed, look_of, find_of}
+use Rattle.stream_finder.specs.Finder.{State, state, block_of, distance, holding, begun_by, create_by, due, update_of, max_index_of, landed, look_of}
 use Rattle.stream_finder.proofs.FinderLaws.{create-is, due-yes}
 use Rattle.stream_finder.proofs.Accepted.{Accepted, accepted}
 use Rattle.stream_finder.proofs.PlaceLaws.{update-ind}

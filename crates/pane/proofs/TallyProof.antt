@@ -27,7 +27,7 @@ use Rattle.stream_finder.specs.declared.Records.{Records}
 use Rattle.stream_finder.proofs.FinderLaws.{create-is}
 use Rattle.stream_finder.proofs.PlaceLaws.{update-ind}
 use Rattle.stream_places.specs.File.{FileForm, narrow, words_at, trailer_by, file_form_of}
-use Rattle.stream_places.specs.Places.{on_chain, load_for, load_by, load_of, load_wide_of}
+use Rattle.stream_places.specs.Places.{on_chain, load_for, load_by}
 use Rattle.stream_places.specs.declared.trailer.Trailer.{Trailer}
 use Rattle.stream_places.proofs.PlacesLaws.{load-header}
 use Rattle.pane.specs.Tally.{is_found, passed_by, AllFound, passed_up, tally, LoadedTally, Tally}

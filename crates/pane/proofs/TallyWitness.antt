@@ -1,7 +1,7 @@
 -- The premises of the tally are met: the stream of 18 records, a link of one byte and one record more, at the shift 3. Its first 20 indices are all
 -- found, and 2 · 28 + 6 links are passed. And those of a finder that two cursors share, R-11's own run: a place for each record, and none is passed.
 -- Assumes nothing.
-use Prim.Native.Nat.{ℕ, zero, suc, ◌+◌, ◌≤◌, ◌<◌}
+use Prim.Native.Nat.{ℕ, zero, suc, ◌+◌, ◌<◌}
 use mathlib.Core.Bool.{Bool, true, false}
 use mathlib.Core.List.{[], ◌∷◌}
 use mathlib.Core.Path.{◌≡◌, refl, ap, ◌∙◌}

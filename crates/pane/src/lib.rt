@@ -5,6 +5,8 @@
 // The result is the number of 01 or 02, 0 for an answer. Behind `out`, which is written whole by every call: the two detail values, then the
 // answer's fields, 0 where there is none. So what C gets is one value, and each contract is one equation between it and the definition that the
 // plain function's contract cites (specs/Out.antt).
+#![tactic(auto, using(crate::proofs::Used::laws))]
+
 ghost use Rattle.std.specs.Prelude.{◌≡◌, ◌∷◌};
 ghost use Rattle.stream_header.specs.Header.{header_of};
 ghost use Rattle.stream_item.specs.Iterator.{next_of};

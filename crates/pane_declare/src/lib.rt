@@ -1,4 +1,6 @@
 // A type as a C declaration (R-5 of document 02), for C. What all exports have in common stands in pane_out, and what is said of a finder in pane_state.
+#![tactic(auto, using(crate::proofs::Used::laws))]
+
 ghost use Rattle.std.specs.Prelude.{◌≡◌, length};
 ghost use Rattle.declare_type.specs.Declares.{declare_of};
 ghost use Rattle.pane_state.specs.Given.{finder_at};

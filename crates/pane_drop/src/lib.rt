@@ -1,5 +1,7 @@
 // The stream of the records that some roots reach (R-13 of document 02), for C. A library of its own, since a record reader that two exports use is not
 // inlined into either. What all exports have in common stands in pane_out.
+#![tactic(auto, using(crate::proofs::Used::laws))]
+
 ghost use Rattle.std.specs.Prelude.{◌≡◌, length};
 ghost use Rattle.stream_drop.specs.Drop.{drop_of};
 ghost use Rattle.pane_drop.specs.Out.{out_drop};

@@ -1,5 +1,7 @@
 // Whether a type stream is fit to bind (R-9 of document 02), for C. A library of its own, since a record reader that two exports use is not inlined into
 // either. What all exports have in common stands in pane_out.
+#![tactic(auto, using(crate::proofs::Used::laws))]
+
 ghost use Rattle.std.specs.Prelude.{◌≡◌};
 ghost use Rattle.stream_fit.specs.Fit.{fit_of};
 ghost use Rattle.pane_fit.specs.Out.{out_fit};

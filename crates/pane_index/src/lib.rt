@@ -1,5 +1,7 @@
 // A stream's finder, for C: made and filled in one call, the highest index that it serves, an entry's bytes and leaf, and its places kept in a file (R-3 and
 // R-10 of document 02). What all exports have in common stands in pane_out, and what is said of a finder, a cursor and a walk in pane_state.
+#![tactic(auto, using(crate::proofs::Used::laws))]
+
 ghost use Rattle.std.specs.Prelude.{◌≡◌, length};
 ghost use Rattle.field.specs.declared.index.Stream.TheVariants.{Types};
 ghost use Rattle.stream_finder.specs.Finder.{create_by, max_index_of};

@@ -3,6 +3,8 @@
 //
 // The result is a refusal's number, 0 for an answer. Behind `out`, which is written whole by every call: the two detail values, then the answer's fields, 0
 // where there is none. Each contract is one equation with the definition that the plain function's contract cites (specs/Out.antt).
+#![tactic(auto, using(crate::proofs::Used::laws))]
+
 ghost use Rattle.std.specs.Prelude.{◌≡◌, ◌∷◌, ◌++◌, replicate};
 ghost use Rattle.record_data.specs.Said.{type_values};
 ghost use Rattle.record_id.specs.Said.{id_values};

@@ -3,6 +3,8 @@
 // The result is the number of 01, 0 for an answer. Behind `out`, which is written whole by every call: the two detail values, then the answer's fields in
 // a row in which each role has one place for all leaves, 0 where there is none (pane_row). Each contract is one equation with the definition that the plain
 // function's contract cites (specs/Out.antt). No reader is used by two exports: each is compiled into the one that uses it.
+#![tactic(auto, using(crate::proofs::Used::laws))]
+
 ghost use Rattle.std.specs.Prelude.{◌≡◌};
 ghost use Rattle.record_layout.specs.Layouts.{record_of, type_leaves, id_leaves};
 ghost use Rattle.record_list.specs.Lists.{start_of, step_of};

@@ -1,4 +1,6 @@
 // A report over streams (R-12 of document 02), for C. What all exports have in common stands in pane_out.
+#![tactic(auto, using(crate::proofs::Used::laws))]
+
 ghost use Rattle.std.specs.Prelude.{◌≡◌};
 ghost use Rattle.stream_report.specs.Report.{report_in, add_of};
 ghost use Rattle.pane_report.specs.Out.{totals_at, out_report};

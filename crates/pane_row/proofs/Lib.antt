@@ -3,3 +3,4 @@ pub mod RowLaws
 pub mod Stands
 pub mod FieldsTell
 pub mod RowsTellProof
+pub mod Used

@@ -3,7 +3,7 @@
 use Rattle.std.specs.Prelude.{ℕ, suc, ◌+◌, List, [], ◌∷◌, set, replicate}
 use Rattle.std.proofs.Math.Option.{Option, none, some}
 use Rattle.answer.specs.Answer.{pick}
-use Rattle.answer.specs.Tables.{Line, ◌is◌, find}
+use Rattle.answer.specs.Tables.{Line, find}
 use Rattle.field_number.specs.Forms.{Form}
 use Rattle.pane_out.specs.Handed.{bits64, negative}
 use Rattle.record_layout.specs.Fields.{Shown, number, numeral, absent, many}

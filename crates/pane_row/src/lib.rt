@@ -1,6 +1,8 @@
 // Parsed records and list elements as rows of numbers, for a caller that is written in C: each role has one place of the row for all leaves, 0 where there
 // is none. The places are specs/TypePlaces.antt, IdPlaces.antt and ElementPlaces.antt, tables beside 01's table of layouts. Each row begins with two zeros,
 // for the details of a refusal, so that what goes behind `out` is written by one store. tools/leaves writes the rows of plain type records.
+#![tactic(auto, using(crate::proofs::Used::laws), unfolding(answer::specs::Tables::find, crate::specs::ElementPlaces::index_row, crate::specs::ElementPlaces::member_slots, crate::specs::ElementPlaces::method_row, crate::specs::IdPlaces::id_slots, crate::specs::Slots::puts, crate::specs::Slots::row_by, crate::specs::TypePlaces::type_slots))]
+
 ghost use Rattle.std.specs.Prelude.{◌≡◌, [], ◌∷◌};
 ghost use Rattle.field.specs.Indices.{type_option, id_option};
 ghost use Rattle.field_number.specs.Numbers.{number_value};

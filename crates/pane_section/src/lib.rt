@@ -4,6 +4,8 @@
 //
 // The result is a refusal's number, 0 for an answer. Behind `out`, which is written whole by every call: the two detail values, then the answer's fields, 0
 // where there is none. Each contract is one equation with the definition that the plain function's contract cites (specs/Out.antt).
+#![tactic(auto, using(crate::proofs::Used::laws))]
+
 ghost use Rattle.std.specs.Prelude.{◌≡◌};
 ghost use Rattle.record_list.specs.Lists.{start_of};
 ghost use Rattle.section_item.specs.Sections as section;

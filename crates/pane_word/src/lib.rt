@@ -1,5 +1,7 @@
 // The words and the fields that records are made of, for C: strings, padding and numeric leaves at a place of some bytes, optional indices, and the four
 // attribute words. What all exports have in common stands in pane_out.
+#![tactic(auto, using(crate::proofs::Used::laws))]
+
 ghost use Rattle.std.specs.Prelude.{◌≡◌, leb};
 ghost use Rattle.field.specs.Indices.{optional_of, no_type, no_id};
 ghost use Rattle.field_text.specs.Texts.{string_of, padding_after};

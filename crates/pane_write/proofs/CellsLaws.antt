@@ -7,7 +7,7 @@ use Rattle.answer.specs.Answer.{Answer, answered, refused, Read, got, and_then}
 use Rattle.answer.specs.Tables.{find}
 use Rattle.field.specs.Fields.{fixed_at}
 use Rattle.record_layout.specs.Fields.{Shown, number}
-use Rattle.record_layout.specs.Layouts.{Table, read_leaf, leaf_of, record_of}
+use Rattle.record_layout.specs.Layouts.{Table, leaf_of, record_of}
 use Rattle.record_cells.specs.Cells.{cells_of}
 use Rattle.record_cells.specs.Filled.{fields_by, cells_after}
 use Rattle.record_cells.proofs.CellsTell.{cells-tell}

@@ -4,6 +4,8 @@
 // The result is the number of 01 or 02, 0 for an answer. Behind `out`, which is written whole by every call, stand the two details and the place behind
 // what was written. Everything else of the buffer stays as it was, and at a refusal all of it. Each contract is one equation with the definition that the
 // plain function's contract cites (specs/Written.antt).
+#![tactic(auto, using(crate::proofs::Used::laws), unfolding(record_layout::specs::Layouts::record_of))]
+
 ghost use Rattle.std.specs.Prelude.{◌≡◌};
 ghost use Rattle.answer.specs.Tables.{find};
 ghost use Rattle.record_layout.specs.Layouts.{record_of, id_leaves};
