@@ -58,7 +58,7 @@ abbrev pub second_string : Field
 second_string = when (bit 9) string_field
 
 -- is there a value; and is it true?
-abbrev pub is_answered : {field_word : Type 0} → Answer field_word → Bool
+abbrev pub is_answered : {A : Type 0} → Answer A → Bool
 is_answered (answered a) = true
 is_answered (refused n d) = false
 

@@ -65,7 +65,7 @@ fn renumber(
     out: &mut [u8],
 ) -> Count
     requires { minimum + n ≤ 4294967295 }
-    ensures { (numbered_to table.exit.now result ≡ number_from n 0 (record { table = (marked_in minimum s.now n (payloads_from n s.now c) roots.now table.entry.now out.old).table; next = minimum; bytes = 0 })) × (out.new ≡ (marked_in minimum s.now n (payloads_from n s.now c) roots.now table.entry.now out.old).out) }
+    ensures { (numbered_to table.new result ≡ number_from n 0 (record { table = (marked_in minimum s.now n (payloads_from n s.now c) roots.now table.old out.old).table; next = minimum; bytes = 0 })) × (out.new ≡ (marked_in minimum s.now n (payloads_from n s.now c) roots.now table.old out.old).out) }
 {
     passes::lengths(s, c, n, table);
     passes::mark_roots(roots, minimum, table);

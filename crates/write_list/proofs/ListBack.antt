@@ -544,8 +544,8 @@ values-in (id_element vs) = vs
 values-in (method_element vs) = vs
 values-in (member_element vs) = vs
 
-elements_same : {field_word : Type 0} (kind : List Shown → ElementValues) → ((x y : List Shown) → kind x ≡ kind y → x ≡ y) → (shown : field_word → List Shown) (row : field_word → List ToWrite) (s : List ℕ)
-    → ((m : field_word) → row m ≡ given_all s (shown m)) → (vss : List (List ToWrite)) (element : ℕ → Answer ElementValues) (ms : List field_word)
+elements_same : {A : Type 0} (kind : List Shown → ElementValues) → ((x y : List Shown) → kind x ≡ kind y → x ≡ y) → (shown : A → List Shown) (row : A → List ToWrite) (s : List ℕ)
+    → ((m : A) → row m ≡ given_all s (shown m)) → (vss : List (List ToWrite)) (element : ℕ → Answer ElementValues) (ms : List A)
     → ((k : ℕ) → ElementIs kind s vss k (element k)) → ElementsAre (λ m. kind (shown m)) element ms → map row ms ≡ vss
 unfolding ElementIs ElementsAre
 elements_same kind one shown row s is [] element [] f h = refl
