@@ -73,7 +73,7 @@ use Rattle.record_cells.specs.Cells.{cells_of}
 use Rattle.record_cells.specs.Codes.{code_in, id_codes, layout_in, member_codes, method_code, type_codes}
 use Rattle.record_cells.specs.Filled.{FillsCells, fields_by}
 use Rattle.record_cells.specs.declared.CellsAnswer.{CellsAnswer}
-use Rattle.record_data.specs.Said.{said_type_data, string_value, type_name, type_values}
+use Rattle.record_data.specs.Said.{said_type_data, string_value, type_data_name, type_values}
 use Rattle.record_data.specs.declared.TypeAnswer.{TypeAnswer}
 use Rattle.record_data.specs.declared.TypeData.{TypeData}
 use Rattle.record_id.specs.Said.{id_values, said_id_data}
@@ -591,7 +591,7 @@ RecordCellsLayoutIdLayout leaf result = (layout_in result ≡ find leaf id_leave
 
 -- record_data::TypeData::name
 abbrev pub RecordDataTypeDataName : (self : TypeData) → OptString → Type 0
-RecordDataTypeDataName self result = string_value result ≡ type_name (type_values self)
+RecordDataTypeDataName self result = string_value result ≡ type_data_name (type_values self)
 
 -- record_data::type_data
 abbrev pub RecordDataTypeData : (s : List ℕ) → TypeAnswer → Type 0
