@@ -6,13 +6,13 @@
 # SPEED   the program speed that build.sh made
 # STREAM  raw streams of at most 262,144 bytes, .tpi or .ipi; without any: the larger ones of samples/
 #
-# Wanted: the port's program measure, which `rt check measure` makes; and valgrind, on x86-64.
+# Wanted: the port's program measure, which `rt ci` makes, or `rt run` in its folder; and valgrind, on x86-64.
 # Each operation is done 10 times and 20 times; the difference over 10 times the records is what one record costs, and what both runs do
 # once (starting, reading the input, a finder for `find`, a places file for `load`) is not in it. `header` is counted by the header and not by the
 # record, `primitives` by the 4,096 indices. The crate has no `load` and no `report`: load0, load and load6, at the shifts 0, 3 and
 # 6, and report are the port's alone.
 # valgrind's callgrind counts every instruction of the program, so that a run can be repeated and gives the same numbers.
-# On another processor the port, which is compiled for x86-64, runs under the toolchain's emulator, one instruction a line of its log, once and
+# On another processor the port, which is compiled for x86-64, runs under the emulator qemu-x86_64, one instruction a line of its log, once and
 # twice. The crate is then not counted: its own build is for that processor (SPEED may be `-`).
 set -e
 if [ $# -lt 1 ]; then
@@ -22,7 +22,7 @@ fi
 speed=$1
 shift
 root=$(cd "$(dirname "$0")/.." && pwd)
-measure=$root/target/bin/measure
+measure=$root/crates/measure/out/measure
 places=$(mktemp)
 trap 'rm -f "$places"' EXIT
 if [ $# -eq 0 ]; then
@@ -37,10 +37,10 @@ if [ "$(uname -m)" = x86_64 ]; then
 else
   fewest=1
   speed=-
-  tools=$(dirname "$(dirname "$(rt doc)")")/on/$(uname -m)/toolchain
+  libraries=$(dirname "$(rt doc)")/toolchain/lib
   count() { # program operation times stream
-    "$tools/bin/qemu-x86_64" -one-insn-per-tb -d exec,nochain -D /dev/fd/3 \
-      "$tools/lib/ld-linux-x86-64.so.2" --library-path "$tools/lib" "$1" "$2" "$3" 0 "$places" < "$4" 3>&1 >/dev/null | grep -c '^Trace'
+    qemu-x86_64 -one-insn-per-tb -d exec,nochain -D /dev/fd/3 \
+      "$libraries/ld-linux-x86-64.so.2" --library-path "$libraries" "$1" "$2" "$3" 0 "$places" < "$4" 3>&1 >/dev/null | grep -c '^Trace'
   }
 fi
 

@@ -3,7 +3,7 @@
 
     speed_time.py SPEED
 
-SPEED is the program speed that build.sh made; the port's is target/bin/measure, which `rt check measure` makes. Of each operation the clock of the
+SPEED is the program speed that build.sh made; the port's is crates/measure/out/measure, which `rt ci` makes, or `rt run` there. Of each operation the clock of the
 quickest of fifteen runs is taken, less that of a tenth of the turns, so that starting and reading the input are not in it. The two programs take turns,
 since a machine that others share is now quick and now slow. Nothing else should run beside it.
 """
@@ -13,7 +13,7 @@ import time
 from pathlib import Path
 
 ROOT = Path(__file__).resolve().parent.parent
-MEASURE = ROOT / "target/bin/measure"
+MEASURE = ROOT / "crates/measure/out/measure"
 TYPES, IDS = ROOT / "samples/gen400-x64.tpi", ROOT / "samples/rich-x64.ipi"
 
 RUNS = 15

@@ -54,9 +54,9 @@ def number_held(path, before, after, number, write):
     return [] if found[1] == f"{number:,}" else [f"{path} says `{found[0]}`, and there are {number:,}"]
 
 
-def held(path, wanted, write, laid_out=False, by=""):
-    """Writes a file, or says where it is not what is wanted, and which tool writes it (`by`, or this one): a line, or none. Of a file that `rt fmt` lays out,
-    which is antt, only words and comments count."""
+def held(path, wanted, write, laid_out=False):
+    """Writes a file, or says where it is not what is wanted, and that this tool writes it: a line, or none. Of a file that `rt fmt` lays out, which is antt, only
+    words and comments count."""
     had = text_of(path) if os.path.exists(path) else ""
     if write:
         with open(path, "w", encoding="utf-8") as f:
@@ -65,5 +65,5 @@ def held(path, wanted, write, laid_out=False, by=""):
         pieces = zip(parts(had), parts(wanted)) if laid_out else itertools.zip_longest(had.split("\n"), wanted.split("\n"), fillvalue="(the end)")
         number, (has, should) = next((n, around(a, b, 140 if laid_out else 80)) for n, (a, b) in enumerate(pieces, 1) if a != b)
         place = path if laid_out else f"{path}:{number}"
-        return [f"{place} has {has}, and should have {should}; tools/{by or os.path.basename(sys.argv[0])} --write writes it"]
+        return [f"{place} has {has}, and should have {should}; tools/{os.path.basename(sys.argv[0])} --write writes it"]
     return []

@@ -1,6 +1,6 @@
 -- Each public function is tied to its contract: the clauses are that contract by `refl`, and the function's theorem says the rest. Assumes nothing.
 -- Written by tools/ties.
-use mathlib.Core.Path.{refl}
+use Rattle.std.proofs.Common.{refl}
 use Rattle.answer.proofs.Refusal.details.Met as answer_refusal_details
 use Rattle.answer.proofs.Refusal.number.Met as answer_refusal_number
 use Rattle.answer_name.proofs.name_of.Met as answer_name_name_of

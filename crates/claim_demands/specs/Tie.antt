@@ -5,6 +5,8 @@ use base.Logic.{SProp}
 use prog.Memory.{Memory}
 use prog.Routine.{Routine}
 use prog.Model.{Model}
+use prog.Wired.{Code, Wired}
+use mir.Syntax.{Callee}
 use types.Logic.{Logic}
 use contract.Monad.{Fun}
 use contract.Lifetimes.{Lfts}
@@ -28,12 +30,12 @@ promised 𝓤 E P κs a = record {
 
 -- the clauses that a source has, over every model of resources, memory and code
 abbrev pub Source : Ended → Type 2
-Source E = (M : Type 1) (𝓤 : Ura M) → (𝓛 : Logic 𝓤) → (Memory → SProp 𝓤) → (Routine → Fun 𝓤) → Clauses 𝓤 E
+Source E = (M : Type 1) (𝓤 : Ura M) → Logic 𝓤 → (Memory → SProp 𝓤) → (Routine → Fun 𝓤) → Clauses 𝓤 E
 
--- a function, by its signature, the clauses of its source and its routine, is tied to the promise P
-pub record Tie (E : Ended) (clauses : Source E) (routine : Routine) (P : Promise E) : Type 2 where
+-- a function, by its signature, the clauses of its source, its name and its code, is tied to the promise P
+pub record Tie (E : Ended) (clauses : Source E) (name : Callee) (code : Code) (P : Promise E) : Type 2 where
   -- its clauses are the promise, and no others
   pub says : (M : Type 1) (𝓤 : Ura M) (𝓛 : Logic 𝓤) (mem : Memory → SProp 𝓤) (run : Routine → Fun 𝓤) → clauses M 𝓤 𝓛 mem run ≡ promised 𝓤 E P
-  -- and whatever it is called with, it returns, and the promise holds
+  -- and wherever its name stands for its code, whatever it is called with, it returns, and the promise holds
   pub meets : (M : Type 1) (𝓤 : Ura M) (𝓛 : Logic 𝓤) (𝓜 : Model 𝓤 𝓛.H) (𝓡 : Running 𝓤 𝓛.H 𝓜)
-      → Meets 𝓛 E.signature (𝓡.run routine) (closing 𝓛 E (promised 𝓤 E P))
+      → Wired 𝓡.env code → Meets 𝓛 E.signature (𝓡.run (𝓡.env name)) (closing 𝓛 E (promised 𝓤 E P))

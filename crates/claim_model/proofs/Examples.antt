@@ -25,7 +25,7 @@ use Rattle.claim_model.specs.TpiPrimitive.{indirection_arms, primitive_kind_arms
 use Rattle.claim_model.specs.TpiWords.{pointer_kind, pointer_size}
 use Rattle.claim_model.specs.TpiWords.{pointer_kind_arms as pointer_arms}
 use Rattle.claim_model.specs.TpiHelpers.{parse_optional_id_index, parse_string, pad_byte, padding_loop, parse_padding}
-use Rattle.claim_model.specs.TpiId.{function, member_function, build_info, string_list, string, user_defined_type_source, local, remote, function_id, member_function_id, pushed, build_info_id, string_list_id, string_id, source_line, by_leaf, try_from_ctx, parse_id}
+use Rattle.claim_model.specs.TpiId.{function, member_function, build_info, string_list, string, user_defined_type_source, local, remote, function_id, member_function_id, pushed, build_info_id, string_list_id, string_id, source_line, id_by_leaf, try_from_ctx, parse_id}
 use Rattle.claim_model.specs.Turns.{crate_turns, turns, port_turns}
 use Rattle.claim_model.specs.Course.{Action, begins, steps, updates, crate_uses, crate_course, port_uses, port_course}
 
@@ -184,7 +184,7 @@ pub ids : map parse_id
     ∷ errs (unimplemented_type_kind 0x1608)
     ∷ errs unexpected_eof
     ∷ []
-unfolding parse_id try_from_ctx by_leaf match function_id member_function_id pushed build_info_id string_list_id string_id source_line parse_optional_id_index parse_string parse_cstring position parse little_at
+unfolding parse_id try_from_ctx id_by_leaf match function_id member_function_id pushed build_info_id string_list_id string_id source_line parse_optional_id_index parse_string parse_cstring position parse little_at
 ids = refl
 
 -- the raw kind of an item; below two bytes the crate panics

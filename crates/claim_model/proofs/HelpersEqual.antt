@@ -17,7 +17,7 @@ use Rattle.field.specs.Indices.{no_type, no_id, optional_of, optional_at}
 use Rattle.field.specs.Runs.{bytes_after}
 use Rattle.field_text.specs.Texts.{to_zero, string_at, counted_string_at, string_of, more, pad, padding_after}
 use Rattle.field_text.proofs.PadLaws.{pad-end, pad-stop, pad-more, pad-cut}
-use Rattle.claim_model.specs.Rust.{Rust, gives, errs, if, or_else, unexpected_eof, usize_top}
+use Rattle.claim_model.specs.Rust.{Rust, gives, errs, if, either_true, unexpected_eof, usize_top}
 use Rattle.claim_model.specs.ParseBuffer.{ParseBuffer, at, Bytes, beyond, parse, position, parse_cstring, parse_u8_pascal_string}
 use Rattle.claim_model.specs.TpiHelpers.{parse_optional_type_index, parse_optional_id_index, parse_string, pad_byte, padding_loop, parse_padding, is_cross_module}
 use Rattle.claim_model.specs.Equal.{Same, shown_by}
@@ -32,7 +32,7 @@ module _ (s : List ℕ) where
     unfolding parse_optional_type_index optional_of among
     type-in h = rw (parse-in s p 4 h) (go (little_at 4 s p) (eqb (little_at 4 s p) 0) (eqb (little_at 4 s p) 0xffff))
       where
-        go : (n : ℕ) (a b : Bool) → if {A = Rust (Option ℕ × ParseBuffer)} (or_else a b) (gives (none, at s (p + 4))) (gives (some n, at s (p + 4))) ≡ gives (pick (pick a true (pick b true false)) none (some n), at s (p + 4))
+        go : (n : ℕ) (a b : Bool) → if {A = Rust (Option ℕ × ParseBuffer)} (either_true a b) (gives (none, at s (p + 4))) (gives (some n, at s (p + 4))) ≡ gives (pick (pick a true (pick b true false)) none (some n), at s (p + 4))
         go n true b = refl
         go n false true = refl
         go n false false = refl

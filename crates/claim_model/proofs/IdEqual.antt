@@ -26,7 +26,7 @@ use Rattle.record_id.specs.declared.IdAnswer.TheVariants as answer
 use Rattle.claim_model.specs.Rust.{gives, errs, ◌>>=◌, match, unexpected_eof, usize_top}
 use Rattle.claim_model.specs.ParseBuffer.{at}
 use Rattle.claim_model.specs.TpiHelpers.{parse_string}
-use Rattle.claim_model.specs.TpiId.{user_defined_type_source, function_id, member_function_id, pushed, build_info_id, string_list_id, string_id, source_line, by_leaf, try_from_ctx, parse_id}
+use Rattle.claim_model.specs.TpiId.{user_defined_type_source, function_id, member_function_id, pushed, build_info_id, string_list_id, string_id, source_line, id_by_leaf, try_from_ctx, parse_id}
 use Rattle.claim_model.specs.Equal.{Same, shown_by}
 use Rattle.claim_model.specs.Shown.{elements, id_shown, file_shown, id_data_shown, id_answer_shown}
 use Rattle.claim_model.proofs.BufferLaws.{parse-in, parse-out, fixed_in, fixed_out, same, same_end, by_order}
@@ -52,10 +52,10 @@ module _ (s : List ℕ) where
   module _ (l : length s < usize_top) where
     -- the record behind its leaf
     abbrev Alike : ℕ → Type 0
-    Alike leaf = Same (◌>>=◌ (◌>>=◌ (by_leaf leaf (at s 2)) λ (d, b). gives (d, b.pos)) λ (d, _). gives d) (shown_by (id_shown s) (leaf_of id_leaves leaf s 2))
+    Alike leaf = Same (◌>>=◌ (◌>>=◌ (id_by_leaf leaf (at s 2)) λ (d, b). gives (d, b.pos)) λ (d, _). gives d) (shown_by (id_shown s) (leaf_of id_leaves leaf s 2))
 
     function : Alike 0x1601
-    unfolding by_leaf match function_id parse_string leaf_of read_leaf find id_leaves read_fields_by read_field_by
+    unfolding id_by_leaf match function_id parse_string leaf_of read_leaf find id_leaves read_fields_by read_field_by
     function =
         by_order 6 (length s)
         (λ a. rw (id-in s 2 a, optional-in s 2 no_id a)
@@ -68,7 +68,7 @@ module _ (s : List ℕ) where
         (λ a. rw (id-out s 2 a, optional-out s 2 no_id a) same_end)
 
     member-function : Alike 0x1602
-    unfolding by_leaf match member_function_id parse_string leaf_of read_leaf find id_leaves read_fields_by read_field_by
+    unfolding id_by_leaf match member_function_id parse_string leaf_of read_leaf find id_leaves read_fields_by read_field_by
     member-function =
         by_order 6 (length s)
         (λ a. rw (parse-in s 2 4 a, fixed_in s 2 4 a)
@@ -81,7 +81,7 @@ module _ (s : List ℕ) where
         (λ a. rw (parse-out s 2 4 a, fixed_out s 2 4 a) same_end)
 
     build : Alike 0x1603
-    unfolding by_leaf match build_info_id leaf_of read_leaf find id_leaves read_fields_by read_field_by bytes_after
+    unfolding id_by_leaf match build_info_id leaf_of read_leaf find id_leaves read_fields_by read_field_by bytes_after
     build =
         by_order 4 (length s)
         (λ a. rw (parse-in s 2 2 a, fixed_in s 2 2 a)
@@ -91,7 +91,7 @@ module _ (s : List ℕ) where
         (λ a. rw (parse-out s 2 2 a, fixed_out s 2 2 a) same_end)
 
     strings : Alike 0x1604
-    unfolding by_leaf match string_list_id leaf_of read_leaf find id_leaves read_fields_by read_field_by bytes_after
+    unfolding id_by_leaf match string_list_id leaf_of read_leaf find id_leaves read_fields_by read_field_by bytes_after
     strings =
         by_order 6 (length s)
         (λ a. rw (parse-in s 2 4 a, fixed_in s 2 4 a)
@@ -101,7 +101,7 @@ module _ (s : List ℕ) where
         (λ a. rw (parse-out s 2 4 a, fixed_out s 2 4 a) same_end)
 
     string : Alike 0x1605
-    unfolding by_leaf match string_id parse_string leaf_of read_leaf find id_leaves read_fields_by read_field_by
+    unfolding id_by_leaf match string_id parse_string leaf_of read_leaf find id_leaves read_fields_by read_field_by
     string =
         by_order 6 (length s)
         (λ a. rw (id-in s 2 a, optional-in s 2 no_id a)
@@ -111,7 +111,7 @@ module _ (s : List ℕ) where
         (λ a. rw (id-out s 2 a, optional-out s 2 no_id a) same_end)
 
     local-source : Alike 0x1606
-    unfolding by_leaf match source_line leaf_of read_leaf find id_leaves read_fields_by read_field_by
+    unfolding id_by_leaf match source_line leaf_of read_leaf find id_leaves read_fields_by read_field_by
     local-source =
         by_order 6 (length s)
         (λ a. rw (parse-in s 2 4 a, fixed_in s 2 4 a)
@@ -124,7 +124,7 @@ module _ (s : List ℕ) where
         (λ a. rw (parse-out s 2 4 a, fixed_out s 2 4 a) same_end)
 
     remote-source : Alike 0x1607
-    unfolding by_leaf match source_line leaf_of read_leaf find id_leaves read_fields_by read_field_by
+    unfolding id_by_leaf match source_line leaf_of read_leaf find id_leaves read_fields_by read_field_by
     remote-source =
         by_order 6 (length s)
         (λ a. rw (parse-in s 2 4 a, fixed_in s 2 4 a)
@@ -142,7 +142,7 @@ module _ (s : List ℕ) where
     -- any other leaf is 10 with the leaf
     other : (leaf : ℕ) → eqb leaf 0x1601 ≡ false → eqb leaf 0x1602 ≡ false → eqb leaf 0x1603 ≡ false → eqb leaf 0x1604 ≡ false
         → eqb leaf 0x1605 ≡ false → eqb leaf 0x1606 ≡ false → eqb leaf 0x1607 ≡ false → Alike leaf
-    unfolding by_leaf match leaf_of read_leaf find id_leaves
+    unfolding id_by_leaf match leaf_of read_leaf find id_leaves
     other leaf a b c d e f g = rw (a, b, c, d, e, f, g) (record { stays = tt; equal = refl })
 
     each : (leaf : ℕ) → Alike leaf

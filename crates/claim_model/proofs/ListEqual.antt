@@ -18,7 +18,7 @@ use Rattle.record_layout.specs.Fields.{number, Shown, read_field_by, read_fields
 use Rattle.record_list.specs.Lists.{ElementValues, type_element, id_element, in_counted, counted_by, counted_list, start_of, start_ids, counted_step, step_of, element_by, element_of}
 use Rattle.field.specs.declared.index.Stream.TheVariants as stream
 use Rattle.claim_model.specs.Rust.{gives, ◌>>=◌, match}
-use Rattle.claim_model.specs.TpiId.{build_info_id, string_list_id, by_leaf, try_from_ctx, parse_id}
+use Rattle.claim_model.specs.TpiId.{build_info_id, string_list_id, id_by_leaf, try_from_ctx, parse_id}
 use Rattle.claim_model.specs.Equal.{Same}
 use Rattle.claim_model.specs.Shown.{elements}
 use Rattle.claim_model.specs.EntryShown.{vec_of, as_element}
@@ -64,7 +64,7 @@ module _ (s : List ℕ) where
   Listed k = Same (◌>>=◌ (parse_id s) λ d. gives (get_elem? (vec_of d) k)) (as_element (element_of stream.Ids s k))
 
   pub build-elements : little_at 2 s 0 ≡ 0x1603 → (k : ℕ) → Listed k
-  unfolding parse_id try_from_ctx by_leaf match build_info_id element_of start_of start_ids counted_list counted_by find id_leaves read_fields_by read_field_by bytes_after
+  unfolding parse_id try_from_ctx id_by_leaf match build_info_id element_of start_of start_ids counted_list counted_by find id_leaves read_fields_by read_field_by bytes_after
   build-elements leaf k =
       by_order 2 (length s)
       (λ h. rw (parse-in s 0 2 h, fixed_in s 0 2 h, leaf)
@@ -77,7 +77,7 @@ module _ (s : List ℕ) where
       (λ h. rw (parse-out s 0 2 h, fixed_out s 0 2 h) same_end)
 
   pub string-elements : little_at 2 s 0 ≡ 0x1604 → (k : ℕ) → Listed k
-  unfolding parse_id try_from_ctx by_leaf match string_list_id element_of start_of start_ids counted_list counted_by find id_leaves read_fields_by read_field_by bytes_after
+  unfolding parse_id try_from_ctx id_by_leaf match string_list_id element_of start_of start_ids counted_list counted_by find id_leaves read_fields_by read_field_by bytes_after
   string-elements leaf k =
       by_order 2 (length s)
       (λ h. rw (parse-in s 0 2 h, fixed_in s 0 2 h, leaf)

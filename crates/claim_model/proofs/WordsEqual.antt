@@ -21,7 +21,7 @@ use Rattle.word_attributes.specs.declared.PointerKind.{PointerKind}
 use Rattle.word_attributes.specs.declared.PointerKind.TheVariants.{Near16, Far16, Huge16, BaseSeg, BaseVal, BaseSegVal, BaseAddr, BaseSegAddr, BaseType, BaseSelf, Near32, Far32, Ptr64}
 use Rattle.word_attributes.specs.declared.PointerMode.{PointerMode}
 use Rattle.word_attributes.specs.declared.PointerMode.TheVariants.{Pointer, LValueReference, Member, MemberFunction, RValueReference}
-use Rattle.claim_model.specs.Rust.{Rust, gives, errs, panics, wraps, ◌>>=◌, if, not, or_else, match, as_u8}
+use Rattle.claim_model.specs.Rust.{Rust, gives, errs, panics, wraps, ◌>>=◌, if, not, either_true, match, as_u8}
 use Rattle.claim_model.specs.TpiWords.{set, packed, constructors, overloaded_operators, is_nested_type, contains_nested_types, overloaded_assignment, overloaded_casting, forward_reference, scoped_definition, has_unique_name, sealed, intrinsic_type, hfa, mocom, access, method_properties, is_static, is_virtual, is_pure_virtual, is_intro_virtual, calling_convention, cxx_return_udt, is_constructor, is_constructor_with_virtual_bases, pointer_kind_arms, pointer_kind, mode_arms, pointer_mode, of_member, pointer_to_member, is_flat_32, is_volatile, is_const, is_unaligned, is_restrict, is_mocom, of_reference, pointer_is_reference, size_by_kind, pointer_size}
 use Rattle.claim_model.specs.Equal.{Replaced, Excepted}
 use Rattle.claim_model.proofs.Agree.{agree}
@@ -118,7 +118,7 @@ pub methods : (w : ℕ)
 unfolding introducing among
 methods w = rw (method-properties-is w) (ap (λ (b : Bool). eqb (method_property w) 2 ∷ eqb (method_property w) 1 ∷ eqb (method_property w) 5 ∷ b ∷ []) (either (eqb (method_property w) 4) (eqb (method_property w) 6)))
   where
-    either : (a b : Bool) → or_else a b ≡ pick a true (pick b true false)
+    either : (a b : Bool) → either_true a b ≡ pick a true (pick b true false)
     either true b = refl
     either false true = refl
     either false false = refl

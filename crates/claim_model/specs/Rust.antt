@@ -46,8 +46,8 @@ not b = if b false true
 abbrev pub and : Bool → Bool → Bool
 and a b = if a b false
 
-abbrev pub or_else : Bool → Bool → Bool
-or_else a b = if a true b
+abbrev pub either_true : Bool → Bool → Bool
+either_true a b = if a true b
 
 -- `if b { return Err(e); }`
 abbrev pub err_if : Bool → Error → Rust (Unit {0})

@@ -2,14 +2,14 @@
 use Rattle.std.specs.Prelude.{ℕ, zero, suc, Bool, List, length, ltb, leb, eqb}
 use Rattle.std.proofs.Math.Option.{Option, none, some}
 use Rattle.std.specs.Int.Bits.{bit_and}
-use Rattle.claim_model.specs.Rust.{Rust, gives, panics, if, not, or_else, lessens, ◌>>=◌}
+use Rattle.claim_model.specs.Rust.{Rust, gives, panics, if, not, either_true, lessens, ◌>>=◌}
 use Rattle.claim_model.specs.ParseBuffer.{ParseBuffer, is_empty, parse, peek, take, parse_cstring, parse_u8_pascal_string}
 
 -- data.rs 439
 unfoldable pub parse_optional_type_index : ParseBuffer → Rust (Option ℕ × ParseBuffer)
 parse_optional_type_index buf = do
   (index, buf) ← parse 4 buf  -- 440
-  if (or_else (eqb index 0) (eqb index 0xffff)) (gives (none, buf)) (gives (some index, buf))  -- 441, 442, 444
+  if (either_true (eqb index 0) (eqb index 0xffff)) (gives (none, buf)) (gives (some index, buf))  -- 441, 442, 444
 
 -- id.rs 7
 unfoldable pub parse_optional_id_index : ParseBuffer → Rust (Option ℕ × ParseBuffer)

@@ -99,8 +99,8 @@ source_line leaf buf = do
   gives (user_defined_type_source (record { udt = udt; source_file = source_file; line = line }), buf)  -- 92
 
 -- 50
-unfoldable pub by_leaf : ℕ → ParseBuffer → Rust (IdData × ParseBuffer)
-by_leaf leaf buf =
+unfoldable pub id_by_leaf : ℕ → ParseBuffer → Rust (IdData × ParseBuffer)
+id_by_leaf leaf buf =
     match leaf
     ((0x1601 is function_id leaf buf)  -- 51
     ∷ (0x1602 is member_function_id leaf buf)  -- 56
@@ -115,7 +115,7 @@ by_leaf leaf buf =
 unfoldable pub try_from_ctx : List ℕ → Rust (IdData × ℕ)
 try_from_ctx this = do
   (leaf, buf) ← parse 2 (from this)  -- 47, 48
-  (id_data, buf) ← by_leaf leaf buf  -- 50
+  (id_data, buf) ← id_by_leaf leaf buf  -- 50
   gives (id_data, buf.pos)  -- 101
 
 -- mod.rs 550: Item::parse of an id item's bytes

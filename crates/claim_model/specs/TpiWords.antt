@@ -7,7 +7,7 @@ use Rattle.word_attributes.specs.declared.PointerKind.{PointerKind}
 use Rattle.word_attributes.specs.declared.PointerKind.TheVariants.{Near16, Far16, Huge16, BaseSeg, BaseVal, BaseSegVal, BaseAddr, BaseSegAddr, BaseType, BaseSelf, Near32, Far32, Ptr64}
 use Rattle.word_attributes.specs.declared.PointerMode.{PointerMode}
 use Rattle.word_attributes.specs.declared.PointerMode.TheVariants.{Pointer, LValueReference, Member, MemberFunction, RValueReference}
-use Rattle.claim_model.specs.Rust.{Rust, gives, panics, if, not, or_else, match, as_u8, ◌>>=◌}
+use Rattle.claim_model.specs.Rust.{Rust, gives, panics, if, not, either_true, match, as_u8, ◌>>=◌}
 
 -- `self.0 & mask != 0`
 abbrev pub set : ℕ → ℕ → Bool
@@ -73,7 +73,7 @@ abbrev pub is_pure_virtual : ℕ → Bool
 is_pure_virtual w = eqb (method_properties w) 0x05  -- 622
 
 abbrev pub is_intro_virtual : ℕ → Bool
-is_intro_virtual w = or_else (eqb (method_properties w) 0x04) (eqb (method_properties w) 0x06)  -- 627
+is_intro_virtual w = either_true (eqb (method_properties w) 0x04) (eqb (method_properties w) 0x06)  -- 627
 
 -- ---- 654: FunctionAttributes
 abbrev pub calling_convention : ℕ → ℕ

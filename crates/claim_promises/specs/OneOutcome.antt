@@ -1,7 +1,7 @@
 -- One outcome: no two outcomes of a public function meet its contract. A field for each, named as the function; where memory is lent, the outcome is
 -- the answer and the memory after; where the answer holds a slice, what that holds, and the other fields. Written by tools/contracts.
-use Rattle.std.specs.Prelude.{ℕ, length, Bool, List, ◌≡◌}
 use Rattle.std.specs.Borrow.{Bor}
+use Rattle.std.specs.Prelude.{Bool, List, ℕ, ◌≡◌}
 use Rattle.answer.specs.declared.Refusal.{Refusal}
 use Rattle.declare_spelling.specs.declared.Quals.{Quals}
 use Rattle.field.specs.declared.index.IdIndex.{IdIndex}

@@ -1,7 +1,7 @@
 -- The contract of each public function, word for word as its source has it, over the arguments' values. Written by tools/contracts.
-use Rattle.std.specs.Prelude.{◌+◌, ◌-◌, min, ℕ, eqb, leb, pos, get_or, length, Bool, List, [], ◌∷◌, ◌≡◌}
-use Rattle.std.specs.Borrow.{Bor}
 use Rattle.std.proofs.Math.Option.{some}
+use Rattle.std.specs.Borrow.{Bor}
+use Rattle.std.specs.Prelude.{Bool, List, [], eqb, get_or, leb, length, min, pos, ℕ, ◌+◌, ◌-◌, ◌∷◌, ◌≡◌}
 use Rattle.answer.specs.Answer.{answered, then}
 use Rattle.answer.specs.Details.{details_value}
 use Rattle.answer.specs.Refusals.{details_of, number_of}
@@ -73,7 +73,7 @@ use Rattle.record_cells.specs.Cells.{cells_of}
 use Rattle.record_cells.specs.Codes.{code_in, id_codes, layout_in, member_codes, method_code, type_codes}
 use Rattle.record_cells.specs.Filled.{FillsCells, fields_by}
 use Rattle.record_cells.specs.declared.CellsAnswer.{CellsAnswer}
-use Rattle.record_data.specs.Said.{said_type_data, string_value, type_name, type_values}
+use Rattle.record_data.specs.Said.{said_type_data, string_value, type_data_name, type_values}
 use Rattle.record_data.specs.declared.TypeAnswer.{TypeAnswer}
 use Rattle.record_data.specs.declared.TypeData.{TypeData}
 use Rattle.record_id.specs.Said.{id_values, said_id_data}
@@ -179,872 +179,872 @@ use Rattle.write_pieces.specs.declared.WriteAnswer.{WriteAnswer}
 
 -- answer::Refusal::number
 abbrev pub AnswerRefusalNumber : (self : Refusal) → ℕ → Type 0
-AnswerRefusalNumber self r = r ≡ number_of self
+AnswerRefusalNumber self result = result ≡ number_of self
 
 -- answer::Refusal::details
 abbrev pub AnswerRefusalDetails : (self : Refusal) → Details → Type 0
-AnswerRefusalDetails self r = details_value r ≡ details_of self
+AnswerRefusalDetails self result = details_value result ≡ details_of self
 
 -- answer_name::name_of
 abbrev pub AnswerNameNameOf : (e : Refusal) → Name → Type 0
-AnswerNameNameOf e r = Holds r (name_text e)
+AnswerNameNameOf e result = Holds result (name_text e)
 
 -- declare_spelling::indirection
 abbrev pub DeclareSpellingIndirection : (y : Indirection) → Spelling → Type 0
-DeclareSpellingIndirection y r = Spells r (indirection_text y)
+DeclareSpellingIndirection y result = Spells result (indirection_text y)
 
 -- declare_spelling::mode
 abbrev pub DeclareSpellingMode : (m : ℕ) → Spelling → Type 0
-DeclareSpellingMode m r = Spells r (mode_text m)
+DeclareSpellingMode m result = Spells result (mode_text m)
 
 -- declare_spelling::qualifiers
 abbrev pub DeclareSpellingQualifiers : (q : Quals) → Spelling → Type 0
-DeclareSpellingQualifiers q r = Spells r (quals_text q)
+DeclareSpellingQualifiers q result = Spells result (quals_text q)
 
 -- declare_spelling::kind::spelled
 abbrev pub DeclareSpellingKindSpelled : (k : PrimitiveKind) → Spelling → Type 0
-DeclareSpellingKindSpelled k r = Spells r (kind_text k)
+DeclareSpellingKindSpelled k result = Spells result (kind_text k)
 
 -- declare_spelling::kind::size
 abbrev pub DeclareSpellingKindSize : (k : PrimitiveKind) (by : Indirection) → ℕ → Type 0
-DeclareSpellingKindSize k by r = r ≡ primitive_size k by
+DeclareSpellingKindSize k by result = result ≡ primitive_size k by
 
 -- declare_type::declare
 abbrev pub DeclareTypeDeclare : (s : List ℕ) (f : ItemFinder) (t : List ℕ) (i : TypeIndex) (out : List ℕ) → DeclareAnswer → List ℕ → Type 0
-DeclareTypeDeclare s f t i out r out' = Declares (declare_of s (state f t) i.0 (length out)) out r out'
+DeclareTypeDeclare s f t i out result out' = Declares (declare_of s (state f t) i.0 (length out)) out result out'
 
 -- field::fixed::u8_at
 abbrev pub FieldFixedU8At : (s : List ℕ) (p : ℕ) → Read8 → Type 0
-FieldFixedU8At s p r = said8 r ≡ fixed_at 1 s p
+FieldFixedU8At s p result = said8 result ≡ fixed_at 1 s p
 
 -- field::fixed::u16_at
 abbrev pub FieldFixedU16At : (s : List ℕ) (p : ℕ) → Read16 → Type 0
-FieldFixedU16At s p r = said16 r ≡ fixed_at 2 s p
+FieldFixedU16At s p result = said16 result ≡ fixed_at 2 s p
 
 -- field::fixed::u32_at
 abbrev pub FieldFixedU32At : (s : List ℕ) (p : ℕ) → Read32 → Type 0
-FieldFixedU32At s p r = said32 r ≡ fixed_at 4 s p
+FieldFixedU32At s p result = said32 result ≡ fixed_at 4 s p
 
 -- field::fixed::u64_at
 abbrev pub FieldFixedU64At : (s : List ℕ) (p : ℕ) → Read64 → Type 0
-FieldFixedU64At s p r = said64 r ≡ fixed_at 8 s p
+FieldFixedU64At s p result = said64 result ≡ fixed_at 8 s p
 
 -- field::index::Stream::index
 abbrev pub FieldIndexStreamIndex : (self : Stream) (n : ℕ) → ItemIndex → Type 0
-FieldIndexStreamIndex self n r = r ≡ index_in self n
+FieldIndexStreamIndex self n result = result ≡ index_in self n
 
 -- field::index::ItemIndex::stream
 abbrev pub FieldIndexItemIndexStream : (self : ItemIndex) → Stream → Type 0
-FieldIndexItemIndexStream self r = r ≡ stream_in self
+FieldIndexItemIndexStream self result = result ≡ stream_in self
 
 -- field::index::ItemIndex::number
 abbrev pub FieldIndexItemIndexNumber : (self : ItemIndex) → ℕ → Type 0
-FieldIndexItemIndexNumber self r = r ≡ index_number self
+FieldIndexItemIndexNumber self result = result ≡ index_number self
 
 -- field::index::TypeIndex::is_cross_module
 abbrev pub FieldIndexTypeIndexIsCrossModule : (self : TypeIndex) → Bool → Type 0
-FieldIndexTypeIndexIsCrossModule self r = r ≡ leb 0x80000000 self.0
+FieldIndexTypeIndexIsCrossModule self result = result ≡ leb 0x80000000 self.0
 
 -- field::index::TypeIndex::optional
 abbrev pub FieldIndexTypeIndexOptional : (self : TypeIndex) → OptTypeIndex → Type 0
-FieldIndexTypeIndexOptional self r = type_option r ≡ optional_of no_type self.0
+FieldIndexTypeIndexOptional self result = type_option result ≡ optional_of no_type self.0
 
 -- field::index::IdIndex::is_cross_module
 abbrev pub FieldIndexIdIndexIsCrossModule : (self : IdIndex) → Bool → Type 0
-FieldIndexIdIndexIsCrossModule self r = r ≡ leb 0x80000000 self.0
+FieldIndexIdIndexIsCrossModule self result = result ≡ leb 0x80000000 self.0
 
 -- field::index::IdIndex::optional
 abbrev pub FieldIndexIdIndexOptional : (self : IdIndex) → OptIdIndex → Type 0
-FieldIndexIdIndexOptional self r = id_option r ≡ optional_of no_id self.0
+FieldIndexIdIndexOptional self result = id_option result ≡ optional_of no_id self.0
 
 -- field::index::type_at
 abbrev pub FieldIndexTypeAt : (s : List ℕ) (p : ℕ) → ReadType → Type 0
-FieldIndexTypeAt s p r = said_type r ≡ fixed_at 4 s p
+FieldIndexTypeAt s p result = said_type result ≡ fixed_at 4 s p
 
 -- field::index::id_at
 abbrev pub FieldIndexIdAt : (s : List ℕ) (p : ℕ) → ReadId → Type 0
-FieldIndexIdAt s p r = said_id r ≡ fixed_at 4 s p
+FieldIndexIdAt s p result = said_id result ≡ fixed_at 4 s p
 
 -- field::index::string_ref_at
 abbrev pub FieldIndexStringRefAt : (s : List ℕ) (p : ℕ) → ReadStringRef → Type 0
-FieldIndexStringRefAt s p r = said_string_ref r ≡ fixed_at 4 s p
+FieldIndexStringRefAt s p result = said_string_ref result ≡ fixed_at 4 s p
 
 -- field::index::optional_type_at
 abbrev pub FieldIndexOptionalTypeAt : (s : List ℕ) (p : ℕ) → ReadOptType → Type 0
-FieldIndexOptionalTypeAt s p r = said_opt_type r ≡ optional_at no_type s p
+FieldIndexOptionalTypeAt s p result = said_opt_type result ≡ optional_at no_type s p
 
 -- field::index::optional_id_at
 abbrev pub FieldIndexOptionalIdAt : (s : List ℕ) (p : ℕ) → ReadOptId → Type 0
-FieldIndexOptionalIdAt s p r = said_opt_id r ≡ optional_at no_id s p
+FieldIndexOptionalIdAt s p result = said_opt_id result ≡ optional_at no_id s p
 
 -- field::run::after_bytes
 abbrev pub FieldRunAfterBytes : (s : List ℕ) (p : ℕ) (n : ℕ) → After → Type 0
-FieldRunAfterBytes s p n r = said_after r ≡ bytes_after n s p
+FieldRunAfterBytes s p n result = said_after result ≡ bytes_after n s p
 
 -- field::run::bytes_at
 abbrev pub FieldRunBytesAt : (s : List ℕ) (p : ℕ) (n : ℕ) → List ℕ → Type 0
-FieldRunBytesAt s p n r = r ≡ bytes_at n s p
+FieldRunBytesAt s p n result = result ≡ bytes_at n s p
 
 -- field_number::number_at
 abbrev pub FieldNumberNumberAt : (s : List ℕ) (p : ℕ) → ReadVariant → Type 0
-FieldNumberNumberAt s p r = said_variant r ≡ numeral_at s p
+FieldNumberNumberAt s p result = said_variant result ≡ numeral_at s p
 
 -- field_number::size_at
 abbrev pub FieldNumberSizeAt : (s : List ℕ) (p : ℕ) → ReadSize → Type 0
-FieldNumberSizeAt s p r = said_size r ≡ sized_at s p
+FieldNumberSizeAt s p result = said_size result ≡ sized_at s p
 
 -- field_put::put8
 abbrev pub FieldPutPut8 : (out : List ℕ) (p : ℕ) (x : ℕ) → ℕ → List ℕ → Type 0
-FieldPutPut8 out p x r out' = Lays out p (bytes_of_field_put 1 x) r out'
+FieldPutPut8 out p x result out' = Lays out p (bytes_of_field_put 1 x) result out'
 
 -- field_put::put16
 abbrev pub FieldPutPut16 : (out : List ℕ) (p : ℕ) (x : ℕ) → ℕ → List ℕ → Type 0
-FieldPutPut16 out p x r out' = Lays out p (bytes_of_field_put 2 x) r out'
+FieldPutPut16 out p x result out' = Lays out p (bytes_of_field_put 2 x) result out'
 
 -- field_put::put32
 abbrev pub FieldPutPut32 : (out : List ℕ) (p : ℕ) (x : ℕ) → ℕ → List ℕ → Type 0
-FieldPutPut32 out p x r out' = Lays out p (bytes_of_field_put 4 x) r out'
+FieldPutPut32 out p x result out' = Lays out p (bytes_of_field_put 4 x) result out'
 
 -- field_put::put_all
 abbrev pub FieldPutPutAll : (out : List ℕ) (p : ℕ) (xs : List ℕ) → ℕ → List ℕ → Type 0
-FieldPutPutAll out p xs r out' = Lays out p xs r out'
+FieldPutPutAll out p xs result out' = Lays out p xs result out'
 
 -- field_text::string_at
 abbrev pub FieldTextStringAt : (s : List ℕ) (p : ℕ) → ReadString → Type 0
-FieldTextStringAt s p r = said_string r ≡ string_at s p
+FieldTextStringAt s p result = said_string result ≡ string_at s p
 
 -- field_text::RawString::bytes
 abbrev pub FieldTextRawStringBytes : (self : RawString) (s : List ℕ) → List ℕ → Type 0
-FieldTextRawStringBytes self s r = r ≡ bytes_at self.length s self.place
+FieldTextRawStringBytes self s result = result ≡ bytes_at self.length s self.place
 
 -- field_text::string_of
 abbrev pub FieldTextStringOf : (leaf : ℕ) (s : List ℕ) (p : ℕ) → ReadString → Type 0
-FieldTextStringOf leaf s p r = said_string r ≡ string_of leaf s p
+FieldTextStringOf leaf s p result = said_string result ≡ string_of leaf s p
 
 -- field_text::after_padding
 abbrev pub FieldTextAfterPadding : (s : List ℕ) (p : ℕ) → After → Type 0
-FieldTextAfterPadding s p r = said_after r ≡ padding_after s p
+FieldTextAfterPadding s p result = said_after result ≡ padding_after s p
 
 -- pane::pdb_header
 abbrev pub PanePdbHeader : (s : List ℕ) → ℕ → List ℕ → Type 0
-PanePdbHeader s r out' = (r, out') ≡ out_header (header_of s)
+PanePdbHeader s result out' = (result, out') ≡ out_header (header_of s)
 
 -- pane::pdb_next
 abbrev pub PanePdbNext : (s : List ℕ) (at : ℕ) (index : ℕ) → ℕ → List ℕ → Type 0
-PanePdbNext s at index r out' = (r, out') ≡ out_next (next_of s (cursor_at at index))
+PanePdbNext s at index result out' = (result, out') ≡ out_next (next_of s (cursor_at at index))
 
 -- pane::pdb_update
 abbrev pub PanePdbUpdate : (table : List ℕ) (minimum : ℕ) (maximum : ℕ) (held : ℕ) (shift : ℕ) (at : ℕ) (index : ℕ) → ℕ → List ℕ → List ℕ → Type 0
-PanePdbUpdate table minimum maximum held shift at index r table' out' = (r, out', table') ≡ out_update table (update_of (finder_at minimum maximum held shift table) (cursor_at at index))
+PanePdbUpdate table minimum maximum held shift at index result table' out' = (result, out', table') ≡ out_update table (update_of (finder_at minimum maximum held shift table) (cursor_at at index))
 
 -- pane::pdb_find
 abbrev pub PanePdbFind : (s : List ℕ) (table : List ℕ) (minimum : ℕ) (maximum : ℕ) (held : ℕ) (shift : ℕ) (index : ℕ) → ℕ → List ℕ → Type 0
-PanePdbFind s table minimum maximum held shift index r out' = (r, out') ≡ out_find (find_of s (finder_at minimum maximum held shift table) (type_at index))
+PanePdbFind s table minimum maximum held shift index result out' = (result, out') ≡ out_find (find_of s (finder_at minimum maximum held shift table) (type_at index))
 
 -- pane::pdb_primitive
 abbrev pub PanePdbPrimitive : (index : ℕ) → ℕ → List ℕ → Type 0
-PanePdbPrimitive index r out' = (r, out') ≡ out_primitive index (primitive_of index)
+PanePdbPrimitive index result out' = (result, out') ≡ out_primitive index (primitive_of index)
 
 -- pane_declare::pdb_declare
 abbrev pub PaneDeclarePdbDeclare : (s : List ℕ) (table : List ℕ) (minimum : ℕ) (maximum : ℕ) (held : ℕ) (shift : ℕ) (index : ℕ) (buffer : List ℕ) → ℕ → List ℕ → List ℕ → Type 0
-PaneDeclarePdbDeclare s table minimum maximum held shift index buffer r buffer' out' = (r, out', buffer') ≡ out_declare buffer (declare_of s (finder_at minimum maximum held shift table) index (length buffer))
+PaneDeclarePdbDeclare s table minimum maximum held shift index buffer result buffer' out' = (result, out', buffer') ≡ out_declare buffer (declare_of s (finder_at minimum maximum held shift table) index (length buffer))
 
 -- pane_drop::pdb_drop
 abbrev pub PaneDropPdbDrop : (s : List ℕ) (roots : List ℕ) (table : List ℕ) (buffer : List ℕ) → ℕ → List ℕ → List ℕ → List ℕ → Type 0
-PaneDropPdbDrop s roots table buffer r table' buffer' out' = (r, out', table', buffer') ≡ out_drop table buffer (drop_of s roots (length table) (length buffer))
+PaneDropPdbDrop s roots table buffer result table' buffer' out' = (result, out', table', buffer') ≡ out_drop table buffer (drop_of s roots (length table) (length buffer))
 
 -- pane_fit::pdb_fit
 abbrev pub PaneFitPdbFit : (s : List ℕ) → ℕ → List ℕ → Type 0
-PaneFitPdbFit s r out' = (r, out') ≡ out_fit (fit_of s)
+PaneFitPdbFit s result out' = (result, out') ≡ out_fit (fit_of s)
 
 -- pane_index::pdb_create
 abbrev pub PaneIndexPdbCreate : (s : List ℕ) (table : List ℕ) (shift : ℕ) → ℕ → List ℕ → List ℕ → Type 0
-PaneIndexPdbCreate s table shift r table' out' = (r, out', table') ≡ out_finder table (create_by shift s table)
+PaneIndexPdbCreate s table shift result table' out' = (result, out', table') ≡ out_finder table (create_by shift s table)
 
 -- pane_index::pdb_index
 abbrev pub PaneIndexPdbIndex : (s : List ℕ) (table : List ℕ) (shift : ℕ) → ℕ → List ℕ → List ℕ → Type 0
-PaneIndexPdbIndex s table shift r table' out' = (r, out', table') ≡ out_walk table (index_all_by shift Types s table)
+PaneIndexPdbIndex s table shift result table' out' = (result, out', table') ≡ out_walk table (index_all_by shift Types s table)
 
 -- pane_index::pdb_max_index
 abbrev pub PaneIndexPdbMaxIndex : (minimum : ℕ) (maximum : ℕ) (held : ℕ) (shift : ℕ) → ℕ → Type 0
-PaneIndexPdbMaxIndex minimum maximum held shift r = r ≡ max_index_of (finder_with minimum maximum held shift)
+PaneIndexPdbMaxIndex minimum maximum held shift result = result ≡ max_index_of (finder_with minimum maximum held shift)
 
 -- pane_index::pdb_view
 abbrev pub PaneIndexPdbView : (tpi : List ℕ) (ipi : List ℕ) (ids : ℕ) (item : ℕ) (index : ℕ) (place : ℕ) (length : ℕ) → ℕ → List ℕ → Type 0
-PaneIndexPdbView tpi ipi ids item index place length r out' = (r, out') ≡ out_view (view_of tpi ipi (entry_at ids item index place length))
+PaneIndexPdbView tpi ipi ids item index place length result out' = (result, out') ≡ out_view (view_of tpi ipi (entry_at ids item index place length))
 
 -- pane_index::pdb_kind
 abbrev pub PaneIndexPdbKind : (tpi : List ℕ) (ipi : List ℕ) (ids : ℕ) (item : ℕ) (index : ℕ) (place : ℕ) (length : ℕ) → ℕ → List ℕ → Type 0
-PaneIndexPdbKind tpi ipi ids item index place length r out' = (r, out') ≡ out_kind (raw_kind_of tpi ipi (entry_at ids item index place length))
+PaneIndexPdbKind tpi ipi ids item index place length result out' = (result, out') ≡ out_kind (raw_kind_of tpi ipi (entry_at ids item index place length))
 
 -- pane_index::pdb_load
 abbrev pub PaneIndexPdbLoad : (s : List ℕ) (file : List ℕ) (table : List ℕ) → ℕ → List ℕ → List ℕ → Type 0
-PaneIndexPdbLoad s file table r table' out' = (r, out', table') ≡ out_finder table (load_wide_of s file table)
+PaneIndexPdbLoad s file table result table' out' = (result, out', table') ≡ out_finder table (load_wide_of s file table)
 
 -- pane_index::pdb_load_short
 abbrev pub PaneIndexPdbLoadShort : (s : List ℕ) (file : List ℕ) (table : List ℕ) → ℕ → List ℕ → List ℕ → Type 0
-PaneIndexPdbLoadShort s file table r table' out' = (r, out', table') ≡ out_finder table (load_of s file table)
+PaneIndexPdbLoadShort s file table result table' out' = (result, out', table') ≡ out_finder table (load_of s file table)
 
 -- pane_index::pdb_save
 abbrev pub PaneIndexPdbSave : (s : List ℕ) (table : List ℕ) (minimum : ℕ) (maximum : ℕ) (held : ℕ) (shift : ℕ) (buffer : List ℕ) → ℕ → List ℕ → List ℕ → Type 0
-PaneIndexPdbSave s table minimum maximum held shift buffer r buffer' out' = (r, out', buffer') ≡ out_save buffer (save_wide_of s (finder_at minimum maximum held shift table) (length buffer))
+PaneIndexPdbSave s table minimum maximum held shift buffer result buffer' out' = (result, out', buffer') ≡ out_save buffer (save_wide_of s (finder_at minimum maximum held shift table) (length buffer))
 
 -- pane_index::pdb_save_short
 abbrev pub PaneIndexPdbSaveShort : (s : List ℕ) (table : List ℕ) (minimum : ℕ) (maximum : ℕ) (held : ℕ) (shift : ℕ) (buffer : List ℕ) → ℕ → List ℕ → List ℕ → Type 0
-PaneIndexPdbSaveShort s table minimum maximum held shift buffer r buffer' out' = (r, out', buffer') ≡ out_save buffer (save_of s (finder_at minimum maximum held shift table) (length buffer))
+PaneIndexPdbSaveShort s table minimum maximum held shift buffer result buffer' out' = (result, out', buffer') ≡ out_save buffer (save_of s (finder_at minimum maximum held shift table) (length buffer))
 
 -- pane_out::first
 abbrev pub PaneOutFirst : (e : Refusal) → ℕ → Type 0
-PaneOutFirst e r = r ≡ get_or (details_of e) 0 0
+PaneOutFirst e result = result ≡ get_or (details_of e) 0 0
 
 -- pane_out::second
 abbrev pub PaneOutSecond : (e : Refusal) → ℕ → Type 0
-PaneOutSecond e r = r ≡ get_or (details_of e) 1 0
+PaneOutSecond e result = result ≡ get_or (details_of e) 1 0
 
 -- pane_out::is_set
 abbrev pub PaneOutIsSet : (n : ℕ) → Bool → Type 0
-PaneOutIsSet n r = r ≡ is_set n
+PaneOutIsSet n result = result ≡ is_set n
 
 -- pane_out::flag
 abbrev pub PaneOutFlag : (b : Bool) → ℕ → Type 0
-PaneOutFlag b r = r ≡ mark b
+PaneOutFlag b result = result ≡ mark b
 
 -- pane_parse::pdb_parse
 abbrev pub PaneParsePdbParse : (tpi : List ℕ) (ipi : List ℕ) (ids : ℕ) (item : ℕ) (index : ℕ) (place : ℕ) (length : ℕ) → ℕ → List ℕ → Type 0
-PaneParsePdbParse tpi ipi ids item index place length r out' = (r, out') ≡ out_read index (parse_of tpi ipi (entry_at ids item index place length))
+PaneParsePdbParse tpi ipi ids item index place length result out' = (result, out') ≡ out_read index (parse_of tpi ipi (entry_at ids item index place length))
 
 -- pane_parse::pdb_section_read
 abbrev pub PaneParsePdbSectionRead : (s : List ℕ) (index : ℕ) (place : ℕ) (length : ℕ) → ℕ → List ℕ → Type 0
-PaneParsePdbSectionRead s index place length r out' = (r, out') ≡ out_read index (read_of s (record_at index place length))
+PaneParsePdbSectionRead s index place length result out' = (result, out') ≡ out_read index (read_of s (record_at index place length))
 
 -- pane_record::pdb_type
 abbrev pub PaneRecordPdbType : (s : List ℕ) → ℕ → List ℕ → Type 0
-PaneRecordPdbType s r out' = (r, out') ≡ out_type (record_of type_leaves s)
+PaneRecordPdbType s result out' = (result, out') ≡ out_type (record_of type_leaves s)
 
 -- pane_record::pdb_id
 abbrev pub PaneRecordPdbId : (s : List ℕ) → ℕ → List ℕ → Type 0
-PaneRecordPdbId s r out' = (r, out') ≡ out_id (record_of id_leaves s)
+PaneRecordPdbId s result out' = (result, out') ≡ out_id (record_of id_leaves s)
 
 -- pane_record::pdb_list
 abbrev pub PaneRecordPdbList : (s : List ℕ) (ids : ℕ) → ℕ → List ℕ → Type 0
-PaneRecordPdbList s ids r out' = (r, out') ≡ out_list (start_of (stream_at ids) s)
+PaneRecordPdbList s ids result out' = (result, out') ≡ out_list (start_of (stream_at ids) s)
 
 -- pane_record::pdb_step
 abbrev pub PaneRecordPdbStep : (s : List ℕ) (leaf : ℕ) (at : ℕ) (left : ℕ) (padded : ℕ) → ℕ → List ℕ → Type 0
-PaneRecordPdbStep s leaf at left padded r out' = (r, out') ≡ out_step (step_of s (list_cursor_at leaf at left padded))
+PaneRecordPdbStep s leaf at left padded result out' = (result, out') ≡ out_step (step_of s (list_cursor_at leaf at left padded))
 
 -- pane_report::pdb_report
 abbrev pub PaneReportPdbReport : (s : List ℕ) (taken : ℕ) (refused : ℕ) (headers : ℕ) (records : ℕ) (bytes : ℕ) (length : ℕ) (stream : ℕ) (index : ℕ) (rows : ℕ) (table : List ℕ) → ℕ → List ℕ → List ℕ → Type 0
-PaneReportPdbReport s taken refused headers records bytes length stream index rows table r table' out' = (r, out', table') ≡ out_report table (add_of (report_in (totals_at taken refused headers records bytes length stream index rows) table) s)
+PaneReportPdbReport s taken refused headers records bytes length stream index rows table result table' out' = (result, out', table') ≡ out_report table (add_of (report_in (totals_at taken refused headers records bytes length stream index rows) table) s)
 
 -- pane_row::type_row
 abbrev pub PaneRowTypeRow : (d : TypeData) → List ℕ → Type 0
-PaneRowTypeRow d r = r ≡ 0 ∷ 0 ∷ type_row (type_values d)
+PaneRowTypeRow d result = result ≡ 0 ∷ 0 ∷ type_row (type_values d)
 
 -- pane_row::id_row
 abbrev pub PaneRowIdRow : (d : IdData) → List ℕ → Type 0
-PaneRowIdRow d r = r ≡ 0 ∷ 0 ∷ id_row (id_values d)
+PaneRowIdRow d result = result ≡ 0 ∷ 0 ∷ id_row (id_values d)
 
 -- pane_row::cursor_row
 abbrev pub PaneRowCursorRow : (c : ListCursor) → List ℕ → Type 0
-PaneRowCursorRow c r = r ≡ 0 ∷ 0 ∷ cursor_row c
+PaneRowCursorRow c result = result ≡ 0 ∷ 0 ∷ cursor_row c
 
 -- pane_row::member_row
 abbrev pub PaneRowMemberRow : (at : ℕ) (left : ℕ) (padded : ℕ) (m : Member) → List ℕ → Type 0
-PaneRowMemberRow at left padded m r = r ≡ 0 ∷ 0 ∷ at ∷ left ∷ padded ∷ member_row (member_values m)
+PaneRowMemberRow at left padded m result = result ≡ 0 ∷ 0 ∷ at ∷ left ∷ padded ∷ member_row (member_values m)
 
 -- pane_row::entry_row
 abbrev pub PaneRowEntryRow : (at : ℕ) (left : ℕ) (padded : ℕ) (m : MethodListEntry) → List ℕ → Type 0
-PaneRowEntryRow at left padded m r = r ≡ 0 ∷ 0 ∷ at ∷ left ∷ padded ∷ method_row (entry_values m)
+PaneRowEntryRow at left padded m result = result ≡ 0 ∷ 0 ∷ at ∷ left ∷ padded ∷ method_row (entry_values m)
 
 -- pane_row::index_row
 abbrev pub PaneRowIndexRow : (at : ℕ) (left : ℕ) (padded : ℕ) (i : ℕ) → List ℕ → Type 0
-PaneRowIndexRow at left padded i r = r ≡ 0 ∷ 0 ∷ at ∷ left ∷ padded ∷ index_row (number i ∷ [])
+PaneRowIndexRow at left padded i result = result ≡ 0 ∷ 0 ∷ at ∷ left ∷ padded ∷ index_row (number i ∷ [])
 
 -- pane_section::pdb_section_start
 abbrev pub PaneSectionPdbSectionStart : (s : List ℕ) → ℕ → List ℕ → Type 0
-PaneSectionPdbSectionStart s r out' = (r, out') ≡ out_start (specs.section_start s)
+PaneSectionPdbSectionStart s result out' = (result, out') ≡ out_start (specs.section_start s)
 
 -- pane_section::pdb_section_count
 abbrev pub PaneSectionPdbSectionCount : (s : List ℕ) → ℕ → List ℕ → Type 0
-PaneSectionPdbSectionCount s r out' = (r, out') ≡ out_count (specs.count_of s)
+PaneSectionPdbSectionCount s result out' = (result, out') ≡ out_count (specs.count_of s)
 
 -- pane_section::pdb_section_create
 abbrev pub PaneSectionPdbSectionCreate : (s : List ℕ) (table : List ℕ) (shift : ℕ) → ℕ → List ℕ → List ℕ → Type 0
-PaneSectionPdbSectionCreate s table shift r table' out' = (r, out', table') ≡ out_finder table (section_create_by shift s table)
+PaneSectionPdbSectionCreate s table shift result table' out' = (result, out', table') ≡ out_finder table (section_create_by shift s table)
 
 -- pane_section::pdb_section_index
 abbrev pub PaneSectionPdbSectionIndex : (s : List ℕ) (table : List ℕ) (shift : ℕ) → ℕ → List ℕ → List ℕ → Type 0
-PaneSectionPdbSectionIndex s table shift r table' out' = (r, out', table') ≡ out_walk table (section_index_by shift s table)
+PaneSectionPdbSectionIndex s table shift result table' out' = (result, out', table') ≡ out_walk table (section_index_by shift s table)
 
 -- pane_section::pdb_section_stream
 abbrev pub PaneSectionPdbSectionStream : (s : List ℕ) (buffer : List ℕ) → ℕ → List ℕ → List ℕ → Type 0
-PaneSectionPdbSectionStream s buffer r buffer' out' = (r, out', buffer') ≡ out_stream buffer (lay (section_stream s) buffer 0)
+PaneSectionPdbSectionStream s buffer result buffer' out' = (result, out', buffer') ≡ out_stream buffer (lay (section_stream s) buffer 0)
 
 -- pane_section::pdb_section_list
 abbrev pub PaneSectionPdbSectionList : (s : List ℕ) → ℕ → List ℕ → Type 0
-PaneSectionPdbSectionList s r out' = (r, out') ≡ out_section_list (start_of (reader_at s 0) s)
+PaneSectionPdbSectionList s result out' = (result, out') ≡ out_section_list (start_of (reader_at s 0) s)
 
 -- pane_state::walk_out
 abbrev pub PaneStateWalkOut : (t : Tour) → List ℕ → Type 0
-PaneStateWalkOut t r = r ≡ tour_out t
+PaneStateWalkOut t result = result ≡ tour_out t
 
 -- pane_state::entry_of
 abbrev pub PaneStateEntryOf : (ids : ℕ) (item : ℕ) (index : ℕ) (place : ℕ) (length : ℕ) → Entry → Type 0
-PaneStateEntryOf ids item index place length r = r ≡ entry_at ids item index place length
+PaneStateEntryOf ids item index place length result = result ≡ entry_at ids item index place length
 
 -- pane_word::pdb_string
 abbrev pub PaneWordPdbString : (s : List ℕ) (leaf : ℕ) (at : ℕ) → ℕ → List ℕ → Type 0
-PaneWordPdbString s leaf at r out' = (r, out') ≡ out_string (string_of leaf s at)
+PaneWordPdbString s leaf at result out' = (result, out') ≡ out_string (string_of leaf s at)
 
 -- pane_word::pdb_padding
 abbrev pub PaneWordPdbPadding : (s : List ℕ) (at : ℕ) → ℕ → List ℕ → Type 0
-PaneWordPdbPadding s at r out' = (r, out') ≡ out_padding (padding_after s at)
+PaneWordPdbPadding s at result out' = (result, out') ≡ out_padding (padding_after s at)
 
 -- pane_word::pdb_size
 abbrev pub PaneWordPdbSize : (s : List ℕ) (at : ℕ) → ℕ → List ℕ → Type 0
-PaneWordPdbSize s at r out' = (r, out') ≡ out_size (sized_at s at)
+PaneWordPdbSize s at result out' = (result, out') ≡ out_size (sized_at s at)
 
 -- pane_word::pdb_number
 abbrev pub PaneWordPdbNumber : (s : List ℕ) (at : ℕ) → ℕ → List ℕ → Type 0
-PaneWordPdbNumber s at r out' = (r, out') ≡ out_number (numeral_at s at)
+PaneWordPdbNumber s at result out' = (result, out') ≡ out_number (numeral_at s at)
 
 -- pane_word::pdb_optional_type
 abbrev pub PaneWordPdbOptionalType : (index : ℕ) → ℕ → Type 0
-PaneWordPdbOptionalType index r = r ≡ present (optional_of no_type index)
+PaneWordPdbOptionalType index result = result ≡ present (optional_of no_type index)
 
 -- pane_word::pdb_optional_id
 abbrev pub PaneWordPdbOptionalId : (index : ℕ) → ℕ → Type 0
-PaneWordPdbOptionalId index r = r ≡ present (optional_of no_id index)
+PaneWordPdbOptionalId index result = result ≡ present (optional_of no_id index)
 
 -- pane_word::pdb_is_cross_module
 abbrev pub PaneWordPdbIsCrossModule : (index : ℕ) → ℕ → Type 0
-PaneWordPdbIsCrossModule index r = r ≡ mark (leb 0x80000000 index)
+PaneWordPdbIsCrossModule index result = result ≡ mark (leb 0x80000000 index)
 
 -- pane_word::pdb_properties
 abbrev pub PaneWordPdbProperties : (word : ℕ) → ℕ → List ℕ → Type 0
-PaneWordPdbProperties word r out' = (r, out') ≡ out_properties word
+PaneWordPdbProperties word result out' = (result, out') ≡ out_properties word
 
 -- pane_word::pdb_field_attributes
 abbrev pub PaneWordPdbFieldAttributes : (word : ℕ) → ℕ → List ℕ → Type 0
-PaneWordPdbFieldAttributes word r out' = (r, out') ≡ out_field word
+PaneWordPdbFieldAttributes word result out' = (result, out') ≡ out_field word
 
 -- pane_word::pdb_function_attributes
 abbrev pub PaneWordPdbFunctionAttributes : (word : ℕ) → ℕ → List ℕ → Type 0
-PaneWordPdbFunctionAttributes word r out' = (r, out') ≡ out_function word
+PaneWordPdbFunctionAttributes word result out' = (result, out') ≡ out_function word
 
 -- pane_word::pdb_pointer_attributes
 abbrev pub PaneWordPdbPointerAttributes : (word : ℕ) → ℕ → List ℕ → Type 0
-PaneWordPdbPointerAttributes word r out' = (r, out') ≡ out_pointer word
+PaneWordPdbPointerAttributes word result out' = (result, out') ≡ out_pointer word
 
 -- pane_write::pdb_write_type
 abbrev pub PaneWritePdbWriteType : (text : List ℕ) (leaf : ℕ) (cells : List ℕ) (buffer : List ℕ) (at : ℕ) → ℕ → List ℕ → List ℕ → Type 0
-PaneWritePdbWriteType text leaf cells buffer at r buffer' out' = (r, out', buffer') ≡ out_write buffer (lay (write_record written_leaves (given_all text (cell_values leaf cells))) buffer at)
+PaneWritePdbWriteType text leaf cells buffer at result buffer' out' = (result, out', buffer') ≡ out_write buffer (lay (write_record written_leaves (given_all text (cell_values leaf cells))) buffer at)
 
 -- pane_write::pdb_write_id
 abbrev pub PaneWritePdbWriteId : (text : List ℕ) (leaf : ℕ) (cells : List ℕ) (buffer : List ℕ) (at : ℕ) → ℕ → List ℕ → List ℕ → Type 0
-PaneWritePdbWriteId text leaf cells buffer at r buffer' out' = (r, out', buffer') ≡ out_write buffer (lay (write_record id_leaves (given_all text (cell_values leaf cells))) buffer at)
+PaneWritePdbWriteId text leaf cells buffer at result buffer' out' = (result, out', buffer') ≡ out_write buffer (lay (write_record id_leaves (given_all text (cell_values leaf cells))) buffer at)
 
 -- pane_write::pdb_write_fields
 abbrev pub PaneWritePdbWriteFields : (text : List ℕ) (rows : List (List ℕ)) (buffer : List ℕ) (at : ℕ) → ℕ → List ℕ → List ℕ → Type 0
-PaneWritePdbWriteFields text rows buffer at r buffer' out' = (r, out', buffer') ≡ out_write buffer (lay (field_list_bytes (member_rows text rows)) buffer at)
+PaneWritePdbWriteFields text rows buffer at result buffer' out' = (result, out', buffer') ≡ out_write buffer (lay (field_list_bytes (member_rows text rows)) buffer at)
 
 -- pane_write::pdb_write_methods
 abbrev pub PaneWritePdbWriteMethods : (text : List ℕ) (rows : List (List ℕ)) (buffer : List ℕ) (at : ℕ) → ℕ → List ℕ → List ℕ → Type 0
-PaneWritePdbWriteMethods text rows buffer at r buffer' out' = (r, out', buffer') ≡ out_write buffer (lay (method_list_bytes (method_rows text rows)) buffer at)
+PaneWritePdbWriteMethods text rows buffer at result buffer' out' = (result, out', buffer') ≡ out_write buffer (lay (method_list_bytes (method_rows text rows)) buffer at)
 
 -- pane_write::pdb_write_header
 abbrev pub PaneWritePdbWriteHeader : (fields : List ℕ) (stream : ℕ) (pad : ℕ) (buffer : List ℕ) (at : ℕ) → ℕ → List ℕ → List ℕ → Type 0
-PaneWritePdbWriteHeader fields stream pad buffer at r buffer' out' = (r, out', buffer') ≡ out_write buffer (lay (header_bytes (header_in fields stream pad)) buffer at)
+PaneWritePdbWriteHeader fields stream pad buffer at result buffer' out' = (result, out', buffer') ≡ out_write buffer (lay (header_bytes (header_in fields stream pad)) buffer at)
 
 -- pane_write::pdb_cells
 abbrev pub PaneWritePdbCells : (s : List ℕ) (ids : ℕ) (cells : List ℕ) → ℕ → List ℕ → List ℕ → Type 0
-PaneWritePdbCells s ids cells r cells' out' = (r, out', cells') ≡ out_cells cells (record_of (table_of (is_set ids)) s)
+PaneWritePdbCells s ids cells result cells' out' = (result, out', cells') ≡ out_cells cells (record_of (table_of (is_set ids)) s)
 
 -- pane_write::pdb_layout
 abbrev pub PaneWritePdbLayout : (which : ℕ) (leaf : ℕ) → ℕ → Type 0
-PaneWritePdbLayout which leaf r = (layout_in r ≡ leaves_of which leaf) × (r ≡ codes_of which leaf)
+PaneWritePdbLayout which leaf result = (layout_in result ≡ leaves_of which leaf) × (result ≡ codes_of which leaf)
 
 -- record_cells::type_cells
 abbrev pub RecordCellsTypeCells : (s : List ℕ) (leaf : ℕ) (at : ℕ) (out : List ℕ) → CellsAnswer → List ℕ → Type 0
-RecordCellsTypeCells s leaf at out r out' = FillsCells (cells_of 9) (fields_by (find leaf type_leaves) leaf s at) r out out'
+RecordCellsTypeCells s leaf at out result out' = FillsCells (cells_of 9) (fields_by (find leaf type_leaves) leaf s at) result out out'
 
 -- record_cells::id_cells
 abbrev pub RecordCellsIdCells : (s : List ℕ) (leaf : ℕ) (at : ℕ) (out : List ℕ) → CellsAnswer → List ℕ → Type 0
-RecordCellsIdCells s leaf at out r out' = FillsCells (cells_of 9) (fields_by (find leaf id_leaves) leaf s at) r out out'
+RecordCellsIdCells s leaf at out result out' = FillsCells (cells_of 9) (fields_by (find leaf id_leaves) leaf s at) result out out'
 
 -- record_cells::layout::type_layout
 abbrev pub RecordCellsLayoutTypeLayout : (leaf : ℕ) → ℕ → Type 0
-RecordCellsLayoutTypeLayout leaf r = (layout_in r ≡ find leaf type_leaves) × (r ≡ code_in type_codes leaf)
+RecordCellsLayoutTypeLayout leaf result = (layout_in result ≡ find leaf type_leaves) × (result ≡ code_in type_codes leaf)
 
 -- record_cells::layout::member_layout
 abbrev pub RecordCellsLayoutMemberLayout : (leaf : ℕ) → ℕ → Type 0
-RecordCellsLayoutMemberLayout leaf r = (layout_in r ≡ find leaf member_leaves) × (r ≡ code_in member_codes leaf)
+RecordCellsLayoutMemberLayout leaf result = (layout_in result ≡ find leaf member_leaves) × (result ≡ code_in member_codes leaf)
 
 -- record_cells::layout::method_layout
 abbrev pub RecordCellsLayoutMethodLayout : ℕ → Type 0
-RecordCellsLayoutMethodLayout r = (layout_in r ≡ some method) × (r ≡ method_code)
+RecordCellsLayoutMethodLayout result = (layout_in result ≡ some method) × (result ≡ method_code)
 
 -- record_cells::layout::id_layout
 abbrev pub RecordCellsLayoutIdLayout : (leaf : ℕ) → ℕ → Type 0
-RecordCellsLayoutIdLayout leaf r = (layout_in r ≡ find leaf id_leaves) × (r ≡ code_in id_codes leaf)
+RecordCellsLayoutIdLayout leaf result = (layout_in result ≡ find leaf id_leaves) × (result ≡ code_in id_codes leaf)
 
 -- record_data::TypeData::name
 abbrev pub RecordDataTypeDataName : (self : TypeData) → OptString → Type 0
-RecordDataTypeDataName self r = string_value r ≡ type_name (type_values self)
+RecordDataTypeDataName self result = string_value result ≡ type_data_name (type_values self)
 
 -- record_data::type_data
 abbrev pub RecordDataTypeData : (s : List ℕ) → TypeAnswer → Type 0
-RecordDataTypeData s r = said_type_data r ≡ record_of type_leaves s
+RecordDataTypeData s result = said_type_data result ≡ record_of type_leaves s
 
 -- record_id::id_data
 abbrev pub RecordIdIdData : (s : List ℕ) → IdAnswer → Type 0
-RecordIdIdData s r = said_id_data r ≡ record_of id_leaves s
+RecordIdIdData s result = said_id_data result ≡ record_of id_leaves s
 
 -- record_list::start
 abbrev pub RecordListStart : (stream : Stream) (s : List ℕ) → StartAnswer → Type 0
-RecordListStart stream s r = said_start r ≡ start_of stream s
+RecordListStart stream s result = said_start result ≡ start_of stream s
 
 -- record_list::step
 abbrev pub RecordListStep : (s : List ℕ) (c : ListCursor) → StepAnswer → Type 0
-RecordListStep s c r = said_step r ≡ step_of s c
+RecordListStep s c result = said_step result ≡ step_of s c
 
 -- record_list::element_from
 abbrev pub RecordListElementFrom : (s : List ℕ) (c : ListCursor) (k : ℕ) → ElementAnswer → Type 0
-RecordListElementFrom s c k r = said_element r ≡ element_by (step_of s) k c
+RecordListElementFrom s c k result = said_element result ≡ element_by (step_of s) k c
 
 -- record_member::Member::name
 abbrev pub RecordMemberMemberName : (self : Member) → OptString → Type 0
-RecordMemberMemberName self r = string_option r ≡ member_name (member_values self)
+RecordMemberMemberName self result = string_option result ≡ member_name (member_values self)
 
 -- record_member::member_at
 abbrev pub RecordMemberMemberAt : (s : List ℕ) (p : ℕ) → ReadMember → Type 0
-RecordMemberMemberAt s p r = said_member r ≡ read_record member_leaves s p
+RecordMemberMemberAt s p result = said_member result ≡ read_record member_leaves s p
 
 -- record_member::method_entry_at
 abbrev pub RecordMemberMethodEntryAt : (s : List ℕ) (p : ℕ) → ReadMethodEntry → Type 0
-RecordMemberMethodEntryAt s p r = said_entry r ≡ read_fields method 0 s p
+RecordMemberMethodEntryAt s p result = said_entry result ≡ read_fields method 0 s p
 
 -- record_parse::parse
 abbrev pub RecordParseParse : (tpi : List ℕ) (ipi : List ℕ) (entry : Entry) → ParseAnswer → Type 0
-RecordParseParse tpi ipi entry r = said_parse r ≡ parse_of tpi ipi entry
+RecordParseParse tpi ipi entry result = said_parse result ≡ parse_of tpi ipi entry
 
 -- record_reader::ListReader::new
 abbrev pub RecordReaderListReaderNew : (bytes : Bor (List ℕ)) (cursor : ListCursor) → ListReader → Type 0
-RecordReaderListReaderNew bytes cursor r = (r.bytes ≡ bytes) × (r.cursor ≡ cursor)
+RecordReaderListReaderNew bytes cursor result = (result.bytes ≡ bytes) × (result.cursor ≡ cursor)
 
 -- record_reader::ListReader::element
 abbrev pub RecordReaderListReaderElement : (self : ListReader) (k : ℕ) → ElementAnswer → Type 0
-RecordReaderListReaderElement self k r = said_element r ≡ element_by (step_of self.bytes.now) k self.cursor
+RecordReaderListReaderElement self k result = said_element result ≡ element_by (step_of self.bytes.now) k self.cursor
 
 -- record_reader::ListReader::step
 abbrev pub RecordReaderListReaderStep : (self : ListReader) → ElementAnswer → ListReader → Type 0
-RecordReaderListReaderStep self r self' = Steps self.cursor (step_of self.bytes.now self.cursor) r self'.cursor × (self'.bytes ≡ self.bytes)
+RecordReaderListReaderStep self result self' = Steps self.cursor (step_of self.bytes.now self.cursor) result self'.cursor × (self'.bytes ≡ self.bytes)
 
 -- record_reader::nth
 abbrev pub RecordReaderNth : (stream : Stream) (s : List ℕ) (k : ℕ) → ElementAnswer → Type 0
-RecordReaderNth stream s k r = said_element r ≡ element_of stream s k
+RecordReaderNth stream s k result = said_element result ≡ element_of stream s k
 
 -- record_reference::record_references
 abbrev pub RecordReferenceRecordReferences : (d : TypeData) → References → Type 0
-RecordReferenceRecordReferences d r = said_references r ≡ slots 4 (slots_by type_leaves (type_values d) 2)
+RecordReferenceRecordReferences d result = said_references result ≡ slots 4 (slots_by type_leaves (type_values d) 2)
 
 -- record_reference::element_references
 abbrev pub RecordReferenceElementReferences : (e : Element) → ElementReferences → Type 0
-RecordReferenceElementReferences e r = ((p : ℕ) → said_of_element r p ≡ element_refs (element_values e) p)
+RecordReferenceElementReferences e result = (p : ℕ) → said_of_element result p ≡ element_refs (element_values e) p
 
 -- section_finder::create
 abbrev pub SectionFinderCreate : (s : List ℕ) (t : List ℕ) → FinderAnswer → List ℕ → Type 0
-SectionFinderCreate s t r t' = Fills t (section_create_of s t) r t'
+SectionFinderCreate s t result t' = Fills t (section_create_of s t) result t'
 
 -- section_finder::create_by
 abbrev pub SectionFinderCreateBy : (s : List ℕ) (t : List ℕ) (shift : ℕ) → FinderAnswer → List ℕ → Type 0
-SectionFinderCreateBy s t shift r t' = Fills t (section_create_by shift s t) r t'
+SectionFinderCreateBy s t shift result t' = Fills t (section_create_by shift s t) result t'
 
 -- section_finder::index_all
 abbrev pub SectionFinderIndexAll : (s : List ℕ) (t : List ℕ) → IndexAnswer → List ℕ → Type 0
-SectionFinderIndexAll s t r t' = SectionIndexes s t r t'
+SectionFinderIndexAll s t result t' = SectionIndexes s t result t'
 
 -- section_finder::index_all_by
 abbrev pub SectionFinderIndexAllBy : (s : List ℕ) (t : List ℕ) (shift : ℕ) → IndexAnswer → List ℕ → Type 0
-SectionFinderIndexAllBy s t shift r t' = SectionIndexesBy shift s t r t'
+SectionFinderIndexAllBy s t shift result t' = SectionIndexesBy shift s t result t'
 
 -- section_item::iter
 abbrev pub SectionItemIter : (s : List ℕ) → IterAnswer → Type 0
-SectionItemIter s r = said_iter r ≡ section_start s
+SectionItemIter s result = said_iter result ≡ section_start s
 
 -- section_item::len
 abbrev pub SectionItemLen : (s : List ℕ) → LenAnswer → Type 0
-SectionItemLen s r = said_len r ≡ count_of s
+SectionItemLen s result = said_len result ≡ count_of s
 
 -- section_read::parse
 abbrev pub SectionReadParse : (s : List ℕ) (entry : Entry) → ParseAnswer → Type 0
-SectionReadParse s entry r = said_parse r ≡ read_of s entry
+SectionReadParse s entry result = said_parse result ≡ read_of s entry
 
 -- section_read::start
 abbrev pub SectionReadStart : (bytes : List ℕ) → StartAnswer → Type 0
-SectionReadStart bytes r = said_start r ≡ start_of (reader_at bytes 0) bytes
+SectionReadStart bytes result = said_start result ≡ start_of (reader_at bytes 0) bytes
 
 -- section_stream::to_stream
 abbrev pub SectionStreamToStream : (s : List ℕ) (out : List ℕ) → WriteAnswer → List ℕ → Type 0
-SectionStreamToStream s out r out' = Writes out (lay (section_stream s) out 0) (said_write r) out'
+SectionStreamToStream s out result out' = Writes out (lay (section_stream s) out 0) (said_write result) out'
 
 -- stream_drop::drop
 abbrev pub StreamDropDrop : (s : List ℕ) (roots : List ℕ) (table : List ℕ) (out : List ℕ) → DropAnswer → List ℕ → List ℕ → Type 0
-StreamDropDrop s roots table out r table' out' = Drops table out (drop_of s roots (length table) (length out)) r table' out'
+StreamDropDrop s roots table out result table' out' = Drops table out (drop_of s roots (length table) (length out)) result table' out'
 
 -- stream_finder::create
 abbrev pub StreamFinderCreate : (s : List ℕ) (t : List ℕ) → FinderAnswer → List ℕ → Type 0
-StreamFinderCreate s t r t' = Fills t (create_of s t) r t'
+StreamFinderCreate s t result t' = Fills t (create_of s t) result t'
 
 -- stream_finder::create_by
 abbrev pub StreamFinderCreateBy : (s : List ℕ) (t : List ℕ) (shift : ℕ) → FinderAnswer → List ℕ → Type 0
-StreamFinderCreateBy s t shift r t' = Fills t (create_by shift s t) r t'
+StreamFinderCreateBy s t shift result t' = Fills t (create_by shift s t) result t'
 
 -- stream_finder::begin
 abbrev pub StreamFinderBegin : (t : List ℕ) (records : Records) (shift : ℕ) → FinderAnswer → List ℕ → Type 0
-StreamFinderBegin t records shift r t' = Fills t (begun_in shift t records) r t'
+StreamFinderBegin t records shift result t' = Fills t (begun_in shift t records) result t'
 
 -- stream_finder::update
 abbrev pub StreamFinderUpdate : (f : ItemFinder) (t : List ℕ) (c : ItemIter) → FinderAnswer → List ℕ → Type 0
-StreamFinderUpdate f t c r t' = Fills t (update_of (state f t) c) r t'
+StreamFinderUpdate f t c result t' = Fills t (update_of (state f t) c) result t'
 
 -- stream_finder::ItemFinder::max_type_index
 abbrev pub StreamFinderItemFinderMaxTypeIndex : (self : ItemFinder) → TypeIndex → Type 0
-StreamFinderItemFinderMaxTypeIndex self r = r.0 ≡ max_index_of self
+StreamFinderItemFinderMaxTypeIndex self result = result.0 ≡ max_index_of self
 
 -- stream_finder::ItemFinder::max_id_index
 abbrev pub StreamFinderItemFinderMaxIdIndex : (self : ItemFinder) → IdIndex → Type 0
-StreamFinderItemFinderMaxIdIndex self r = r.0 ≡ max_index_of self
+StreamFinderItemFinderMaxIdIndex self result = result.0 ≡ max_index_of self
 
 -- stream_finder::find_type
 abbrev pub StreamFinderFindType : (s : List ℕ) (f : ItemFinder) (t : List ℕ) (i : TypeIndex) → FindAnswer → Type 0
-StreamFinderFindType s f t i r = said_find r ≡ find_of s (state f t) (item_index.Types i)
+StreamFinderFindType s f t i result = said_find result ≡ find_of s (state f t) (item_index.Types i)
 
 -- stream_finder::find_id
 abbrev pub StreamFinderFindId : (s : List ℕ) (f : ItemFinder) (t : List ℕ) (i : IdIndex) → FindAnswer → Type 0
-StreamFinderFindId s f t i r = said_find r ≡ find_of s (state f t) (item_index.Ids i)
+StreamFinderFindId s f t i result = said_find result ≡ find_of s (state f t) (item_index.Ids i)
 
 -- stream_finder::lent::ItemFinder::update
 abbrev pub StreamFinderLentItemFinderUpdate : (self : ItemFinder) (t : List ℕ) (c : ItemIter) → UpdateAnswer → ItemFinder → List ℕ → Type 0
-StreamFinderLentItemFinderUpdate self t c r self' t' = Updates (state self t) c r (state self' t')
+StreamFinderLentItemFinderUpdate self t c result self' t' = Updates (state self t) c result (state self' t')
 
 -- stream_fit::fit
 abbrev pub StreamFitFit : (s : List ℕ) → FitAnswer → Type 0
-StreamFitFit s r = said_fit r ≡ fit_of s
+StreamFitFit s result = said_fit result ≡ fit_of s
 
 -- stream_header::Header::parse
 abbrev pub StreamHeaderHeaderParse : (s : List ℕ) → HeaderAnswer → Type 0
-StreamHeaderHeaderParse s r = said_header r ≡ header_of s
+StreamHeaderHeaderParse s result = said_header result ≡ header_of s
 
 -- stream_header::Header::count
 abbrev pub StreamHeaderHeaderCount : (self : Header) → ℕ → Type 0
-StreamHeaderHeaderCount self r = r ≡ self.maximum_index - self.minimum_index
+StreamHeaderHeaderCount self result = result ≡ self.maximum_index - self.minimum_index
 
 -- stream_index::next_and_update
 abbrev pub StreamIndexNextAndUpdate : (s : List ℕ) (f : ItemFinder) (t : List ℕ) (c : ItemIter) → TurnAnswer → List ℕ → Type 0
-StreamIndexNextAndUpdate s f t c r t' = Leads t (turn_of s (state f t) c) r t'
+StreamIndexNextAndUpdate s f t c result t' = Leads t (turn_of s (state f t) c) result t'
 
 -- stream_index::index_on
 abbrev pub StreamIndexIndexOn : (s : List ℕ) (f : ItemFinder) (t : List ℕ) (c : ItemIter) → Tour → List ℕ → Type 0
-StreamIndexIndexOn s f t c r t' = Walks s c (state f t) r t'
+StreamIndexIndexOn s f t c result t' = Walks s c (state f t) result t'
 
 -- stream_index::index_all
 abbrev pub StreamIndexIndexAll : (stream : Stream) (s : List ℕ) (t : List ℕ) → IndexAnswer → List ℕ → Type 0
-StreamIndexIndexAll stream s t r t' = Indexes stream s t r t'
+StreamIndexIndexAll stream s t result t' = Indexes stream s t result t'
 
 -- stream_index::index_all_by
 abbrev pub StreamIndexIndexAllBy : (stream : Stream) (s : List ℕ) (t : List ℕ) (shift : ℕ) → IndexAnswer → List ℕ → Type 0
-StreamIndexIndexAllBy stream s t shift r t' = IndexesBy shift stream s t r t'
+StreamIndexIndexAllBy stream s t shift result t' = IndexesBy shift stream s t result t'
 
 -- stream_item::Entry::index
 abbrev pub StreamItemEntryIndex : (self : Entry) → ItemIndex → Type 0
-StreamItemEntryIndex self r = r ≡ index_of self
+StreamItemEntryIndex self result = result ≡ index_of self
 
 -- stream_item::Entry::len
 abbrev pub StreamItemEntryLen : (self : Entry) → ℕ → Type 0
-StreamItemEntryLen self r = r ≡ length_of self
+StreamItemEntryLen self result = result ≡ length_of self
 
 -- stream_item::Entry::is_empty
 abbrev pub StreamItemEntryIsEmpty : (self : Entry) → Bool → Type 0
-StreamItemEntryIsEmpty self r = r ≡ eqb (length_of self) 0
+StreamItemEntryIsEmpty self result = result ≡ eqb (length_of self) 0
 
 -- stream_item::information::len
 abbrev pub StreamItemInformationLen : (s : List ℕ) → LenAnswer → Type 0
-StreamItemInformationLen s r = said_len r ≡ len_of s
+StreamItemInformationLen s result = said_len result ≡ len_of s
 
 -- stream_item::information::is_empty
 abbrev pub StreamItemInformationIsEmpty : (s : List ℕ) → EmptyAnswer → Type 0
-StreamItemInformationIsEmpty s r = said_empty r ≡ is_empty_of s
+StreamItemInformationIsEmpty s result = said_empty result ≡ is_empty_of s
 
 -- stream_item::iter::iter
 abbrev pub StreamItemIterIter : (stream : Stream) (s : List ℕ) → IterAnswer → Type 0
-StreamItemIterIter stream s r = said_iter r ≡ iter_of stream s
+StreamItemIterIter stream s result = said_iter result ≡ iter_of stream s
 
 -- stream_item::iter::next
 abbrev pub StreamItemIterNext : (s : List ℕ) (c : ItemIter) → NextAnswer → Type 0
-StreamItemIterNext s c r = said_next r ≡ next_of s c
+StreamItemIterNext s c result = said_next result ≡ next_of s c
 
 -- stream_item::link::link_of
 abbrev pub StreamItemLinkLinkOf : (s : List ℕ) (p : ℕ) (k : ℕ) → Hit → Type 0
-StreamItemLinkLinkOf s p k r = r ≡ link_of s p k
+StreamItemLinkLinkOf s p k result = result ≡ link_of s p k
 
 -- stream_places::load
 abbrev pub StreamPlacesLoad : (s : List ℕ) (f : List ℕ) (t : List ℕ) → FinderAnswer → List ℕ → Type 0
-StreamPlacesLoad s f t r t' = Fills t (load_of s f t) r t'
+StreamPlacesLoad s f t result t' = Fills t (load_of s f t) result t'
 
 -- stream_places::load_wide
 abbrev pub StreamPlacesLoadWide : (s : List ℕ) (f : List ℕ) (t : List ℕ) → FinderAnswer → List ℕ → Type 0
-StreamPlacesLoadWide s f t r t' = Fills t (load_wide_of s f t) r t'
+StreamPlacesLoadWide s f t result t' = Fills t (load_wide_of s f t) result t'
 
 -- stream_places::save
 abbrev pub StreamPlacesSave : (s : List ℕ) (f : ItemFinder) (t : List ℕ) (out : List ℕ) → SaveAnswer → List ℕ → Type 0
-StreamPlacesSave s f t out r out' = Saves out (save_of s (state f t) (length out)) r out'
+StreamPlacesSave s f t out result out' = Saves out (save_of s (state f t) (length out)) result out'
 
 -- stream_places::save_wide
 abbrev pub StreamPlacesSaveWide : (s : List ℕ) (f : ItemFinder) (t : List ℕ) (out : List ℕ) → SaveAnswer → List ℕ → Type 0
-StreamPlacesSaveWide s f t out r out' = Saves out (save_wide_of s (state f t) (length out)) r out'
+StreamPlacesSaveWide s f t out result out' = Saves out (save_wide_of s (state f t) (length out)) result out'
 
 -- stream_places::trailer::Trailer::parse
 abbrev pub StreamPlacesTrailerTrailerParse : (f : List ℕ) → TrailerAnswer → Type 0
-StreamPlacesTrailerTrailerParse f r = said_trailer r ≡ trailer_of f
+StreamPlacesTrailerTrailerParse f result = said_trailer result ≡ trailer_of f
 
 -- stream_places::trailer::Trailer::parse_wide
 abbrev pub StreamPlacesTrailerTrailerParseWide : (f : List ℕ) → TrailerAnswer → Type 0
-StreamPlacesTrailerTrailerParseWide f r = said_trailer r ≡ trailer_of_either f
+StreamPlacesTrailerTrailerParseWide f result = said_trailer result ≡ trailer_of_either f
 
 -- stream_report::new
 abbrev pub StreamReportNew : Totals → Type 0
-StreamReportNew r = r ≡ totals_of fresh
+StreamReportNew result = result ≡ totals_of fresh
 
 -- stream_report::add
 abbrev pub StreamReportAdd : (totals : Totals) (table : List ℕ) (s : List ℕ) → ReportAnswer → List ℕ → Type 0
-StreamReportAdd totals table s r table' = Reports table (add_of (report_in totals table) s) r table'
+StreamReportAdd totals table s result table' = Reports table (add_of (report_in totals table) s) result table'
 
 -- stream_view::view_answer
 abbrev pub StreamViewViewAnswer : (tpi : List ℕ) (ipi : List ℕ) (entry : Entry) → ViewAnswer → Type 0
-StreamViewViewAnswer tpi ipi entry r = said_view r ≡ view_of tpi ipi entry
+StreamViewViewAnswer tpi ipi entry result = said_view result ≡ view_of tpi ipi entry
 
 -- stream_view::bytes_of
 abbrev pub StreamViewBytesOf : (tpi : List ℕ) (ipi : List ℕ) (entry : Entry) → List ℕ → Type 0
-StreamViewBytesOf tpi ipi entry r = r ≡ view_bytes tpi ipi entry
+StreamViewBytesOf tpi ipi entry result = result ≡ view_bytes tpi ipi entry
 
 -- stream_view::view
 abbrev pub StreamViewView : (tpi : List ℕ) (ipi : List ℕ) (entry : Entry) → EntryView → Type 0
-StreamViewView tpi ipi entry r = (said_view r.answer ≡ view_of tpi ipi entry) × (r.bytes.now ≡ view_bytes tpi ipi entry)
+StreamViewView tpi ipi entry result = (said_view result.answer ≡ view_of tpi ipi entry) × (result.bytes.now ≡ view_bytes tpi ipi entry)
 
 -- stream_view::raw_kind
 abbrev pub StreamViewRawKind : (tpi : List ℕ) (ipi : List ℕ) (entry : Entry) → RawKindAnswer → Type 0
-StreamViewRawKind tpi ipi entry r = said_raw_kind r ≡ raw_kind_of tpi ipi entry
+StreamViewRawKind tpi ipi entry result = said_raw_kind result ≡ raw_kind_of tpi ipi entry
 
 -- word_attributes::TypeProperties::packed
 abbrev pub WordAttributesTypePropertiesPacked : (self : TypeProperties) → Bool → Type 0
-WordAttributesTypePropertiesPacked self r = r ≡ bit 0 self.0
+WordAttributesTypePropertiesPacked self result = result ≡ bit 0 self.0
 
 -- word_attributes::TypeProperties::constructors
 abbrev pub WordAttributesTypePropertiesConstructors : (self : TypeProperties) → Bool → Type 0
-WordAttributesTypePropertiesConstructors self r = r ≡ bit 1 self.0
+WordAttributesTypePropertiesConstructors self result = result ≡ bit 1 self.0
 
 -- word_attributes::TypeProperties::overloaded_operators
 abbrev pub WordAttributesTypePropertiesOverloadedOperators : (self : TypeProperties) → Bool → Type 0
-WordAttributesTypePropertiesOverloadedOperators self r = r ≡ bit 2 self.0
+WordAttributesTypePropertiesOverloadedOperators self result = result ≡ bit 2 self.0
 
 -- word_attributes::TypeProperties::is_nested_type
 abbrev pub WordAttributesTypePropertiesIsNestedType : (self : TypeProperties) → Bool → Type 0
-WordAttributesTypePropertiesIsNestedType self r = r ≡ bit 3 self.0
+WordAttributesTypePropertiesIsNestedType self result = result ≡ bit 3 self.0
 
 -- word_attributes::TypeProperties::contains_nested_types
 abbrev pub WordAttributesTypePropertiesContainsNestedTypes : (self : TypeProperties) → Bool → Type 0
-WordAttributesTypePropertiesContainsNestedTypes self r = r ≡ bit 4 self.0
+WordAttributesTypePropertiesContainsNestedTypes self result = result ≡ bit 4 self.0
 
 -- word_attributes::TypeProperties::overloaded_assignment
 abbrev pub WordAttributesTypePropertiesOverloadedAssignment : (self : TypeProperties) → Bool → Type 0
-WordAttributesTypePropertiesOverloadedAssignment self r = r ≡ bit 5 self.0
+WordAttributesTypePropertiesOverloadedAssignment self result = result ≡ bit 5 self.0
 
 -- word_attributes::TypeProperties::overloaded_casting
 abbrev pub WordAttributesTypePropertiesOverloadedCasting : (self : TypeProperties) → Bool → Type 0
-WordAttributesTypePropertiesOverloadedCasting self r = r ≡ bit 6 self.0
+WordAttributesTypePropertiesOverloadedCasting self result = result ≡ bit 6 self.0
 
 -- word_attributes::TypeProperties::forward_reference
 abbrev pub WordAttributesTypePropertiesForwardReference : (self : TypeProperties) → Bool → Type 0
-WordAttributesTypePropertiesForwardReference self r = r ≡ bit 7 self.0
+WordAttributesTypePropertiesForwardReference self result = result ≡ bit 7 self.0
 
 -- word_attributes::TypeProperties::scoped_definition
 abbrev pub WordAttributesTypePropertiesScopedDefinition : (self : TypeProperties) → Bool → Type 0
-WordAttributesTypePropertiesScopedDefinition self r = r ≡ bit 8 self.0
+WordAttributesTypePropertiesScopedDefinition self result = result ≡ bit 8 self.0
 
 -- word_attributes::TypeProperties::has_unique_name
 abbrev pub WordAttributesTypePropertiesHasUniqueName : (self : TypeProperties) → Bool → Type 0
-WordAttributesTypePropertiesHasUniqueName self r = r ≡ bit 9 self.0
+WordAttributesTypePropertiesHasUniqueName self result = result ≡ bit 9 self.0
 
 -- word_attributes::TypeProperties::sealed
 abbrev pub WordAttributesTypePropertiesSealed : (self : TypeProperties) → Bool → Type 0
-WordAttributesTypePropertiesSealed self r = r ≡ bit 10 self.0
+WordAttributesTypePropertiesSealed self result = result ≡ bit 10 self.0
 
 -- word_attributes::TypeProperties::intrinsic_type
 abbrev pub WordAttributesTypePropertiesIntrinsicType : (self : TypeProperties) → Bool → Type 0
-WordAttributesTypePropertiesIntrinsicType self r = r ≡ bit 13 self.0
+WordAttributesTypePropertiesIntrinsicType self result = result ≡ bit 13 self.0
 
 -- word_attributes::TypeProperties::hfa
 abbrev pub WordAttributesTypePropertiesHfa : (self : TypeProperties) → ℕ → Type 0
-WordAttributesTypePropertiesHfa self r = r ≡ bits 11 12 self.0
+WordAttributesTypePropertiesHfa self result = result ≡ bits 11 12 self.0
 
 -- word_attributes::TypeProperties::mocom
 abbrev pub WordAttributesTypePropertiesMocom : (self : TypeProperties) → ℕ → Type 0
-WordAttributesTypePropertiesMocom self r = r ≡ bits 14 15 self.0
+WordAttributesTypePropertiesMocom self result = result ≡ bits 14 15 self.0
 
 -- word_attributes::FieldAttributes::access
 abbrev pub WordAttributesFieldAttributesAccess : (self : FieldAttributes) → ℕ → Type 0
-WordAttributesFieldAttributesAccess self r = r ≡ bits 0 1 self.0
+WordAttributesFieldAttributesAccess self result = result ≡ bits 0 1 self.0
 
 -- word_attributes::FieldAttributes::method_properties
 abbrev pub WordAttributesFieldAttributesMethodProperties : (self : FieldAttributes) → ℕ → Type 0
-WordAttributesFieldAttributesMethodProperties self r = r ≡ method_property self.0
+WordAttributesFieldAttributesMethodProperties self result = result ≡ method_property self.0
 
 -- word_attributes::FieldAttributes::is_static
 abbrev pub WordAttributesFieldAttributesIsStatic : (self : FieldAttributes) → Bool → Type 0
-WordAttributesFieldAttributesIsStatic self r = r ≡ eqb (method_property self.0) 2
+WordAttributesFieldAttributesIsStatic self result = result ≡ eqb (method_property self.0) 2
 
 -- word_attributes::FieldAttributes::is_virtual
 abbrev pub WordAttributesFieldAttributesIsVirtual : (self : FieldAttributes) → Bool → Type 0
-WordAttributesFieldAttributesIsVirtual self r = r ≡ eqb (method_property self.0) 1
+WordAttributesFieldAttributesIsVirtual self result = result ≡ eqb (method_property self.0) 1
 
 -- word_attributes::FieldAttributes::is_pure_virtual
 abbrev pub WordAttributesFieldAttributesIsPureVirtual : (self : FieldAttributes) → Bool → Type 0
-WordAttributesFieldAttributesIsPureVirtual self r = r ≡ eqb (method_property self.0) 5
+WordAttributesFieldAttributesIsPureVirtual self result = result ≡ eqb (method_property self.0) 5
 
 -- word_attributes::FieldAttributes::is_intro_virtual
 abbrev pub WordAttributesFieldAttributesIsIntroVirtual : (self : FieldAttributes) → Bool → Type 0
-WordAttributesFieldAttributesIsIntroVirtual self r = r ≡ introducing self.0
+WordAttributesFieldAttributesIsIntroVirtual self result = result ≡ introducing self.0
 
 -- word_attributes::FunctionAttributes::calling_convention
 abbrev pub WordAttributesFunctionAttributesCallingConvention : (self : FunctionAttributes) → ℕ → Type 0
-WordAttributesFunctionAttributesCallingConvention self r = r ≡ bits 0 7 self.0
+WordAttributesFunctionAttributesCallingConvention self result = result ≡ bits 0 7 self.0
 
 -- word_attributes::FunctionAttributes::cxx_return_udt
 abbrev pub WordAttributesFunctionAttributesCxxReturnUdt : (self : FunctionAttributes) → Bool → Type 0
-WordAttributesFunctionAttributesCxxReturnUdt self r = r ≡ bit 8 self.0
+WordAttributesFunctionAttributesCxxReturnUdt self result = result ≡ bit 8 self.0
 
 -- word_attributes::FunctionAttributes::is_constructor
 abbrev pub WordAttributesFunctionAttributesIsConstructor : (self : FunctionAttributes) → Bool → Type 0
-WordAttributesFunctionAttributesIsConstructor self r = r ≡ bit 9 self.0
+WordAttributesFunctionAttributesIsConstructor self result = result ≡ bit 9 self.0
 
 -- word_attributes::FunctionAttributes::is_constructor_with_virtual_bases
 abbrev pub WordAttributesFunctionAttributesIsConstructorWithVirtualBases : (self : FunctionAttributes) → Bool → Type 0
-WordAttributesFunctionAttributesIsConstructorWithVirtualBases self r = r ≡ bit 10 self.0
+WordAttributesFunctionAttributesIsConstructorWithVirtualBases self result = result ≡ bit 10 self.0
 
 -- word_attributes::ModifierFlags::constant
 abbrev pub WordAttributesModifierFlagsConstant : (self : ModifierFlags) → Bool → Type 0
-WordAttributesModifierFlagsConstant self r = r ≡ bit 0 self.0
+WordAttributesModifierFlagsConstant self result = result ≡ bit 0 self.0
 
 -- word_attributes::ModifierFlags::volatile
 abbrev pub WordAttributesModifierFlagsVolatile : (self : ModifierFlags) → Bool → Type 0
-WordAttributesModifierFlagsVolatile self r = r ≡ bit 1 self.0
+WordAttributesModifierFlagsVolatile self result = result ≡ bit 1 self.0
 
 -- word_attributes::ModifierFlags::unaligned
 abbrev pub WordAttributesModifierFlagsUnaligned : (self : ModifierFlags) → Bool → Type 0
-WordAttributesModifierFlagsUnaligned self r = r ≡ bit 2 self.0
+WordAttributesModifierFlagsUnaligned self result = result ≡ bit 2 self.0
 
 -- word_attributes::PointerAttributes::pointer_kind
 abbrev pub WordAttributesPointerAttributesPointerKind : (self : PointerAttributes) → KindAnswer → Type 0
-WordAttributesPointerAttributesPointerKind self r = said_kind r ≡ kind_of self.0
+WordAttributesPointerAttributesPointerKind self result = said_kind result ≡ kind_of self.0
 
 -- word_attributes::PointerAttributes::pointer_mode
 abbrev pub WordAttributesPointerAttributesPointerMode : (self : PointerAttributes) → ModeAnswer → Type 0
-WordAttributesPointerAttributesPointerMode self r = said_mode r ≡ mode_of self.0
+WordAttributesPointerAttributesPointerMode self result = said_mode result ≡ mode_of self.0
 
 -- word_attributes::PointerAttributes::pointer_to_member
 abbrev pub WordAttributesPointerAttributesPointerToMember : (self : PointerAttributes) → FlagAnswer → Type 0
-WordAttributesPointerAttributesPointerToMember self r = said_flag r ≡ to_member_of self.0
+WordAttributesPointerAttributesPointerToMember self result = said_flag result ≡ to_member_of self.0
 
 -- word_attributes::PointerAttributes::is_flat_32
 abbrev pub WordAttributesPointerAttributesIsFlat32 : (self : PointerAttributes) → Bool → Type 0
-WordAttributesPointerAttributesIsFlat32 self r = r ≡ bit 8 self.0
+WordAttributesPointerAttributesIsFlat32 self result = result ≡ bit 8 self.0
 
 -- word_attributes::PointerAttributes::is_volatile
 abbrev pub WordAttributesPointerAttributesIsVolatile : (self : PointerAttributes) → Bool → Type 0
-WordAttributesPointerAttributesIsVolatile self r = r ≡ bit 9 self.0
+WordAttributesPointerAttributesIsVolatile self result = result ≡ bit 9 self.0
 
 -- word_attributes::PointerAttributes::is_const
 abbrev pub WordAttributesPointerAttributesIsConst : (self : PointerAttributes) → Bool → Type 0
-WordAttributesPointerAttributesIsConst self r = r ≡ bit 10 self.0
+WordAttributesPointerAttributesIsConst self result = result ≡ bit 10 self.0
 
 -- word_attributes::PointerAttributes::is_unaligned
 abbrev pub WordAttributesPointerAttributesIsUnaligned : (self : PointerAttributes) → Bool → Type 0
-WordAttributesPointerAttributesIsUnaligned self r = r ≡ bit 11 self.0
+WordAttributesPointerAttributesIsUnaligned self result = result ≡ bit 11 self.0
 
 -- word_attributes::PointerAttributes::is_restrict
 abbrev pub WordAttributesPointerAttributesIsRestrict : (self : PointerAttributes) → Bool → Type 0
-WordAttributesPointerAttributesIsRestrict self r = r ≡ bit 12 self.0
+WordAttributesPointerAttributesIsRestrict self result = result ≡ bit 12 self.0
 
 -- word_attributes::PointerAttributes::is_reference
 abbrev pub WordAttributesPointerAttributesIsReference : (self : PointerAttributes) → FlagAnswer → Type 0
-WordAttributesPointerAttributesIsReference self r = said_flag r ≡ reference_of self.0
+WordAttributesPointerAttributesIsReference self result = said_flag result ≡ reference_of self.0
 
 -- word_attributes::PointerAttributes::size
 abbrev pub WordAttributesPointerAttributesSize : (self : PointerAttributes) → SizeAnswer → Type 0
-WordAttributesPointerAttributesSize self r = said_pointer_size r ≡ size_of self.0
+WordAttributesPointerAttributesSize self result = said_pointer_size result ≡ size_of self.0
 
 -- word_attributes::PointerAttributes::is_mocom
 abbrev pub WordAttributesPointerAttributesIsMocom : (self : PointerAttributes) → Bool → Type 0
-WordAttributesPointerAttributesIsMocom self r = r ≡ bit 19 self.0
+WordAttributesPointerAttributesIsMocom self result = result ≡ bit 19 self.0
 
 -- word_primitive::primitive
 abbrev pub WordPrimitivePrimitive : (index : TypeIndex) → PrimitiveAnswer → Type 0
-WordPrimitivePrimitive index r = said_primitive r ≡ primitive_of index.0
+WordPrimitivePrimitive index result = said_primitive result ≡ primitive_of index.0
 
 -- write_cells::write_type
 abbrev pub WriteCellsWriteType : (text : List ℕ) (leaf : ℕ) (row : List ℕ) (out : List ℕ) (at : ℕ) → WriteAnswer → List ℕ → Type 0
-WriteCellsWriteType text leaf row out at r out' = Writes out (lay (write_record written_leaves (given_all text (cell_values leaf row))) out at) (said_write r) out'
+WriteCellsWriteType text leaf row out at result out' = Writes out (lay (write_record written_leaves (given_all text (cell_values leaf row))) out at) (said_write result) out'
 
 -- write_cells::write_id
 abbrev pub WriteCellsWriteId : (text : List ℕ) (leaf : ℕ) (row : List ℕ) (out : List ℕ) (at : ℕ) → WriteAnswer → List ℕ → Type 0
-WriteCellsWriteId text leaf row out at r out' = Writes out (lay (write_record id_leaves (given_all text (cell_values leaf row))) out at) (said_write r) out'
+WriteCellsWriteId text leaf row out at result out' = Writes out (lay (write_record id_leaves (given_all text (cell_values leaf row))) out at) (said_write result) out'
 
 -- write_header::write_header
 abbrev pub WriteHeaderWriteHeader : (h : Header) (out : List ℕ) (at : ℕ) → WriteAnswer → List ℕ → Type 0
-WriteHeaderWriteHeader h out at r out' = Writes out (lay (header_bytes h) out at) (said_write r) out'
+WriteHeaderWriteHeader h out at result out' = Writes out (lay (header_bytes h) out at) (said_write result) out'
 
 -- write_list::write_field_list
 abbrev pub WriteListWriteFieldList : (text : List ℕ) (rows : List (List ℕ)) (out : List ℕ) (at : ℕ) → WriteAnswer → List ℕ → Type 0
-WriteListWriteFieldList text rows out at r out' = Writes out (lay (field_list_bytes (member_rows text rows)) out at) (said_write r) out'
+WriteListWriteFieldList text rows out at result out' = Writes out (lay (field_list_bytes (member_rows text rows)) out at) (said_write result) out'
 
 -- write_list::write_method_list
 abbrev pub WriteListWriteMethodList : (text : List ℕ) (rows : List (List ℕ)) (out : List ℕ) (at : ℕ) → WriteAnswer → List ℕ → Type 0
-WriteListWriteMethodList text rows out at r out' = Writes out (lay (method_list_bytes (method_rows text rows)) out at) (said_write r) out'
+WriteListWriteMethodList text rows out at result out' = Writes out (lay (method_list_bytes (method_rows text rows)) out at) (said_write result) out'
 
 -- write_list::rows::of_member
 abbrev pub WriteListRowsOfMember : (m : Member) → List ℕ → Type 0
-WriteListRowsOfMember m r = r ≡ row_of_member m
+WriteListRowsOfMember m result = result ≡ row_of_member m
 
 -- write_list::rows::of_method
 abbrev pub WriteListRowsOfMethod : (m : MethodListEntry) → List ℕ → Type 0
-WriteListRowsOfMethod m r = r ≡ row_of_method m
+WriteListRowsOfMethod m result = result ≡ row_of_method m
 
 -- write_pieces::capped_sum
 abbrev pub WritePiecesCappedSum : (n : ℕ) (k : ℕ) → ℕ → Type 0
-WritePiecesCappedSum n k r = r ≡ min (n + k) 65536
+WritePiecesCappedSum n k result = result ≡ min (n + k) 65536
 
 -- write_pieces::measured
 abbrev pub WritePiecesMeasured : (text : List ℕ) (xs : List Piece) → Measure → Type 0
-WritePiecesMeasured text xs r = said_measure r ≡ then (pieces_of text xs) (λ bs. answered (min (length bs) 65536))
+WritePiecesMeasured text xs result = said_measure result ≡ then (pieces_of text xs) (λ bs. answered (min (length bs) 65536))
 
 -- write_pieces::write_plain
 abbrev pub WritePiecesWritePlain : (text : List ℕ) (xs : List Piece) (out : List ℕ) (at : ℕ) → WriteAnswer → List ℕ → Type 0
-WritePiecesWritePlain text xs out at r out' = Writes out (lay (limited (pieces_of text xs)) out at) (said_write r) out'
+WritePiecesWritePlain text xs out at result out' = Writes out (lay (limited (pieces_of text xs)) out at) (said_write result) out'
 
 -- write_pieces::write_filled
 abbrev pub WritePiecesWriteFilled : (text : List ℕ) (xs : List Piece) (out : List ℕ) (at : ℕ) → WriteAnswer → List ℕ → Type 0
-WritePiecesWriteFilled text xs out at r out' = Writes out (lay (limited (filled_each (pieces_of text xs))) out at) (said_write r) out'
+WritePiecesWriteFilled text xs out at result out' = Writes out (lay (limited (filled_each (pieces_of text xs))) out at) (said_write result) out'
 
 -- write_pieces::fields::two_bytes
 abbrev pub WritePiecesFieldsTwoBytes : (x : ℕ) → Piece → Type 0
-WritePiecesFieldsTwoBytes x r = (r ≡ half_piece x) × ((t : List ℕ) → piece_of t r ≡ fixed_bytes 2 x)
+WritePiecesFieldsTwoBytes x result = (result ≡ half_piece x) × ((t : List ℕ) → piece_of t result ≡ fixed_bytes 2 x)
 
 -- write_pieces::fields::natural
 abbrev pub WritePiecesFieldsNatural : (n : ℕ) → Piece → Type 0
-WritePiecesFieldsNatural n r = (r ≡ natural_piece n) × ((t : List ℕ) → piece_of t r ≡ numeric_bytes (pos n))
+WritePiecesFieldsNatural n result = (result ≡ natural_piece n) × ((t : List ℕ) → piece_of t result ≡ numeric_bytes (pos n))
 
 -- write_pieces::fields::unnamed
 abbrev pub WritePiecesFieldsUnnamed : Piece → Type 0
-WritePiecesFieldsUnnamed r = (r ≡ half_piece 0) × ((t : List ℕ) → piece_of t r ≡ answered (bytes_of_field 2 0))
+WritePiecesFieldsUnnamed result = (result ≡ half_piece 0) × ((t : List ℕ) → piece_of t result ≡ answered (bytes_of_field 2 0))

@@ -22,8 +22,8 @@ use Rattle.declare_type.specs.declared.node.Sized.TheVariants as sized
 use Rattle.declare_spelling.specs.Sizes.{primitive_size}
 use Rattle.declare_type.specs.Looked.{Seen, numbered, held, nothing, type_seen, list_seen}
 
-abbrev pub type_index : ℕ → TypeIndex
-type_index i = record { 0 = i }
+abbrev pub as_type_index : ℕ → TypeIndex
+as_type_index i = record { 0 = i }
 
 -- the values of a record: the leaf is the first, then those of its line in record_layout's table; a number, a type index, a size
 abbrev pub leaf_in : List Shown → ℕ
@@ -33,7 +33,7 @@ abbrev pub num : List Shown → ℕ → ℕ
 num vs k = number_in (nth k vs)
 
 abbrev pub type_in : List Shown → ℕ → TypeIndex
-type_in vs k = type_index (num vs k)
+type_in vs k = as_type_index (num vs k)
 
 abbrev natural : ℤ → ℕ
 natural (pos n) = n
@@ -150,4 +150,4 @@ or_zero (answered g) = g.value
 or_zero (refused n d) = 0
 
 unfoldable pub index_at : List ℕ → ℕ → TypeIndex
-index_at s p = type_index (or_zero (fixed_at 4 s p))
+index_at s p = as_type_index (or_zero (fixed_at 4 s p))

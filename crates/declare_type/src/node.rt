@@ -12,7 +12,7 @@ ghost use Rattle.record_layout.specs.Fields.{many, or_absent};
 ghost use Rattle.record_layout.specs.Values.{number_in};
 ghost use Rattle.record_data.specs.Said.{type_values};
 ghost use Rattle.declare_type.specs.Looked.{declared_leaves, list_leaves, as_primitive, by_leaf, bytes_seen, held, said_looked, record_seen, type_seen};
-ghost use Rattle.declare_type.specs.Nodes.{type_index, leaf_in, sized_in, sized_from, size_through, extent_of, name_in, pointer_quals, modifier_quals, node_in, node_of, list_by, list_of, index_at};
+ghost use Rattle.declare_type.specs.Nodes.{as_type_index, leaf_in, sized_in, sized_from, size_through, extent_of, name_in, pointer_quals, modifier_quals, node_in, node_of, list_by, list_of, index_at};
 ghost use Rattle.declare_type.specs.Inside.{HeldAt, HeldInside, ListInside};
 
 use answer::Refusal;
@@ -323,7 +323,7 @@ fn modifier_quals(w: ModifierFlags) -> Quals
 
 // An absent return is primitive 0.
 fn or_none(o: OptTypeIndex) -> TypeIndex
-    ensures { result ≡ type_index (number_in (or_absent (type_option o))) }
+    ensures { result ≡ as_type_index (number_in (or_absent (type_option o))) }
 {
     match o {
         OptTypeIndex::None => {

@@ -18,7 +18,7 @@ use Rattle.record_layout.specs.Layouts.{read_leaf, leaf_of, type_leaves}
 use Rattle.record_data.specs.declared.ClassKind.{ClassKind}
 use Rattle.record_data.specs.declared.ClassKind.TheVariants as kind
 use Rattle.record_data.specs.declared.ClassType.{ClassType}
-use Rattle.record_data.specs.Said.{said_containing, kind_leaf, kind_values, Plain, class_kinds, class_of, name_places, type_name}
+use Rattle.record_data.specs.Said.{said_containing, kind_leaf, kind_values, Plain, class_kinds, class_of, name_places, type_data_name}
 
 -- an optional type index, and the value that it is
 pub containing : (r : ReadOptType) → said_containing r ≡ and_then (said_opt_type r) (λ o q. got (or_absent o) q)
@@ -26,8 +26,8 @@ containing (rtype.Got t p) = refl
 containing rtype.Ended = refl
 
 -- the name of a class, whichever of the four leaves it was read from
-pub class-name : (k : ClassKind) (r : ClassType) → type_name (kind_values k r) ≡ many (part r.name)
-unfolding find name_places type_name
+pub class-name : (k : ClassKind) (r : ClassType) → type_data_name (kind_values k r) ≡ many (part r.name)
+unfolding find name_places type_data_name
 class-name kind.Class r = refl
 class-name kind.Struct r = refl
 class-name kind.Interface r = refl

@@ -116,5 +116,5 @@ name_by none vs = absent
 name_by (some k) vs = nth (suc k) vs
 
 -- the name of a type, by the leaf that its values begin with
-unfoldable pub type_name : List Shown → Shown
-type_name vs = name_by (find (number_in (nth 0 vs)) name_places) vs
+unfoldable pub type_data_name : List Shown → Shown
+type_data_name vs = name_by (find (number_in (nth 0 vs)) name_places) vs

@@ -1,13 +1,13 @@
 // The records of the TPI stream: the type leaves of document 01, by the names of the crate's data.rs, each read by its line of the table in
 // record_layout/specs/Layouts.antt. The members inside a field list are in record_member, the elements of lists in record_list.
 // tools/leaves writes the readers of plain records, and the tests of `type_data`.
-#![tactic(auto, using(crate::proofs::Used::laws), unfolding(answer::specs::Tables::find, crate::specs::Said::class_kinds, crate::specs::Said::name_places, crate::specs::Said::type_name, record_layout::specs::Fields::read_field_by, record_layout::specs::Fields::read_fields_by, record_layout::specs::Layouts::leaf_of, record_layout::specs::Layouts::read_leaf, record_layout::specs::Layouts::record_of, record_layout::specs::Layouts::type_leaves))]
+#![tactic(auto, using(crate::proofs::Used::laws), unfolding(answer::specs::Tables::find, crate::specs::Said::class_kinds, crate::specs::Said::name_places, crate::specs::Said::type_data_name, record_layout::specs::Fields::read_field_by, record_layout::specs::Fields::read_fields_by, record_layout::specs::Layouts::leaf_of, record_layout::specs::Layouts::read_leaf, record_layout::specs::Layouts::record_of, record_layout::specs::Layouts::type_leaves))]
 
 ghost use Rattle.std.specs.Prelude.{◌≡◌};
 ghost use Rattle.answer.specs.Tables.{find};
 ghost use Rattle.record_layout.specs.Fields.{read_field};
 ghost use Rattle.record_layout.specs.Layouts.{second_string, member_class, leaf_of, record_of, type_leaves};
-ghost use Rattle.record_data.specs.Said.{kind_leaf, Plain, class_kinds, kind_option, class_of, type_name, type_values, string_value, said_opt_string, said_containing, said_type_data};
+ghost use Rattle.record_data.specs.Said.{kind_leaf, Plain, class_kinds, kind_option, class_of, type_data_name, type_values, string_value, said_opt_string, said_containing, said_type_data};
 
 use answer::Refusal;
 use field::fixed::{Read8, Read16, Read32};
@@ -172,7 +172,7 @@ pub enum TypeAnswer {
 impl TypeData {
     // The name of a class, enumeration or union, as the crate gives it: that of an array is its record's own.
     pub fn name(self) -> OptString
-        ensures { string_value result ≡ type_name (type_values self) }
+        ensures { string_value result ≡ type_data_name (type_values self) }
     {
         match self {
             TypeData::Class(r) => {
