@@ -1,5 +1,5 @@
 -- A pointer that is declared has one of the five modes: its reader refuses another by 12. Assumes nothing.
-use Prim.Native.Nat.{ℕ, zero, suc, ◌+◌, ◌≤◌, ◌<◌}
+use Prim.Native.Nat.{ℕ, ◌+◌, ◌≤◌, ◌<◌}
 use native.Mathlib.Omega.{arith}
 use mathlib.Core.Bool.{Bool, true, false, false≢true}
 use mathlib.Core.Path.{◌≡◌, refl, sym, ◌∙◌}
@@ -8,7 +8,7 @@ use mathlib.Core.Option.{Option, none, some}
 use lib.ListN.{length, take, drop}
 use lib.Dec.{ltb, leb, eqb}
 use borrow.Author.Tests.{leb-true, leb-false, eqb-true, eqb-false}
-use Rattle.answer.specs.Answer.{Answer, answered, refused, Read, Got, got, and_then, pick, both}
+use Rattle.answer.specs.Answer.{Answer, answered, refused, Read, got, and_then, pick, both}
 use Rattle.answer.specs.Tables.{find, among}
 use Rattle.answer.specs.declared.Refusal.TheVariants as refusal
 use Rattle.field.specs.Fields.{fixed_at}
@@ -30,7 +30,6 @@ use Rattle.declare_type.specs.Looked.{Seen, numbered, held, nothing, declared_le
 use Rattle.declare_type.specs.Nodes.{leaf_in, num, classes, name_in, node_in, node_by, node_of}
 use Rattle.declare_type.specs.declared.node.Node.{Node}
 use Rattle.declare_type.specs.declared.node.Node.TheVariants as node
-use Rattle.claim_promises.specs.Given.{Given}
 use Rattle.claim_promises.proofs.ByTable.{both-second}
 use Rattle.claim_promises.proofs.GivenReading.{modes-12}
 

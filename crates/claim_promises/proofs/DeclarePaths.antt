@@ -1,11 +1,10 @@
 -- A walk is printed exactly if the type has a declaration, and stops exactly by what a visited type is refused by. Assumes nothing.
-use Prim.Native.Nat.{ℕ, zero, suc, ◌+◌, ◌*◌, ◌≤◌, ◌<◌}
+use Prim.Native.Nat.{ℕ, zero, suc, ◌+◌, ◌*◌, ◌<◌}
 use native.Mathlib.Omega.{arith}
 use mathlib.Core.Logic.{◌⊎◌, inl, inr}
 use mathlib.Core.Path.{◌≡◌, refl, ap, sym, ◌∙◌}
-use mathlib.Core.List.{List, [], ◌∷◌, ◌++◌}
+use mathlib.Core.List.{List, [], ◌++◌}
 use Rattle.answer.specs.declared.Refusal.{Refusal}
-use Rattle.answer.specs.declared.Refusal.TheVariants as refusal
 use Rattle.field.specs.declared.index.TypeIndex.{TypeIndex}
 use Rattle.stream_finder.specs.Finder.{State}
 use Rattle.declare_type.specs.Nodes.{node_of, list_of, index_at}
@@ -195,6 +194,7 @@ module _ (s : List ℕ) (σ : State) where
   base-prints d i (node.Refused e) h b a = absurd b
 
   pub printing : (d i : ℕ) → Prints s σ d i → (a : Around) → IsPrinted (walk s σ d i a)
+  printing zero i x' a = elim x' [ ]
   printing (suc d) i (base b) a = base-prints d i (node_of s σ i) refl b a
   printing (suc d) i (inward {j = j} h p) a = inside-prints d i j h (λ b. printing d j p b) a
   printing (suc d) i (call {p = p} {n = n} {j = j} h all r) a =

@@ -9,7 +9,7 @@ use mathlib.Core.Option.{Option, none, some}
 use lib.ListN.{length, take, drop}
 use lib.Dec.{ltb, leb, eqb}
 use borrow.Author.Tests.{lt-ltb, le-ltb, le-leb, ltb-true, ltb-false, leb-true, eqb-true}
-use Rattle.answer.specs.Answer.{Answer, answered, refused, Read, Got, got, and_then, pick, stop, both}
+use Rattle.answer.specs.Answer.{Answer, answered, refused, Read, Got, got, pick, stop, both}
 use Rattle.answer.specs.Tables.{Line, ◌is◌, find, among}
 use Rattle.answer.specs.Refusals.{number_of, details_of, no, Named, plain, one, two, refusals, with_details, in_table, listed}
 use Rattle.answer.proofs.OneOutcome.{in-table}
@@ -27,7 +27,7 @@ use Rattle.field.specs.declared.index.ItemIndex.TheVariants as index
 use Rattle.stream_item.specs.declared.Entry.{Entry}
 use Rattle.stream_item.specs.declared.Entry.TheVariants as entry
 use Rattle.stream_finder.specs.Finder.{State, Found, find_of}
-use Rattle.declare_type.specs.Looked.{Seen, numbered, held, nothing, or_ended, unread, declared_leaves, list_leaves, as_primitive, as_record, by_leaf, bytes_seen, entry_seen, found_seen, record_seen, type_seen, list_seen}
+use Rattle.declare_type.specs.Looked.{Seen, numbered, held, nothing, or_ended, declared_leaves, list_leaves, as_primitive, as_record, by_leaf, bytes_seen, entry_seen, found_seen, record_seen, type_seen, list_seen}
 use Rattle.declare_type.specs.Nodes.{leaf_in, num, index_at, classes, name_in, node_in, node_by, node_of, list_in, list_by, list_of}
 use Rattle.declare_type.specs.Inside.{ListInside}
 use Rattle.declare_type.proofs.NodeLaws.{list_inside}
@@ -46,7 +46,7 @@ use Rattle.declare_type.specs.declared.walk.Measured.{Measured}
 use Rattle.declare_type.specs.declared.walk.Measured.TheVariants as measured
 use Rattle.declare_type.specs.declared.DeclareAnswer.{DeclareAnswer}
 use Rattle.declare_type.specs.Declares.{text_in, declare_of, said_declare, text_length, text_buffer_after, Declares}
-use Rattle.claim_promises.specs.ByTable.{Links, fits, links_fit, By, gives, refuses}
+use Rattle.claim_promises.specs.ByTable.{Links, fits, links_fit, By, refuses}
 use Rattle.claim_promises.specs.Given.{by, Given}
 use Rattle.claim_promises.specs.DeclareWhen.{fixed_by, unlimited, TypeVisits, Fault, too_deep, its_own, its_lists, Meets, StopsBy, TooDeep, EntryOther, FoundOther, OtherLeaf, NotPrinted, other_leaf, no_list, other_list, OtherMet, HasRoom, DeclareWhen, Declined, long, full, met}
 use Rattle.claim_promises.proofs.ByTable.{within, among-within, both_first, both-second, wider}

@@ -1,22 +1,20 @@
 -- The numbers that `drop` is refused by; that it then leaves the buffer, and the table but after 30 and 19. Assumes nothing.
 use Prim.Native.Nat.{ℕ, suc}
 use mathlib.Core.Bool.{Bool, true, false, false≢true}
-use mathlib.Core.Path.{◌≡◌, refl, sym, ap, subst, ◌∙◌}
+use mathlib.Core.Path.{◌≡◌, refl, sym, subst, ◌∙◌}
 use mathlib.Core.List.{List, [], ◌∷◌}
 use mathlib.Core.Option.{Option, none, some}
 use lib.ListN.{length}
 use lib.Dec.{ltb, eqb}
 use borrow.Author.Tests.{eqb-true}
 use native.Mathlib.Omega.{arith}
-use Rattle.answer.specs.Answer.{Answer, answered, refused, pick}
+use Rattle.answer.specs.Answer.{Answer, refused, pick}
 use Rattle.answer.specs.Tables.{find, among}
 use Rattle.answer.specs.Refusals.{listed, in_table, refusals}
 use Rattle.field.specs.declared.index.Stream.TheVariants as stream
 use Rattle.field_put.specs.Bytes.{put}
-use Rattle.stream_header.specs.Header.{header_of}
 use Rattle.stream_header.specs.declared.Header.{Header}
-use Rattle.stream_item.specs.Iterator.{iter_of}
-use Rattle.stream_fit.specs.Fit.{Verdict, fit, unfit, fit_of}
+use Rattle.stream_fit.specs.Fit.{Verdict, fit, unfit}
 use Rattle.stream_prune.specs.Links.{payloads_from}
 use Rattle.stream_prune.specs.Pruned.{numbers, new_stream}
 use Rattle.stream_prune.specs.Dropped.{marks_of}

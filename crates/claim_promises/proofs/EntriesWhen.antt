@@ -19,19 +19,18 @@ use Rattle.field.specs.declared.index.ItemIndex.TheVariants as index
 use Rattle.word_primitive.specs.Primitive.{primitive_of}
 use Rattle.word_primitive.specs.declared.PrimitiveType.{PrimitiveType}
 use Rattle.stream_item.specs.Items.{index_of}
-use Rattle.stream_item.specs.Iterator.{Next, done, next_of}
+use Rattle.stream_item.specs.Iterator.{done, next_of}
 use Rattle.stream_item.specs.declared.Item.{Item}
 use Rattle.stream_item.specs.declared.Entry.{Entry}
 use Rattle.stream_item.specs.declared.Entry.TheVariants as entry
 use Rattle.stream_item.specs.declared.iter.ItemIter.{ItemIter}
-use Rattle.stream_view.specs.Views.{part_of, stream_named, short_of, view_of, raw_kind_of}
+use Rattle.stream_view.specs.Views.{part_of, stream_named, short_of, view_of}
 use Rattle.stream_finder.specs.Finder.{State}
 use Rattle.stream_index.specs.Walk.{over, updating, turn_of}
 use Rattle.record_layout.specs.Fields.{Shown}
 use Rattle.record_layout.specs.Layouts.{Table, type_leaves, id_leaves, record_of}
 use Rattle.record_parse.specs.Record.{Parsed, primitive, payload_at, numbered_of, type_bytes, id_bytes, type_item, type_marker, item_of, marker_of, entry_of as parsed_of, parse_of}
 use Rattle.section_read.specs.Readers.{sorted_of, read_of}
-use Rattle.claim_promises.specs.ByTable.{Refuses}
 use Rattle.claim_promises.specs.Given.{by, Given}
 use Rattle.claim_promises.specs.ExactlyWhen.{Short}
 use Rattle.claim_promises.specs.RecordsWhen.{CutField, BadField, FailingField, AtLeaf}

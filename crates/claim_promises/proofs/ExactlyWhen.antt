@@ -1,16 +1,16 @@
 -- Each number of document 01's table is given exactly when the table says. Assumes nothing.
-use Prim.Native.Nat.{ℕ, ◌+◌, ◌≤◌, ◌<◌}
+use Prim.Native.Nat.{ℕ, ◌≤◌, ◌<◌}
 use mathlib.Core.Path.{◌≡◌, refl, sym, ap, ◌∙◌}
 use mathlib.Core.Logic.{◌⊎◌}
 use mathlib.Core.List.{List, [], ◌∷◌}
 use mathlib.Core.Option.{some}
 use lib.ListN.{length}
-use Rattle.answer.specs.Answer.{Answer, answered, refused, then, got}
+use Rattle.answer.specs.Answer.{answered, refused, then, got}
 use Rattle.answer.specs.Tables.{find, among}
 use Rattle.field.specs.Fields.{little_at}
 use Rattle.field.proofs.FieldLaws.{field-there}
 use Rattle.stream_header.specs.Header.{longest}
-use Rattle.stream_item.specs.Iterator.{Next, yielded, next_of}
+use Rattle.stream_item.specs.Iterator.{yielded, next_of}
 use Rattle.stream_item.specs.declared.Item.{Item}
 use Rattle.stream_item.specs.declared.Entry.{Entry}
 use Rattle.stream_item.specs.declared.iter.ItemIter.{ItemIter}
@@ -22,10 +22,10 @@ use Rattle.record_list.specs.Lists.{step_of, element_by}
 use Rattle.record_list.specs.declared.ListCursor.{ListCursor}
 use Rattle.record_list.proofs.ListLaws.{element-next, element-refused}
 use Rattle.record_parse.specs.Record.{entry_of as parsed_of, parse_of}
-use Rattle.claim_promises.specs.Given.{by, Given, refusal_of}
+use Rattle.claim_promises.specs.Given.{Given, refusal_of}
 use Rattle.claim_promises.specs.ExactlyWhen.{ExactlyWhen}
 use Rattle.claim_promises.proofs.Given.{not-by, carried}
-use Rattle.claim_promises.proofs.StreamRefuses.{of_items, parsed-refuses}
+use Rattle.claim_promises.proofs.StreamRefuses.{parsed-refuses}
 use Rattle.claim_promises.proofs.GivenStreams as streams
 use Rattle.claim_promises.proofs.GivenReading as reading
 

@@ -7,28 +7,25 @@ use mathlib.Core.List.{List, [], ◌∷◌}
 use mathlib.Core.Option.{none}
 use native.Mathlib.Omega.{arith}
 use lib.ListN.{length}
-use lib.Dec.{eqb, ltb, leb}
+use lib.Dec.{eqb, leb}
 use borrow.Author.Tests.{leb-true, leb-false, eqb-true, eqb-false, lt-leb, ne_eqb, eq-eqb}
-use Rattle.answer.specs.Answer.{Answer, answered, refused, pick, stop, then}
+use Rattle.answer.specs.Answer.{Answer, answered, refused, pick, then}
 use Rattle.answer.specs.Tables.{find, among}
 use Rattle.field.specs.Fields.{little_at, fixed_at}
-use Rattle.field.proofs.FieldLaws.{There, field-there, field-got}
-use Rattle.field_text.specs.Texts.{padding_after}
+use Rattle.field.proofs.FieldLaws.{field-there, field-got}
 use Rattle.field.specs.declared.index.Stream.{Stream}
 use Rattle.field.specs.declared.index.Stream.TheVariants as stream
-use Rattle.record_layout.specs.Fields.{Field, id, Elements, types, ids, run_bytes, word, run, read_field, read_fields, Shown, read_field_by, read_fields_by}
-use Rattle.record_layout.specs.Layouts.{always, type_index, Layout, type_leaves, member_leaves, method, id_leaves, read_record}
+use Rattle.record_layout.specs.Fields.{Field, id, Elements, types, ids, run_bytes, word, run, read_field, read_fields, Shown, read_fields_by}
+use Rattle.record_layout.specs.Layouts.{always, type_index, type_leaves, member_leaves, method, id_leaves, read_record}
 use Rattle.record_list.specs.Lists.{ElementValues, type_element, id_element, Step, counted_by, counted_list, start_types, start_ids, start_of, counted_step, method_step, member_step, next_member, step_of, element_by, element_of}
 use Rattle.record_list.specs.declared.ListCursor.{ListCursor}
 use Rattle.record_list.proofs.ListLaws.{element-refused}
-use Rattle.claim_promises.specs.ByTable.{Refuses}
 use Rattle.claim_promises.specs.Given.{by, Given}
-use Rattle.claim_promises.specs.ExactlyWhen.{PadsPast, AtEnd}
 use Rattle.claim_promises.specs.RecordsWhen.{CutField, BadField, AtField, AtLeaf}
 use Rattle.claim_promises.specs.ListsWhen.{Counted, NoList, behind_pads, place_in, member_place, Before, AtMember, CutMember, CutElement, UnknownMember, leaf_met, BadElement, NoElement, StepsLed, stay, step, OnTheWay, FromStart}
 use Rattle.claim_promises.proofs.ByTable.{within}
 use Rattle.claim_promises.proofs.Given.{off, at-stop, at-pick, at-then, not-by, denied}
-use Rattle.claim_promises.proofs.ReadingRefuses.{fixed-refuses, padding-refuses, fields-refuse, TakesAll, no_more, ◌&◌, method-takes}
+use Rattle.claim_promises.proofs.ReadingRefuses.{padding-refuses, fields-refuse, TakesAll, no_more, ◌&◌, method-takes}
 use Rattle.claim_promises.proofs.StreamRefuses.{start-refuses}
 use Rattle.claim_promises.proofs.GivenReading as reading
 use Rattle.claim_promises.proofs.GivenRecords as records

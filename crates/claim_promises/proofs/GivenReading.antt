@@ -11,12 +11,12 @@ use lib.Seq.{get_or-drop}
 use lib.Dec.{eqb, ltb, leb}
 use lib.IntN.{ℤ, pos, negsuc}
 use borrow.Author.Tests.{ltb-true, ltb-false, leb-true, leb-false, eqb-true, eqb-false, lt-ltb, le-ltb, le-leb, lt-leb, eq-eqb, ne_eqb}
-use Rattle.answer.specs.Answer.{Answer, answered, refused, pick, stop, both, then, Read, Got, got, ended}
+use Rattle.answer.specs.Answer.{Answer, answered, refused, pick, stop, both, then, Read, got}
 use Rattle.answer.specs.Tables.{Line, ◌is◌, find, among}
-use Rattle.field.specs.Fields.{little_at, fixed_at, signed_at, twos}
-use Rattle.field.specs.Indices.{optional_of, optional_at}
+use Rattle.field.specs.Fields.{little_at, fixed_at, signed_at}
+use Rattle.field.specs.Indices.{optional_at}
 use Rattle.field.specs.Runs.{bytes_after}
-use Rattle.field.proofs.FieldLaws.{There, field-there, field-got}
+use Rattle.field.proofs.FieldLaws.{field-there, field-got}
 use Rattle.field_text.specs.Texts.{to_zero, part_or, string_at, counted_string_at, more, pad, padding_after}
 use Rattle.field_text.proofs.PadLaws.{pad-end, pad-stop, pad-more, pad-cut}
 use Rattle.field_number.specs.Numbers.{Wide, signed, unsigned, prefixes, unsigned_at, wide_at, numeric_at, natural, size_at}
@@ -180,9 +180,11 @@ number-11 s p = record {
 }
 
 negative : (a : Read ℤ) → Negative a → then a (λ g. natural g.value g.next) ≡ refused 11 []
+negative (refused _ _) n = elim n [ ]
 negative (answered g) n = go g.value n
   where
     go : (z : ℤ) → Below z → natural z g.next ≡ refused 11 []
+    go (pos _) n = elim n [ ]
     go (negsuc k) n = refl
 
 below : (z : ℤ) (q : ℕ) → by 11 (natural z q) ≡ true → Below z
@@ -542,6 +544,7 @@ module _ (s : List ℕ) (c : ListCursor) where
   pads-15 = at-pick 15 c.padded _ _ (λ _. denied 15 refl (padding-refuses s c.at)) (λ _. off)
 
   ends-15 : (a : Answer ℕ) → NoMoreMembers s a → then a (member_step s) ≡ refused 15 []
+  ends-15 (refused _ _) h = elim h [ ]
   ends-15 (answered q) h = (member-step-15 q).when h
 
   pub members-15 : c.leaf ≡ 0x1203 → Given 15 [] (step_of s c) ((c.left ≡ 0) ⊎ AtEnd s c)

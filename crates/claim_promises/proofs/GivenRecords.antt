@@ -1,5 +1,5 @@
 -- When numbers, fields, layouts and records are refused by which number. Assumes nothing.
-use Prim.Native.Nat.{ℕ, suc, ◌+◌, ◌*◌, ◌≤◌, ◌<◌}
+use Prim.Native.Nat.{ℕ, ◌+◌, ◌≤◌, ◌<◌}
 use mathlib.Core.Bool.{Bool, true, false}
 use mathlib.Core.Path.{◌≡◌, refl, sym, ap, ◌∙◌}
 use mathlib.Core.Logic.{◌⊎◌, inl, inr}
@@ -9,13 +9,12 @@ use native.Mathlib.Omega.{arith}
 use lib.ListN.{length}
 use lib.Dec.{eqb, ltb, leb}
 use lib.IntN.{ℤ, pos, negsuc}
-use borrow.Author.Tests.{ltb-true, ltb-false, leb-true, leb-false, le-ltb, lt-ltb, le-leb, lt-leb, ne_eqb}
-use Rattle.answer.specs.Answer.{Answer, answered, refused, pick, stop, then, Got, Read, got}
-use Rattle.answer.specs.Tables.{Line, ◌is◌, find, among}
-use Rattle.field.specs.Fields.{little_at, fixed_at, signed_at}
-use Rattle.field.specs.Indices.{no_type, no_id, optional_at}
-use Rattle.field.specs.Runs.{bytes_after}
-use Rattle.field.proofs.FieldLaws.{There, field-there, field-got}
+use borrow.Author.Tests.{ltb-true, leb-true, leb-false, le-leb, lt-leb, ne_eqb}
+use Rattle.answer.specs.Answer.{Answer, answered, refused, pick, then, Got, Read}
+use Rattle.answer.specs.Tables.{find, among}
+use Rattle.field.specs.Fields.{little_at, fixed_at}
+use Rattle.field.specs.Indices.{no_type, no_id}
+use Rattle.field.proofs.FieldLaws.{field-there, field-got}
 use Rattle.field_text.specs.Texts.{string_at, counted_string_at, string_of}
 use Rattle.field_number.specs.Numbers.{Wide, signed, unsigned, prefixes, unsigned_at, wide_at, numeric_at, natural, size_at}
 use Rattle.field_number.specs.Forms.{numeral_by, numeral_at, sized_by, sized_at}
@@ -23,9 +22,9 @@ use Rattle.record_layout.specs.Fields.{Field, fixed, type, id, string_reference,
 use Rattle.record_layout.specs.Layouts.{Layout, Table, by_layout, read_leaf, read_record, leaf_of, record_of}
 use Rattle.claim_promises.specs.ByTable.{Refuses}
 use Rattle.claim_promises.specs.Given.{by, Given}
-use Rattle.claim_promises.specs.ExactlyWhen.{NoZero, Below, Negative}
+use Rattle.claim_promises.specs.ExactlyWhen.{NoZero, Negative}
 use Rattle.claim_promises.specs.RecordsWhen.{wide_bytes, CutNumber, UnknownPrefix, CutField, BadField, FailingField, FieldReached, here, next, AtField, AtLeaf}
-use Rattle.claim_promises.proofs.Given.{off, at-stop, at-pick, at-then, denied, given-then}
+use Rattle.claim_promises.proofs.Given.{off, at-pick, at-then, denied, given-then}
 use Rattle.claim_promises.proofs.ReadingRefuses.{fixed-refuses, optional-refuses, string-refuses, bytes-refuses, numeral-refuses, sized-refuses}
 use Rattle.claim_promises.proofs.GivenReading as reading
 

@@ -1,23 +1,22 @@
 -- When headers, iterators, views and finders are refused by which number. One way each number comes from the laws of its outcomes; the other way each
 -- definition is gone through once, from its first test to its last, with a way out at each. Assumes nothing.
-use Prim.Native.Nat.{ℕ, ◌+◌, ◌-◌, ◌/◌, ◌%◌, ◌≤◌, ◌<◌}
+use Prim.Native.Nat.{ℕ, ◌+◌, ◌≤◌, ◌<◌}
 use mathlib.Core.Bool.{Bool, true, false}
 use mathlib.Core.Path.{◌≡◌, refl, sym, ap, ◌∙◌}
 use mathlib.Core.Logic.{◌⊎◌, inl, inr}
 use mathlib.Core.List.{List, [], ◌∷◌}
 use native.Mathlib.Omega.{arith}
-use lib.ListN.{length, get_or}
+use lib.ListN.{length}
 use lib.Dec.{eqb, ltb, leb}
 use borrow.Author.Tests.{ltb-true, ltb-false, leb-true, leb-false, eqb-true, eqb-false, lt-ltb, le-ltb}
-use Rattle.answer.specs.Answer.{Answer, answered, refused, pick, stop, both, then}
+use Rattle.answer.specs.Answer.{Answer, answered, refused, stop, both}
 use Rattle.field.specs.Fields.{little_at}
 use Rattle.field_text.specs.Texts.{Part}
-use Rattle.stream_header.specs.Header.{longest, zero_header, fields_of, header_of}
+use Rattle.stream_header.specs.Header.{longest, fields_of, header_of}
 use Rattle.stream_header.specs.declared.Header.{Header}
 use Rattle.stream_header.proofs.HeaderLaws.{There, Sized, header-long, header-cut, header-small, header-large, header-past, minimum-low, maximum-low}
 use Rattle.field.specs.Indices.{index_number}
-use Rattle.stream_item.specs.Links.{link_of}
-use Rattle.stream_item.specs.Iterator.{iter_of, Next, done, over_record, next_of}
+use Rattle.stream_item.specs.Iterator.{iter_of, next_of}
 use Rattle.stream_item.specs.Information.{len_of, is_empty_of}
 use Rattle.field.specs.declared.index.Stream.{Stream}
 use Rattle.stream_item.specs.declared.Item.{Item}
@@ -29,13 +28,12 @@ use Rattle.stream_item.specs.declared.link.Hit.{Hit}
 use Rattle.stream_item.specs.declared.link.Hit.TheVariants.{Landed, Missed}
 use Rattle.stream_item.proofs.NextLaws.{next-long, next_past, next-length, next-short, next-payload, next-used}
 use Rattle.stream_view.specs.Views.{part_of, stream_named, short_of, entry_part, view_of, kind_at, entry_kind, raw_kind_of}
-use Rattle.stream_finder.specs.Finder.{State, block_of, distance, begun_by, create_by, due, stored, update_of, landed, max_index_of, look_of, Found, find_of}
+use Rattle.stream_finder.specs.Finder.{State, begun_by, create_by, due, update_of, landed, max_index_of, look_of, find_of}
 use Rattle.stream_finder.specs.Places.{Ready}
 use Rattle.stream_finder.proofs.FinderLaws.{begun-shift, begun-full, create-is, Open, update-long, update-shift, update-claims, update-foreign, update-full, due-yes, find-long, find-shift, find-claims, find-above, find-unheld, find-held}
-use Rattle.record_parse.specs.Record.{Parsed, entry_of as parsed_of, parse_of}
 use Rattle.claim_promises.specs.Given.{by, Given, refusal_of}
 use Rattle.claim_promises.specs.ExactlyWhen.{length_at, Short, Usable, InBounds, block, links_skipped, walked, LinkBreaks, broke_after, Due}
-use Rattle.claim_promises.proofs.Given.{off, at-stop, at-pick, at-then, carried}
+use Rattle.claim_promises.proofs.Given.{off, at-stop, at-pick, carried}
 
 -- ---- headers
 
@@ -419,6 +417,7 @@ module _ (s : List ℕ) (σ : State) (i : ItemIndex) where
   }
 
   breaks : (h : Hit) → LinkBreaks h → landed i (links_skipped σ (index_number i)) h ≡ refused 1 (broke_after h ∷ [])
+  breaks (Landed _ _) b = elim b [ ]
   breaks (Missed j) b = refl
 
   broke : (h : Hit) → by 1 (landed i (links_skipped σ (index_number i)) h) ≡ true → LinkBreaks h

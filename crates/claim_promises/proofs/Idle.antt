@@ -1,12 +1,12 @@
 -- What ExactlyWhen, RecordsWhen and ListsWhen deny: definitions that refuse everything, by numbers that the table has, as Demand1 would let them. Assumes
 -- nothing.
-use Prim.Native.Nat.{ℕ, ◌+◌, ◌/◌, ◌%◌, ◌^◌, ◌≤◌, ◌<◌}
+use Prim.Native.Nat.{ℕ, ◌/◌, ◌%◌, ◌^◌, ◌≤◌, ◌<◌}
 use mathlib.Core.Path.{◌≡◌, refl}
 use mathlib.Core.Logic.{◌⊎◌, inl, inr}
 use mathlib.Core.List.{List, [], ◌∷◌}
 use mathlib.Core.Option.{Option, none, some}
 use native.Mathlib.Omega.{arith}
-use lib.ListN.{length, get_or}
+use lib.ListN.{length}
 use lib.IntN.{ℤ}
 use Rattle.answer.specs.Answer.{Answer, refused, Read}
 use Rattle.answer.specs.Tables.{find, among}
@@ -19,14 +19,13 @@ use Rattle.field.specs.Fields.{little_at}
 use Rattle.field_number.specs.Numbers.{prefixes}
 use Rattle.field_number.specs.Forms.{Form, Numeral}
 use Rattle.record_layout.specs.Fields.{Shown}
-use Rattle.record_layout.specs.Layouts.{Layout, Table}
+use Rattle.record_layout.specs.Layouts.{Table}
 use Rattle.record_list.specs.Lists.{Step, in_counted}
 use Rattle.record_list.specs.declared.ListCursor.{ListCursor}
 use Rattle.claim_promises.specs.ByTable.{Refuses, fits, refuses}
 use Rattle.claim_promises.specs.Given.{Given}
-use Rattle.claim_promises.specs.RecordsWhen.{wide_bytes, CutNumber, CutField, AtLeaf}
+use Rattle.claim_promises.specs.RecordsWhen.{CutNumber, CutField, AtLeaf}
 use Rattle.claim_promises.specs.ListsWhen.{NoElement}
-use Rattle.claim_promises.proofs.Given.{off}
 
 -- every stream is too long; every primitive is not found
 abbrev idle_header : List ℕ → Answer Header

@@ -1,5 +1,5 @@
 -- A stream indexed whole: its walk is one of R-11's, and it meets the premises of demand 3. Assumes nothing.
-use Prim.Native.Nat.{ℕ, zero, suc, ◌+◌, ◌-◌, ◌/◌, ◌^◌, ◌≤◌, ◌<◌}
+use Prim.Native.Nat.{ℕ, zero, suc, ◌+◌, ◌/◌, ◌^◌, ◌≤◌, ◌<◌}
 use mathlib.Core.Path.{◌≡◌, refl, sym, ap, subst, ◌∙◌}
 use mathlib.Core.List.{List, [], ◌∷◌}
 use native.Mathlib.Omega.{arith}
@@ -8,22 +8,21 @@ use lib.Dec.{ltb}
 use borrow.Author.Tests.{ltb-false}
 use Rattle.answer.specs.Answer.{Answer, answered}
 use Rattle.field.specs.Fields.{little_at}
-use Rattle.field.specs.Indices.{index_in}
 use Rattle.field.specs.declared.index.Stream.{Stream}
 use Rattle.field.specs.declared.index.Stream.TheVariants.{Types}
-use Rattle.field_put.specs.Bytes.{put, Octets}
+use Rattle.field_put.specs.Bytes.{put}
 use Rattle.stream_header.specs.Header.{header_of, fields_of}
 use Rattle.stream_header.specs.Examples.{stream_e}
 use Rattle.stream_header.specs.declared.Header.{Header}
-use Rattle.stream_item.specs.Iterator.{iter_of, yielded, next_of}
+use Rattle.stream_item.specs.Iterator.{iter_of, next_of}
 use Rattle.stream_item.specs.declared.iter.ItemIter.{ItemIter}
 use Rattle.stream_item.proofs.NextLaws.{Yields, yields, passed}
 use Rattle.stream_item.proofs.Examples.{cursor}
 use Rattle.stream_finder.specs.Finder.{State, state, header_records, begun_in, begun_by, create_by, update_of, after}
 use Rattle.stream_finder.specs.declared.ItemFinder.{ItemFinder}
-use Rattle.stream_finder.specs.Demand.{Premises, looked, Demand3By, Demand3Every, NotIndexedBy, NotIndexedEvery}
+use Rattle.stream_finder.specs.Demand.{Premises, Demand3By, Demand3Every, NotIndexedBy, NotIndexedEvery}
 use Rattle.stream_finder.specs.Shared.{Roamed, begun, called, Updated, untouched, by, Serves, SharedBy, Shared}
-use Rattle.stream_finder.specs.OfRecords.{iter_after, start_in}
+use Rattle.stream_finder.specs.OfRecords.{iter_after}
 use Rattle.stream_finder.proofs.DemandProof.{created-in, fresh-iter, demand3-every, not-indexed-every}
 use Rattle.stream_finder.proofs.SharedProof.{shared}
 use Rattle.stream_finder.proofs.Examples.{finder_to}

@@ -4,8 +4,6 @@ use mathlib.Core.Path.{◌≡◌, refl, sym, ◌∙◌}
 use mathlib.Core.List.{List}
 use native.Mathlib.Omega.{arith}
 use Rattle.answer.specs.Answer.{Answer, answered, refused}
-use Rattle.field.specs.declared.index.Stream.{Stream}
-use Rattle.stream_item.specs.declared.iter.ItemIter.{ItemIter}
 use Rattle.stream_finder.specs.Finder.{State, said_finder, finder_of, table_after, Fills, after}
 use Rattle.stream_finder.specs.Lent.{said_update, outcome, Changes}
 use Rattle.stream_finder.specs.declared.FinderAnswer.{FinderAnswer}

@@ -1,5 +1,5 @@
 -- Successive writes into one buffer leave the bytes of all of them, one behind the other. Assumes nothing.
-use Prim.Native.Nat.{ℕ, suc, ◌+◌, ◌≤◌, ◌<◌}
+use Prim.Native.Nat.{ℕ, suc, ◌+◌, ◌≤◌}
 use native.Mathlib.Omega.{arith}
 use mathlib.Core.Bool.{Bool, true, false}
 use mathlib.Core.Path.{◌≡◌, refl, sym, ap, subst, ◌∙◌}
@@ -9,15 +9,12 @@ use lib.Seq.{take_at, drop_at}
 use lib.Dec.{ltb}
 use borrow.Author.Tests.{ltb-false}
 use Rattle.answer.specs.Answer.{Answer, answered, refused, stop, then}
-use Rattle.field.specs.declared.index.Stream.{Stream}
 use Rattle.field_put.specs.Bytes.{put}
 use Rattle.field_put.proofs.PutLaws.{put_is, put-none, put-put, length-put}
-use Rattle.stream_header.specs.Header.{longest}
-use Rattle.stream_header.specs.declared.Header.{Header}
 use Rattle.stream_item.specs.Iterator.{iter_of}
 use Rattle.write_layout.specs.Fields.{Encoded}
 use Rattle.write_layout.specs.Buffer.{Written, lay}
-use Rattle.write_header.specs.Headers.{header_bytes, Narrow}
+use Rattle.write_header.specs.Headers.{header_bytes}
 use Rattle.write_header.specs.Streams as streams
 use Rattle.write_header.specs.Streams.{WrittenAs, AllWritten, in_order, behind_length, start, HasPayloads}
 use Rattle.write_header.proofs.StreamWalks.{stream-walks}

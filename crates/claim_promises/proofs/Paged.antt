@@ -1,19 +1,18 @@
 -- The tally of a section: its finder has 4096 for its minimum, and keeps it and its shift through every update. Assumes nothing.
 use Prim.Native.Nat.{ℕ, zero, suc}
 use native.Mathlib.Omega.{arith}
-use mathlib.Core.Path.{◌≡◌, refl, ap, subst, ◌∙◌, sym}
+use mathlib.Core.Path.{◌≡◌, ap, subst}
 use mathlib.Core.List.{List}
 use Rattle.answer.specs.Answer.{Answer, answered, refused, then}
 use Rattle.field.specs.declared.index.Stream.TheVariants.{Types}
 use Rattle.stream_item.specs.declared.iter.ItemIter.{ItemIter}
-use Rattle.stream_finder.specs.Finder.{State, state, begun_in, update_of, after}
+use Rattle.stream_finder.specs.Finder.{State, state, begun_in, after}
 use Rattle.stream_finder.specs.OfRecords.{UpdatedIn, untouched, by}
 use Rattle.stream_finder.specs.declared.Records.{Records}
 use Rattle.stream_index.specs.Walk.{Turns, none, more}
-use Rattle.stream_index.specs.declared.Tour.{Tour}
 use Rattle.stream_index.proofs.WalkLaws.{Moves, turn-back}
 use Rattle.section_item.specs.Sections.{first, count_of}
-use Rattle.section_finder.specs.Finders.{section_records, section_create_by, SectionWholeBy}
+use Rattle.section_finder.specs.Finders.{section_records, section_create_by}
 use Rattle.pane.proofs.TallyProof.{Kept, tallied, update-kept, begun_kept}
 use Rattle.claim_promises.specs.Paged.{SectionTally}
 

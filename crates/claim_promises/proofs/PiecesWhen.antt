@@ -2,12 +2,12 @@
 use Prim.Native.Nat.{ℕ, ◌+◌, ◌≤◌, ◌<◌}
 use native.Mathlib.Omega.{arith}
 use mathlib.Core.Bool.{Bool, true, false}
-use mathlib.Core.Path.{◌≡◌, refl, sym, ap, ◌∙◌}
-use mathlib.Core.List.{List, [], ◌∷◌, ◌++◌}
+use mathlib.Core.Path.{◌≡◌, refl, sym, ◌∙◌}
+use mathlib.Core.List.{List, [], ◌++◌}
 use lib.ListN.{length}
 use lib.Dec.{ltb, eqb}
 use borrow.Author.Tests.{ltb-true, ltb-false, lt-ltb, le-ltb}
-use Rattle.answer.specs.Answer.{Answer, answered, refused, pick, stop, then}
+use Rattle.answer.specs.Answer.{Answer, answered, stop}
 use Rattle.field.specs.Bytes.{bytes}
 use Rattle.write_layout.specs.Fields.{Encoded, bad, only}
 use Rattle.write_layout.specs.Records.{filled, record_bytes, limited}

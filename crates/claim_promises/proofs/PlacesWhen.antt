@@ -7,8 +7,8 @@ use mathlib.Core.Logic.{◌⊎◌, inl, inr}
 use mathlib.Core.List.{List, [], ◌∷◌}
 use lib.ListN.{length, get_or}
 use lib.Dec.{ltb, eqb}
-use borrow.Author.Tests.{ltb-true, ltb-false, lt-ltb, eqb-true, eqb-false, eq-eqb, ne_eqb, not-true, not-false}
-use Rattle.answer.specs.Answer.{Answer, answered, refused, both, stop, then}
+use borrow.Author.Tests.{ltb-true, ltb-false, lt-ltb, eqb-true, eqb-false, eq-eqb, not-true, not-false}
+use Rattle.answer.specs.Answer.{Answer, answered, refused, both, stop}
 use Rattle.answer.specs.Tables.{among}
 use Rattle.field.specs.Fields.{little_at}
 use Rattle.stream_header.specs.Header.{header_of}
@@ -19,11 +19,11 @@ use Rattle.stream_finder.specs.Finder.{State, state, holding}
 use Rattle.stream_places.specs.File.{FileForm, trailer_size, words_at, trailer_at, spells, checked, trailer_by}
 use Rattle.stream_places.specs.Places.{on_chain, file_of, load_for, load_by, save_for, save_by}
 use Rattle.stream_places.specs.declared.trailer.Trailer.{Trailer}
-use Rattle.stream_places.proofs.FileLaws.{length-words, trailer-by, checked-right, Trailed, trailed}
+use Rattle.stream_places.proofs.FileLaws.{length-words, trailer-by, checked-right, trailed}
 use Rattle.stream_places.proofs.BackLaws.{words-get}
 use Rattle.stream_places.proofs.PlacesLaws.{Ours, load-header, load-trailer, load-lacks, load-minimum, load-maximum, load-bytes, load-start, load_full, load-off, load-done, Bounds, save-header, save-minimum, save-maximum, save-shift, save-claims, save-many, save-room, save-done}
 use Rattle.stream_places.proofs.ChainLaws.{Chained, chained, unchained}
-use Rattle.claim_promises.specs.ByTable.{Refuses, By, gives, refuses, fits}
+use Rattle.claim_promises.specs.ByTable.{Refuses}
 use Rattle.claim_promises.specs.Given.{by, Given, RefusedAs}
 use Rattle.claim_promises.specs.PlacesWhen.{count_in, Right, RightFor, MadeFor, Onward, Bounded, PlacesWhen}
 use Rattle.claim_promises.proofs.Given.{off, at-stop, at-then, denied, apart, as_first}

@@ -7,8 +7,8 @@ use mathlib.Core.Option.{Option, none, some}
 use lib.ListN.{length, drop}
 use lib.Dec.{leb, ltb, eqb}
 use lib.IntN.{ℤ, pos, negsuc}
-use Rattle.answer.specs.Answer.{Answer, answered, refused, pick, both, Got, Read}
-use Rattle.answer.specs.Tables.{Line, ◌is◌, find, among}
+use Rattle.answer.specs.Answer.{Answer, refused, pick, both}
+use Rattle.answer.specs.Tables.{◌is◌, find, among}
 use Rattle.answer.specs.Refusals.{listed, in_table, refusals}
 use Rattle.field.specs.Fields.{fixed_at, signed_at}
 use Rattle.field.specs.Indices.{no_type, no_id, optional_at}

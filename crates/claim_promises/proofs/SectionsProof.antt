@@ -1,13 +1,13 @@
 -- The numbers of R-6. Assumes nothing.
-use Prim.Native.Nat.{ℕ, zero, suc, ◌+◌, ◌-◌, ◌≤◌, ◌<◌}
+use Prim.Native.Nat.{ℕ, zero, suc, ◌+◌, ◌≤◌, ◌<◌}
 use native.Mathlib.Omega.{arith}
-use mathlib.Core.Bool.{Bool, true, false}
+use mathlib.Core.Bool.{true}
 use mathlib.Core.Path.{◌≡◌, refl, sym, ap, ◌∙◌}
 use mathlib.Core.List.{List, [], ◌∷◌}
 use lib.ListN.{length}
-use lib.Dec.{leb, ltb, eqb}
-use borrow.Author.Tests.{ltb-true, ltb-false, lt-ltb, le-ltb, leb-true, eqb-true, eqb-false}
-use Rattle.answer.specs.Answer.{Answer, answered, refused, pick, stop, then}
+use lib.Dec.{ltb, eqb}
+use borrow.Author.Tests.{ltb-true, ltb-false, lt-ltb, eqb-false}
+use Rattle.answer.specs.Answer.{Answer, answered, refused, stop}
 use Rattle.answer.specs.Tables.{find, among}
 use Rattle.answer.specs.Refusals.{listed, in_table, refusals}
 use Rattle.field.specs.Fields.{little_at}
@@ -15,8 +15,8 @@ use Rattle.stream_header.specs.Header.{longest}
 use Rattle.stream_item.specs.Iterator.{Next, done, yielded, next_of}
 use Rattle.stream_item.specs.declared.Entry.{Entry}
 use Rattle.stream_item.specs.declared.iter.ItemIter.{ItemIter}
-use Rattle.stream_finder.specs.Finder.{State, begun_in}
-use Rattle.section_item.specs.Sections.{first, section_start, section_on, walk_by, last_of, count_of}
+use Rattle.stream_finder.specs.Finder.{begun_in}
+use Rattle.section_item.specs.Sections.{section_start, section_on, walk_by, last_of, count_of}
 use Rattle.section_item.proofs.SectionLaws.{start-long, start-short, start-signature, start_first, count-refused, counted}
 use Rattle.section_finder.specs.Finders.{section_records, section_create_by}
 use Rattle.section_finder.proofs.FinderLaws.{create-is}
@@ -27,7 +27,7 @@ use Rattle.field_put.specs.Bytes.{put}
 use Rattle.write_layout.specs.Buffer.{Written, lay, buffer_after, place_after, Writes}
 use Rattle.write_pieces.specs.Pieces.{said_write}
 use Rattle.write_pieces.specs.declared.WriteAnswer.{WriteAnswer}
-use Rattle.claim_promises.specs.ByTable.{Refuses, fits, By, gives, refuses}
+use Rattle.claim_promises.specs.ByTable.{Refuses, fits, gives, refuses}
 use Rattle.claim_promises.specs.Given.{by, Given, RefusedAs}
 use Rattle.claim_promises.specs.Sections.{SectionsRefuse, SectionsWhen}
 use Rattle.claim_promises.proofs.ByTable.{by-pick, by-stop, by-then, within, wider}

@@ -1,5 +1,5 @@
 -- The numbers that headers, iterators, views, finders, walks, lists and entries are refused by. Assumes nothing.
-use Prim.Native.Nat.{ℕ, zero, suc, ◌+◌, ◌-◌, ◌*◌, ◌/◌, ◌%◌, ◌^◌}
+use Prim.Native.Nat.{ℕ, zero, suc, ◌+◌, ◌-◌, ◌/◌, ◌%◌, ◌^◌}
 use mathlib.Core.Bool.{Bool, true, false}
 use mathlib.Core.Path.{◌≡◌, refl}
 use mathlib.Core.List.{List, [], ◌∷◌}
@@ -7,11 +7,9 @@ use mathlib.Core.Option.{Option, none, some}
 use lib.ListN.{length, get_or}
 use lib.Dec.{leb, ltb, eqb}
 use Rattle.answer.specs.Answer.{Answer, answered, refused, pick, stop, Read, then, and_then}
-use Rattle.answer.specs.Tables.{Line, find, among}
+use Rattle.answer.specs.Tables.{find, among}
 use Rattle.answer.specs.Refusals.{listed, in_table, refusals}
-use Rattle.field.specs.Fields.{little_at, fixed_at}
-use Rattle.field.specs.Runs.{bytes_after}
-use Rattle.field_text.specs.Texts.{padding_after}
+use Rattle.field.specs.Fields.{little_at}
 use Rattle.word_primitive.specs.Kinds.{kinds, indirections}
 use Rattle.word_primitive.specs.Primitive.{known, primitive_of}
 use Rattle.word_attributes.specs.Bits.{bits}
@@ -34,12 +32,11 @@ use Rattle.stream_item.specs.declared.iter.ItemIter.{ItemIter}
 use Rattle.stream_item.specs.declared.link.Hit.{Hit}
 use Rattle.stream_item.specs.declared.link.Hit.TheVariants.{Landed, Missed}
 use Rattle.stream_finder.specs.declared.Records.{Records}
-use Rattle.stream_finder.specs.Finder.{State, block_of, distance, header_records, begun_in, begun_by, create_of, create_by, due, update_of, landed, max_index_of, look_of, find_of}
-use Rattle.stream_index.specs.Walk.{Turn, updating, turn_of}
+use Rattle.stream_finder.specs.Finder.{State, block_of, distance, header_records, begun_in, begun_by, create_of, create_by, due, update_of, landed, look_of, find_of}
+use Rattle.stream_index.specs.Walk.{updating, turn_of}
 use Rattle.record_layout.specs.Fields.{Field, id, run, types, ids, read_fields, Shown}
 use Rattle.record_layout.specs.Values.{nth, number_in as count_in, string_in}
 use Rattle.record_layout.specs.Layouts.{type_index, count16, count32, Layout, type_leaves, id_leaves, member_leaves, method, read_record, record_of}
-use Rattle.field_text.specs.Texts.{Part}
 use Rattle.record_list.specs.Lists.{ElementValues, type_element, id_element, Step, step_to, in_counted, counted_by, counted_list, start_types, start_ids, start_of, counted_step, method_step, member_step, next_member, step_of, element_by, element_of}
 use Rattle.record_list.specs.declared.ListCursor.{ListCursor}
 use Rattle.record_parse.specs.Record.{payload_at, numbered_of, type_bytes, id_bytes, type_item, type_marker, item_of, marker_of, entry_of as parsed_of, parse_of}

@@ -1,13 +1,13 @@
 -- What is said of a size's form is what is said of the number's. Assumes nothing.
 use Prim.Native.Nat.{ℕ, ◌-◌}
 use native.Mathlib.Omega.{arith}
-use mathlib.Core.Path.{◌≡◌, refl, ap, sym, ◌∙◌}
+use mathlib.Core.Path.{◌≡◌, ap}
 use mathlib.Core.List.{List}
 use lib.ListN.{length}
 use lib.IntN.{ℤ, pos, negsuc}
 use Rattle.answer.specs.Answer.{answered, refused, Read, got, and_then}
 use Rattle.field_number.specs.Numbers.{numeric_at, natural, size_at}
-use Rattle.field_number.specs.Forms.{shortest, Form, form_of, Numeral, numeral_by, numeral_at, sized_by, sized_at, AllBytes, Reads}
+use Rattle.field_number.specs.Forms.{shortest, Form, form_of, Numeral, numeral_by, numeral_at, sized_by, sized_at, Reads}
 use Rattle.field_number.proofs.FormsProof.{width-said}
 use Rattle.claim_promises.specs.Widths.{ReadsSize, SizeWidthSaid}
 

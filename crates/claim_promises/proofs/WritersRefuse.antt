@@ -20,11 +20,11 @@ use Rattle.record_layout.specs.Layouts.{Layout, Table, member_leaves, method}
 use Rattle.write_layout.specs.Runs.{no_zero}
 use Rattle.write_layout.specs.Fields.{ToWrite, Encoded, bad, only, of_number, of_numeral, of_absent, of_many, fixed_bytes, optional_bytes, numeric_bytes, size_bytes, string_bytes, write_field, and_also, write_fields}
 use Rattle.write_layout.specs.Records.{written_by, write_leaf, filled, record_bytes, limited, write_record}
-use Rattle.write_layout.specs.Lists.{filled_member, filled_each, member_bytes, ends_list, members_bytes, field_list_bytes, methods_bytes, method_list_bytes}
+use Rattle.write_layout.specs.Lists.{filled_each, member_bytes, ends_list, members_bytes, field_list_bytes, methods_bytes, method_list_bytes}
 use Rattle.write_layout.specs.Buffer.{Written, lay, buffer_after, place_after, Writes}
 use Rattle.write_pieces.specs.Pieces.{raw, fine, piece_of, pieces_of}
 use Rattle.write_pieces.specs.declared.Piece.{Piece}
-use Rattle.write_header.specs.Headers.{header_fields, header_bytes}
+use Rattle.write_header.specs.Headers.{header_bytes}
 use Rattle.claim_promises.specs.ByTable.{fits, gives, refuses, Refuses}
 use Rattle.claim_promises.proofs.ByTable.{by-pick, by-stop, by-then, within, wider}
 

@@ -9,7 +9,7 @@ use lib.ListN.{length, take, drop}
 use lib.Seq.{get_or-drop}
 use lib.Dec.{leb, ltb, eqb}
 use borrow.Author.Tests.{ltb-true, ltb-false, lt-ltb, le-ltb, eqb-true}
-use Rattle.answer.specs.Answer.{Answer, answered, refused, pick, stop, then, both}
+use Rattle.answer.specs.Answer.{answered, refused, pick, stop, both}
 use Rattle.answer.specs.Tables.{find, among}
 use Rattle.answer.specs.Refusals.{listed, in_table, refusals}
 use Rattle.field_text.specs.Texts.{Part}
@@ -23,12 +23,12 @@ use Rattle.write_layout.specs.Fields.{ToWrite, bytes_in, given_all, Encoded, bad
 use Rattle.write_layout.specs.Records.{write_leaf, filled, record_bytes, write_record}
 use Rattle.write_layout.specs.Lists.{field_list_bytes, method_list_bytes}
 use Rattle.write_layout.specs.Buffer.{lay}
-use Rattle.write_layout.specs.RoundTrip.{WouldRead, InBytes, AllInBytes, Exactly17}
+use Rattle.write_layout.specs.RoundTrip.{WouldRead, InBytes, AllInBytes}
 use Rattle.write_layout.proofs.Rewrite.{exactly-17}
 use Rattle.write_list.specs.Rows.{row_values, list_method, member_rows, method_rows}
 use Rattle.write_list.specs.ListsBack.{HasElements, EachInBytes}
 use Rattle.write_list.proofs.Lists17.{lists-exactly-17}
-use Rattle.write_header.specs.Headers.{header_fields, header_bytes}
+use Rattle.write_header.specs.Headers.{header_bytes}
 use Rattle.write_header.proofs.HeaderLaws.{header-length}
 use Rattle.write_header.proofs.HeaderBack.{checked}
 use Rattle.claim_promises.specs.ByTable.{elsewhere, fits, links_fit, gives, refuses, Refuses}
@@ -36,7 +36,7 @@ use Rattle.claim_promises.specs.Given.{by, Given}
 use Rattle.claim_promises.specs.WritesWhen.{TooLong, NoRoom, SizeRight, BoundsRight, WritesWhen}
 use Rattle.claim_promises.proofs.ByTable.{both_first}
 use Rattle.claim_promises.proofs.Given.{off, at-stop, at-then, denied}
-use Rattle.claim_promises.proofs.WritersRefuse.{of17, of18, fields_in, methods_in, fields-refuse, leaf-refuses, fields-in-refuse, methods-in-refuse, record-refuses}
+use Rattle.claim_promises.proofs.WritersRefuse.{of17, fields_in, methods_in, leaf-refuses, fields-in-refuse, methods-in-refuse, record-refuses}
 
 -- ---- 17 is `bad`
 

@@ -9,7 +9,6 @@ use Rattle.field.specs.Fields.{little_at}
 use Rattle.field_text.specs.Texts.{string_of}
 use Rattle.field_number.specs.Numbers.{Wide, signed, unsigned, prefixes, numeric_at}
 use Rattle.field_number.specs.Forms.{numeral_at, sized_at}
-use Rattle.field.specs.declared.index.Stream.TheVariants as stream
 use Rattle.record_layout.specs.Fields.{Field, fixed, type, id, string_reference, optional_type, optional_id, word, gap, numeric, size, string, run, methods, members, when, run_bytes, word_after, read_field, read_fields, Shown}
 use Rattle.record_layout.specs.Layouts.{Layout, Table, read_record, record_of}
 use Rattle.claim_promises.specs.Given.{Given}
