@@ -1,44 +1,45 @@
 // Document 01's program: reads a TPI stream of at most 65,536 bytes from standard input and lists its records.
+#![tactic(auto)]
+
 use answer::Refusal;
 use field::index::Stream;
-use libc::{STDERR_FILENO, STDIN_FILENO, STDOUT_FILENO};
+use std::io;
+use std::io::Read;
 use stream_header::{Header, HeaderAnswer};
 use stream_item::iter::{ItemIter, IterAnswer, NextAnswer};
 use stream_item::{Entry, Item};
 use stream_view::RawKindAnswer;
 
-fn put(text: &[u8]) {
-    io::write_all(STDOUT_FILENO, text);
+fn put(rt: &impl Print, text: &[u8]) -> io::Result<()> {
+    rt.write_all(text)
 }
 
-fn put_number(n: u64) {
-    io::print_decimal(STDOUT_FILENO, n);
+fn put_number(rt: &impl Print, n: u64) -> io::Result<()> {
+    print!(rt; "{n}")
 }
 
-fn put_refused(e: Refusal) {
-    put(b"refused ");
-    put_number(e.number() as u64);
-    put(b"\n");
+fn put_refused(rt: &impl Print, e: Refusal) -> io::Result<()> {
+    put(rt, b"refused ")?;
+    put_number(rt, e.number() as u64)?;
+    put(rt, b"\n")
 }
 
-fn put_leaf(k: RawKindAnswer) {
+fn put_leaf(rt: &impl Print, k: RawKindAnswer) -> io::Result<()> {
     match k {
-        RawKindAnswer::Answered(leaf) => {
-            io::print_hex(STDOUT_FILENO, leaf as u64, 4);
-        }
-        RawKindAnswer::Refused(_) => put(b"----"),
+        RawKindAnswer::Answered(leaf) => print!(rt; "{leaf:04x}"),
+        RawKindAnswer::Refused(_) => put(rt, b"----"),
     }
 }
 
 // A record's line: its index, its leaf in four hex digits, its payload's length.
-fn put_record(s: &[u8], item: Item) {
+fn put_record(rt: &impl Print, s: &[u8], item: Item) -> io::Result<()> {
     let index = item.index;
-    put_number(index.number() as u64);
-    put(b" ");
-    put_leaf(stream_view::raw_kind(s, &s[0..0], Entry::Record(item)));
-    put(b" ");
-    put_number(item.length as u64);
-    put(b"\n");
+    put_number(rt, index.number() as u64)?;
+    put(rt, b" ")?;
+    put_leaf(rt, stream_view::raw_kind(s, &s[0..0], Entry::Record(item)))?;
+    put(rt, b" ")?;
+    put_number(rt, item.length as u64)?;
+    put(rt, b"\n")
 }
 
 // The cursor behind a record that was listed, or that the walk is over.
@@ -48,84 +49,83 @@ enum Listed {
     Over,
 }
 
-fn list_next(s: &[u8], c: ItemIter, listed: u64) -> Listed {
+fn list_next(rt: &impl Print, s: &[u8], c: ItemIter, listed: u64) -> io::Result<Listed> {
     match stream_item::iter::next(s, c) {
         NextAnswer::Yielded(item, behind) => {
-            put_record(s, item);
-            Listed::One(behind)
+            put_record(rt, s, item)?;
+            Ok(Listed::One(behind))
         }
         NextAnswer::Done => {
-            put(b"end ");
-            put_number(listed);
-            put(b"\n");
-            Listed::Over
+            put(rt, b"end ")?;
+            put_number(rt, listed)?;
+            put(rt, b"\n")?;
+            Ok(Listed::Over)
         }
         NextAnswer::Refused(e) => {
-            put_refused(e);
-            Listed::Over
+            put_refused(rt, e)?;
+            Ok(Listed::Over)
         }
     }
 }
 
 // Each record takes four bytes at least, so that 65,536 bytes end before the count does.
-fn walk(s: &[u8], first: ItemIter) {
+fn walk(rt: &impl Print, s: &[u8], first: ItemIter) -> io::Result<()> {
     let mut c = first;
-    let mut listed: u64 = 0;
-    while listed < 65536 {
-        let t = list_next(s, c, listed);
+    for listed in 0..65536 {
+        let t = list_next(rt, s, c, listed)?;
         let Listed::One(behind) = t else {
-            return;
+            return Ok(());
         };
         c = behind;
-        listed += 1;
     }
+    Ok(())
 }
 
-fn put_head(h: Header, length: usize) {
-    put(b"tpi ");
-    put_number(h.minimum_index as u64);
-    put(b" ");
-    put_number(h.maximum_index as u64);
-    put(b" ");
-    put_number(length as u64);
-    put(b"\n");
+fn put_head(rt: &impl Print, h: Header, length: usize) -> io::Result<()> {
+    put(rt, b"tpi ")?;
+    put_number(rt, h.minimum_index as u64)?;
+    put(rt, b" ")?;
+    put_number(rt, h.maximum_index as u64)?;
+    put(rt, b" ")?;
+    put_number(rt, length as u64)?;
+    put(rt, b"\n")
 }
 
-fn begin(s: &[u8]) {
+fn begin(rt: &impl Print, s: &[u8]) -> io::Result<()> {
     match stream_item::iter::iter(Stream::Types, s) {
-        IterAnswer::Answered(c) => walk(s, c),
-        IterAnswer::Refused(e) => put_refused(e),
+        IterAnswer::Answered(c) => walk(rt, s, c),
+        IterAnswer::Refused(e) => put_refused(rt, e),
     }
 }
 
-fn list(s: &[u8]) {
+fn list(rt: &impl Print, s: &[u8]) -> io::Result<()> {
     match Header::parse(s) {
         HeaderAnswer::Answered(h) => {
-            put_head(h, s.len());
-            begin(s);
+            put_head(rt, h, s.len())?;
+            begin(rt, s)
         }
-        HeaderAnswer::Refused(e) => put_refused(e),
+        HeaderAnswer::Refused(e) => put_refused(rt, e),
     }
 }
 
-// Whether standard input is at its end. Where it is not, since a read failed, that is said.
-fn at_end() -> bool {
-    let mut spare = [0u8; 1];
-    if libc::read(STDIN_FILENO, &mut spare) == 0 {
-        return true;
+// Whether standard input was read to its end. Where it was not, since a read failed, that is said.
+fn at_end(rt: &impl Eprint, read: io::Result<usize>) -> io::Result<bool> {
+    if read.is_ok() {
+        return Ok(true);
     }
-    io::write_all(STDERR_FILENO, b"list: standard input cannot be read\n");
-    false
+    eprintln!(rt; "list: standard input cannot be read")?;
+    Ok(false)
 }
 
-fn main() {
-    let mut stream = [0u8; 65537];
-    let n = io::read_full(STDIN_FILENO, &mut stream);
-    if 65536 < n {
-        put(b"refused 16\n");
-        return;
+// One byte more than a stream may have is read, so that a longer one is told.
+fn main(rt: HostRuntime) -> io::Result<()> {
+    let mut stream = Vec::new(rt.alloc());
+    let read = rt.stdin().take(65537).read_to_end(&mut stream);
+    if 65536 < stream.len() {
+        return put(&rt, b"refused 16\n");
     }
-    if at_end() {
-        list(&stream[..n]);
+    if at_end(&rt, read)? {
+        list(&rt, &stream)?;
     }
+    Ok(())
 }

@@ -1,16 +1,21 @@
 // Does one operation of the reader many times on the stream that stands on standard input, and prints a checksum that depends on every
 // answer: what compare/speed.sh counts the instructions of. The arguments are the operation's name and how many times; for `load`, the fourth is the places
 // file. An operation that is none of these, and a stream of more than 262,144 bytes, is refused on the standard error.
+#![tactic(auto)]
+
 mod sums;
 
-ghost use Rattle.std.specs.Prelude.{◌≡◌, length};
+ghost use Rattle.std.specs.Prelude.{◌≡◌, ◌≤◌, length};
 
 use field::index::{Stream, TypeIndex};
-use libc::{STDERR_FILENO, STDIN_FILENO, STDOUT_FILENO};
 use record_data::TypeData;
 use record_id::IdData;
 use record_list::{ListCursor, StartAnswer, StepAnswer};
 use record_parse::ParseAnswer;
+use std::env::Env;
+use std::io::Read;
+use std::rt::Files;
+use std::{fs, io, str};
 use stream_finder::{FindAnswer, FinderAnswer, ItemFinder};
 use stream_header::{Header, HeaderAnswer};
 use stream_index::IndexAnswer;
@@ -202,9 +207,7 @@ fn list_read(stream: Stream, s: &[u8]) -> u64 {
 fn list_from(s: &[u8], from: ListCursor) -> u64 {
     let mut c = from;
     let mut sum: u64 = 0;
-    let mut turns: u32 = 65536;
-    while 0 < turns {
-        turns -= 1;
+    for _ in 0..65536 {
         match record_list::step(s, c) {
             StepAnswer::Answered(e, behind) => {
                 sum = add(sum, sums::element(e));
@@ -238,14 +241,12 @@ fn index_once(s: &[u8], t: &mut [u32; PLACES]) -> u64 {
 }
 
 fn places(t: &[u32; PLACES], held: usize) -> u64 {
-    let mut i: usize = 0;
     let mut sum: u64 = 0;
-    while i < held {
+    for i in 0..held {
         if PLACES <= i {
             return sum;
         }
         sum = add(sum, sums::wide(t[i]));
-        i += 1;
     }
     sum
 }
@@ -268,21 +269,17 @@ fn report_once(s: &[u8]) -> u64 {
 }
 
 fn rows(table: &[u64; 192]) -> u64 {
-    let mut i: usize = 0;
     let mut sum: u64 = 0;
-    while i < 192 {
+    for i in 0..192 {
         sum = add(sum, table[i]);
-        i += 1;
     }
     sum
 }
 
 // Looks up each index of the stream.
 fn find_once(s: &[u8], t: &[u32; PLACES], f: ItemFinder) -> u64 {
-    let mut n = f.minimum_index;
-    let last = f.maximum_index;
     let mut sum: u64 = 0;
-    while n < last {
+    for n in f.minimum_index..f.maximum_index {
         match stream_finder::find_type(s, f, t, TypeIndex(n)) {
             FindAnswer::Found(e, _) => match e {
                 Entry::Record(i) => {
@@ -292,7 +289,6 @@ fn find_once(s: &[u8], t: &[u32; PLACES], f: ItemFinder) -> u64 {
             },
             FindAnswer::Refused(_) => {}
         }
-        n += 1;
     }
     sum
 }
@@ -300,10 +296,8 @@ fn find_once(s: &[u8], t: &[u32; PLACES], f: ItemFinder) -> u64 {
 // Asks for every primitive, in an order of its own each time.
 fn primitives_once(turned: u32) -> u64 {
     let mut sum: u64 = 0;
-    let mut i: u32 = 0;
-    while i < 4096 {
+    for i in 0..4096 {
         sum = add(sum, primitive_read(TypeIndex(i ^ turned)));
-        i += 1;
     }
     sum
 }
@@ -344,11 +338,9 @@ fn repeat(op: u8, times: u64, at: usize, stream: &mut [u8], t: &mut [u32; PLACES
     }
     let f = indexed(stream, t);
     let mut sum: u64 = 0;
-    let mut i: u64 = 0;
-    while i < times {
+    for i in 0..times {
         stream[at] = (i % 256) as u8;
         sum = add(sum, once(op, stream, t, f));
-        i += 1;
     }
     sum
 }
@@ -359,11 +351,9 @@ fn repeat_load(times: u64, stream: &mut [u8], file: &[u8], t: &mut [u32; PLACES]
         return 0;
     }
     let mut sum: u64 = 0;
-    let mut i: u64 = 0;
-    while i < times {
+    for i in 0..times {
         stream[0] = (i % 256) as u8;
         sum = add(sum, load_once(stream, file, t));
-        i += 1;
     }
     sum
 }
@@ -374,11 +364,9 @@ fn repeat_report(times: u64, stream: &mut [u8]) -> u64 {
         return 0;
     }
     let mut sum: u64 = 0;
-    let mut i: u64 = 0;
-    while i < times {
+    for i in 0..times {
         stream[0] = (i % 256) as u8;
         sum = add(sum, report_once(stream));
-        i += 1;
     }
     sum
 }
@@ -386,10 +374,8 @@ fn repeat_report(times: u64, stream: &mut [u8]) -> u64 {
 // The same for `primitives`, which needs no stream.
 fn repeat_primitives(times: u64) -> u64 {
     let mut sum: u64 = 0;
-    let mut i: u64 = 0;
-    while i < times {
+    for i in 0..times {
         sum = add(sum, primitives_once((i % 256) as u32));
-        i += 1;
     }
     sum
 }
@@ -403,23 +389,59 @@ fn first(file: &[u8; FILE], n: usize) -> &[u8] {
     &s[0..0]
 }
 
-// The places file that the fourth argument names.
-fn load_many(times: u64, stream: &mut [u8], t: &mut [u32; PLACES]) -> u64 {
-    let mut name = [0u8; 4096];
-    let n = os::arg(4, &mut name);
-    let opened = os::open_read(&name[0..n]);
-    if opened < 0 {
-        return 0;
+// Reads until the buffer is full, the input ends or a read fails, and gives how many bytes there are at the buffer's start.
+fn read_full<R: Read>(from: &mut R, buf: &mut [u8]) -> usize
+    ensures { result ≤ length buf.new }
+{
+    let mut done = 0;
+    for _ in 0..u64::MAX {
+        if done == buf.len() {
+            break;
+        }
+        match from.read(&mut buf[done..]) {
+            Ok(0) => break,
+            Ok(n) => done += n,
+            Err(_) => break,
+        }
     }
+    done
+}
+
+// Puts argument i at the buffer's start, and gives its length: 0 where there is none, or where it is longer than the buffer.
+fn arg(rt: &impl Env, i: usize, buf: &mut [u8]) -> usize
+    ensures { result ≤ length buf.new }
+{
+    match rt.arg(i, buf) {
+        Ok(n) => n,
+        Err(_) => 0,
+    }
+}
+
+// The places file that the fourth argument names, which has to be UTF-8.
+fn load_many(rt: &(impl Env + Files), times: u64, stream: &mut [u8], t: &mut [u32; PLACES]) -> u64 {
+    let mut name = [0u8; 4096];
+    let n = arg(rt, 4, &mut name);
+    let Ok(path) = str::from_utf8(&name[0..n]) else {
+        return 0;
+    };
+    let Ok(mut opened) = fs::open(rt, path) else {
+        return 0;
+    };
     let mut file = [0u8; FILE];
-    let m = io::read_full(opened, &mut file);
-    libc::close(opened);
+    let m = read_full(&mut opened, &mut file);
     repeat_load(times, stream, first(&file, m), t)
 }
 
-fn run(op: u8, times: u64, at: usize, stream: &mut [u8], t: &mut [u32; PLACES]) -> u64 {
+fn run(
+    rt: &(impl Env + Files),
+    op: u8,
+    times: u64,
+    at: usize,
+    stream: &mut [u8],
+    t: &mut [u32; PLACES],
+) -> u64 {
     if op == LOAD {
-        return load_many(times, stream, t);
+        return load_many(rt, times, stream, t);
     }
     if op == PRIMITIVES {
         return repeat_primitives(times);
@@ -435,15 +457,13 @@ fn spells(word: &[u8; 16], n: usize, name: &[u8]) -> bool {
     if n != name.len() {
         return false;
     }
-    let mut i: usize = 0;
-    while i < name.len() {
+    for i in 0..name.len() {
         if 16 <= i {
             return false;
         }
         if word[i] != name[i] {
             return false;
         }
-        i += 1;
     }
     true
 }
@@ -483,21 +503,19 @@ fn operation(word: &[u8; 16], n: usize) -> u8 {
 }
 
 // Argument i as a number, 0 where there is none.
-fn number(i: usize) -> u64 {
+fn number(rt: &impl Env, i: usize) -> u64 {
     let mut digits = [0u8; 16];
-    let n = os::arg(i, &mut digits);
+    let n = arg(rt, i, &mut digits);
     numeral(&digits, n)
 }
 
 fn numeral(digits: &[u8; 16], n: usize) -> u64 {
     let mut value: u64 = 0;
-    let mut i: usize = 0;
-    while i < n {
+    for i in 0..n {
         if 16 <= i {
             return value;
         }
         value = ten_times(value, digits[i]);
-        i += 1;
     }
     value
 }
@@ -513,43 +531,40 @@ fn ten_times(value: u64, digit: u8) -> u64 {
 }
 
 // Whether standard input is at its end. Where it is not, since a read failed, that is said.
-fn at_end() -> bool {
+fn at_end(rt: &impl Eprint, from: &mut impl Read) -> io::Result<bool> {
     let mut spare = [0u8; 1];
-    if libc::read(STDIN_FILENO, &mut spare) == 0 {
-        return true;
+    if let Ok(0) = from.read(&mut spare) {
+        return Ok(true);
     }
-    io::write_all(STDERR_FILENO, b"measure: standard input cannot be read\n");
-    false
+    eprintln!(rt; "measure: standard input cannot be read")?;
+    Ok(false)
 }
 
-fn measure(op: u8) {
-    let times = number(2);
-    let at = number(3) as usize;
+fn measure(rt: &(impl Env + Files + Input + Print + Eprint), op: u8) -> io::Result<()> {
+    let times = number(rt, 2);
+    let at = number(rt, 3) as usize;
     let mut stream = buffer();
-    let n = io::read_full(STDIN_FILENO, &mut stream);
+    let mut input = rt.reader();
+    let n = read_full(&mut input, &mut stream);
     if LONGEST < n {
-        io::write_all(STDERR_FILENO, b"refused 16 too long\n");
-        return;
+        return eprintln!(rt; "refused 16 too long");
     }
-    if !at_end() {
-        return;
+    if !at_end(rt, &mut input)? {
+        return Ok(());
     }
     let mut t = [0u32; PLACES];
-    let sum = run(op, times, at, &mut stream[0..n], &mut t);
-    io::print_decimal(STDOUT_FILENO, sum);
-    io::write_all(STDOUT_FILENO, b"\n");
+    let sum = run(rt, op, times, at, &mut stream[0..n], &mut t);
+    println!(rt; "{sum}")
 }
 
-fn main() {
+fn main(rt: HostRuntime) -> io::Result<()> {
     let mut word = [0u8; 16];
-    let a = os::arg(1, &mut word);
+    let a = arg(&rt, 1, &mut word);
     let op = operation(&word, a);
     if op == NONE {
-        io::write_all(
-            STDERR_FILENO,
-            b"measure: the operation is header, walk, index, load, find, parse, elements, parseids, primitives or report\n",
+        return eprintln!(rt;
+            "measure: the operation is header, walk, index, load, find, parse, elements, parseids, primitives or report"
         );
-        return;
     }
-    measure(op);
+    measure(&rt, op)
 }

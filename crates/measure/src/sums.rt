@@ -20,7 +20,7 @@ use word_primitive::{Indirection, PrimitiveKind, PrimitiveType};
 
 // The sum of two numbers, from the start again past the largest.
 pub fn add(a: u64, b: u64) -> u64 {
-    std::num::wrapping_add_u64(a, b)
+    a.wrapping_add(b)
 }
 
 pub fn wide(x: u32) -> u64 {

@@ -2,62 +2,64 @@
 // its size, and under it its data members, with their offsets and types. A type stands by its name, or by its index where it has none.
 // It reads at most 65,536 bytes from standard input, as `list` does. What is refused is said on the standard error by its number and name, a record
 // behind its index.
+#![tactic(auto)]
+
 use answer::Refusal;
 use declare_type::DeclareAnswer;
 use field::index::{OptTypeIndex, Stream, TypeIndex};
-use libc::{STDERR_FILENO, STDIN_FILENO, STDOUT_FILENO};
 use record_data::{ClassType, TypeData};
 use record_list::{Element, ListCursor, StartAnswer, StepAnswer};
 use record_member::{Member, MemberType};
 use record_parse::ParseAnswer;
+use std::io;
+use std::io::Read;
 use stream_finder::{FindAnswer, ItemFinder};
 use stream_index::{End, IndexAnswer};
 use stream_item::Entry;
 use stream_item::iter::ItemIter;
 
-fn put(text: &[u8]) {
-    io::write_all(STDOUT_FILENO, text);
+fn put(rt: &impl Print, text: &[u8]) -> io::Result<()> {
+    rt.write_all(text)
 }
 
-fn put_number(n: u64) {
-    io::print_decimal(STDOUT_FILENO, n);
+fn put_number(rt: &impl Print, n: u64) -> io::Result<()> {
+    print!(rt; "{n}")
 }
 
-fn put_index(t: TypeIndex) {
-    put(b"#");
-    put_number(t.0 as u64);
+fn put_index(rt: &impl Print, t: TypeIndex) -> io::Result<()> {
+    put(rt, b"#")?;
+    put_number(rt, t.0 as u64)
 }
 
-fn say(text: &[u8]) {
-    io::write_all(STDERR_FILENO, text);
+fn say(rt: &impl Eprint, text: &str) -> io::Result<()> {
+    eprint!(rt; "{text}")
 }
 
-fn say_first(text: &[u8], n: usize) {
+// Letters and blanks, which escape_ascii leaves as they are.
+fn say_first(rt: &impl Eprint, text: &[u8], n: usize) -> io::Result<()> {
     if n <= text.len() {
-        say(&text[0..n]);
+        eprint!(rt; "{}", text[0..n].escape_ascii())?;
     }
+    Ok(())
 }
 
 // A refusal's name.
-fn say_name_of(e: Refusal) {
+fn say_name_of(rt: &impl Eprint, e: Refusal) -> io::Result<()> {
     let name = answer_name::name_of(e);
-    say_first(&name.bytes, name.n);
+    say_first(rt, &name.bytes, name.n)
 }
 
-fn say_refused(e: Refusal) {
-    say(b"refused ");
-    io::print_decimal(STDERR_FILENO, e.number() as u64);
-    say(b" ");
-    say_name_of(e);
-    say(b"\n");
+fn say_refused(rt: &impl Eprint, e: Refusal) -> io::Result<()> {
+    let number = e.number();
+    eprint!(rt; "refused {number} ")?;
+    say_name_of(rt, e)?;
+    say(rt, "\n")
 }
 
 // A refusal of the record of an index.
-fn say_refused_at(index: u32, e: Refusal) {
-    say(b"#");
-    io::print_decimal(STDERR_FILENO, index as u64);
-    say(b" ");
-    say_refused(e);
+fn say_refused_at(rt: &impl Eprint, index: u32, e: Refusal) -> io::Result<()> {
+    eprint!(rt; "#{index} ")?;
+    say_refused(rt, e)
 }
 
 // A record's bytes in the type stream; the id stream is not at hand.
@@ -66,39 +68,60 @@ fn bytes_of<'a>(tpi: &'a [u8], entry: Entry) -> &'a [u8] {
 }
 
 // A type by its declaration; by its index where it has none: a bit field, a class without a name, a text that is too long.
-fn put_text(a: DeclareAnswer, text: &[u8], t: TypeIndex) {
+fn put_text(rt: &impl Print, a: DeclareAnswer, text: &[u8], t: TypeIndex) -> io::Result<()> {
     match a {
         DeclareAnswer::Written(n) => {
             if n == 0 {
-                return put_index(t);
+                return put_index(rt, t);
             }
             if n <= text.len() {
-                put(&text[0..n]);
+                put(rt, &text[0..n])?;
             }
+            Ok(())
         }
-        DeclareAnswer::Refused(_) => put_index(t),
+        DeclareAnswer::Refused(_) => put_index(rt, t),
     }
 }
 
-fn put_declared(tpi: &[u8], places: &[u32], f: ItemFinder, t: TypeIndex, room: &mut [u8]) {
-    put_text(declare_type::declare(tpi, f, places, t, room), room, t);
+fn put_declared(
+    rt: &impl Print,
+    tpi: &[u8],
+    places: &[u32],
+    f: ItemFinder,
+    t: TypeIndex,
+    room: &mut [u8],
+) -> io::Result<()> {
+    put_text(rt, declare_type::declare(tpi, f, places, t, room), room, t)
 }
 
-fn put_type(tpi: &[u8], places: &[u32], f: ItemFinder, t: TypeIndex) {
+fn put_type(
+    rt: &impl Print,
+    tpi: &[u8],
+    places: &[u32],
+    f: ItemFinder,
+    t: TypeIndex,
+) -> io::Result<()> {
     let mut room = [0u8; 4096];
-    put_declared(tpi, places, f, t, &mut room[0..4096]);
+    put_declared(rt, tpi, places, f, t, &mut room[0..4096])
 }
 
 // A data member's line.
-fn put_member(tpi: &[u8], places: &[u32], f: ItemFinder, fields: &[u8], m: MemberType) {
+fn put_member(
+    rt: &impl Print,
+    tpi: &[u8],
+    places: &[u32],
+    f: ItemFinder,
+    fields: &[u8],
+    m: MemberType,
+) -> io::Result<()> {
     let name = m.name;
-    put(b"    ");
-    put(name.bytes(fields));
-    put(b" at ");
-    put_number(m.offset.value);
-    put(b": ");
-    put_type(tpi, places, f, m.field_type);
-    put(b"\n");
+    put(rt, b"    ")?;
+    put(rt, name.bytes(fields))?;
+    put(rt, b" at ")?;
+    put_number(rt, m.offset.value)?;
+    put(rt, b": ")?;
+    put_type(rt, tpi, places, f, m.field_type)?;
+    put(rt, b"\n")
 }
 
 // What comes after the last element of a record: the list goes on in another one, or is over, or is refused.
@@ -117,23 +140,24 @@ enum Onward {
 }
 
 fn put_element(
+    rt: &impl Print,
     tpi: &[u8],
     places: &[u32],
     f: ItemFinder,
     fields: &[u8],
     e: Element,
     behind: ListCursor,
-) -> Onward {
+) -> io::Result<Onward> {
     match e {
         Element::Member(m) => match m {
             Member::Member(d) => {
-                put_member(tpi, places, f, fields, d);
-                Onward::To(behind)
+                put_member(rt, tpi, places, f, fields, d)?;
+                Ok(Onward::To(behind))
             }
-            Member::Continuation(t) => Onward::Over(Rest::In(t)),
-            _ => Onward::To(behind),
+            Member::Continuation(t) => Ok(Onward::Over(Rest::In(t))),
+            _ => Ok(Onward::To(behind)),
         },
-        _ => Onward::To(behind),
+        _ => Ok(Onward::To(behind)),
     }
 }
 
@@ -145,126 +169,179 @@ fn list_end(e: Refusal) -> Rest {
     }
 }
 
-fn step(tpi: &[u8], places: &[u32], f: ItemFinder, fields: &[u8], c: ListCursor) -> Onward {
+fn step(
+    rt: &impl Print,
+    tpi: &[u8],
+    places: &[u32],
+    f: ItemFinder,
+    fields: &[u8],
+    c: ListCursor,
+) -> io::Result<Onward> {
     match record_list::step(fields, c) {
-        StepAnswer::Answered(e, behind) => put_element(tpi, places, f, fields, e, behind),
-        StepAnswer::Refused(e) => Onward::Over(list_end(e)),
+        StepAnswer::Answered(e, behind) => put_element(rt, tpi, places, f, fields, e, behind),
+        StepAnswer::Refused(e) => Ok(Onward::Over(list_end(e))),
     }
 }
 
 // The members of one record, and where the list goes on. Each member takes two bytes at least, so that 65,536 bytes end before the turns do.
-fn put_members(tpi: &[u8], places: &[u32], f: ItemFinder, fields: &[u8], from: ListCursor) -> Rest {
+fn put_members(
+    rt: &impl Print,
+    tpi: &[u8],
+    places: &[u32],
+    f: ItemFinder,
+    fields: &[u8],
+    from: ListCursor,
+) -> io::Result<Rest> {
     let mut c = from;
-    let mut turns: u32 = 65536;
-    while 0 < turns {
-        turns -= 1;
-        match step(tpi, places, f, fields, c) {
+    for _ in 0..65536 {
+        match step(rt, tpi, places, f, fields, c)? {
             Onward::To(behind) => {
                 c = behind;
             }
             Onward::Over(rest) => {
-                return rest;
+                return Ok(rest);
             }
         }
     }
-    Rest::Nothing
+    Ok(Rest::Nothing)
 }
 
-fn put_list(tpi: &[u8], places: &[u32], f: ItemFinder, fields: &[u8]) -> Rest {
+fn put_list(
+    rt: &impl Print,
+    tpi: &[u8],
+    places: &[u32],
+    f: ItemFinder,
+    fields: &[u8],
+) -> io::Result<Rest> {
     match record_list::start(Stream::Types, fields) {
-        StartAnswer::Answered(c) => put_members(tpi, places, f, fields, c),
-        StartAnswer::Refused(e) => list_end(e),
+        StartAnswer::Answered(c) => put_members(rt, tpi, places, f, fields, c),
+        StartAnswer::Refused(e) => Ok(list_end(e)),
     }
 }
 
-fn put_found(tpi: &[u8], places: &[u32], f: ItemFinder, t: TypeIndex) -> Rest {
+fn put_found(
+    rt: &impl Print,
+    tpi: &[u8],
+    places: &[u32],
+    f: ItemFinder,
+    t: TypeIndex,
+) -> io::Result<Rest> {
     match stream_finder::find_type(tpi, f, places, t) {
-        FindAnswer::Found(entry, _) => put_list(tpi, places, f, bytes_of(tpi, entry)),
-        FindAnswer::Refused(e) => list_end(e),
+        FindAnswer::Found(entry, _) => put_list(rt, tpi, places, f, bytes_of(tpi, entry)),
+        FindAnswer::Refused(e) => Ok(list_end(e)),
     }
 }
 
 // The part of a list that the record of an index has, and where the list goes on.
-fn put_part(tpi: &[u8], places: &[u32], f: ItemFinder, t: TypeIndex) -> OptTypeIndex {
-    match put_found(tpi, places, f, t) {
-        Rest::In(rest) => OptTypeIndex::Some(rest),
-        Rest::Nothing => OptTypeIndex::None,
+fn put_part(
+    rt: &(impl Print + Eprint),
+    tpi: &[u8],
+    places: &[u32],
+    f: ItemFinder,
+    t: TypeIndex,
+) -> io::Result<OptTypeIndex> {
+    match put_found(rt, tpi, places, f, t)? {
+        Rest::In(rest) => Ok(OptTypeIndex::Some(rest)),
+        Rest::Nothing => Ok(OptTypeIndex::None),
         Rest::Refused(e) => {
-            say_refused_at(t.0, e);
-            OptTypeIndex::None
+            say_refused_at(rt, t.0, e)?;
+            Ok(OptTypeIndex::None)
         }
     }
 }
 
-fn put_goes_on(t: TypeIndex) {
-    put(b"    goes on in ");
-    put_index(t);
-    put(b"\n");
+fn put_goes_on(rt: &impl Print, t: TypeIndex) -> io::Result<()> {
+    put(rt, b"    goes on in ")?;
+    put_index(rt, t)?;
+    put(rt, b"\n")
 }
 
 // A field list and the records in which it goes on, 64 in all: compilers go on where a record is full at 64 KiB, and a list that goes on in
 // itself has no end. What is not followed is said.
-fn put_fields(tpi: &[u8], places: &[u32], f: ItemFinder, first: TypeIndex) {
+fn put_fields(
+    rt: &(impl Print + Eprint),
+    tpi: &[u8],
+    places: &[u32],
+    f: ItemFinder,
+    first: TypeIndex,
+) -> io::Result<()> {
     let mut t = first;
-    let mut left: u32 = 64;
-    while 0 < left {
-        left -= 1;
-        match put_part(tpi, places, f, t) {
+    for _ in 0..64 {
+        match put_part(rt, tpi, places, f, t)? {
             OptTypeIndex::Some(rest) => {
                 t = rest;
             }
             OptTypeIndex::None => {
-                return;
+                return Ok(());
             }
         }
     }
-    put_goes_on(t);
+    put_goes_on(rt, t)
 }
 
 // A structure's line, and under it its members; one that is only announced here is passed over.
-fn put_class(tpi: &[u8], places: &[u32], f: ItemFinder, record: &[u8], c: ClassType) {
+fn put_class(
+    rt: &(impl Print + Eprint),
+    tpi: &[u8],
+    places: &[u32],
+    f: ItemFinder,
+    record: &[u8],
+    c: ClassType,
+) -> io::Result<()> {
     let properties = c.properties;
     let name = c.name;
     let fields = c.fields;
     if properties.forward_reference() {
-        return;
+        return Ok(());
     }
-    put(name.bytes(record));
-    put(b", ");
-    put_number(c.size.value);
-    put(b" bytes\n");
+    put(rt, name.bytes(record))?;
+    put(rt, b", ")?;
+    put_number(rt, c.size.value)?;
+    put(rt, b" bytes\n")?;
     match fields {
-        OptTypeIndex::Some(t) => put_fields(tpi, places, f, t),
-        OptTypeIndex::None => {}
+        OptTypeIndex::Some(t) => put_fields(rt, tpi, places, f, t),
+        OptTypeIndex::None => Ok(()),
     }
 }
 
 // A record that is refused is said by its index; a leaf that document 01 does not have is passed over.
-fn say_unread(entry: Entry, e: Refusal) {
+fn say_unread(rt: &impl Eprint, entry: Entry, e: Refusal) -> io::Result<()> {
     match e {
-        Refusal::LeafUnknown(_) => {}
+        Refusal::LeafUnknown(_) => Ok(()),
         _ => {
             let index = entry.index();
-            say_refused_at(index.number(), e);
+            say_refused_at(rt, index.number(), e)
         }
     }
 }
 
-fn put_record(tpi: &[u8], places: &[u32], f: ItemFinder, entry: Entry) {
+fn put_record(
+    rt: &(impl Print + Eprint),
+    tpi: &[u8],
+    places: &[u32],
+    f: ItemFinder,
+    entry: Entry,
+) -> io::Result<()> {
     match record_parse::parse(tpi, &tpi[0..0], entry) {
         ParseAnswer::Type(d) => match d {
-            TypeData::Class(c) => put_class(tpi, places, f, bytes_of(tpi, entry), c),
-            _ => {}
+            TypeData::Class(c) => put_class(rt, tpi, places, f, bytes_of(tpi, entry), c),
+            _ => Ok(()),
         },
-        ParseAnswer::Refused(e) => say_unread(entry, e),
-        _ => {}
+        ParseAnswer::Refused(e) => say_unread(rt, entry, e),
+        _ => Ok(()),
     }
 }
 
-fn put_indexed(tpi: &[u8], places: &[u32], f: ItemFinder, t: TypeIndex) {
+fn put_indexed(
+    rt: &(impl Print + Eprint),
+    tpi: &[u8],
+    places: &[u32],
+    f: ItemFinder,
+    t: TypeIndex,
+) -> io::Result<()> {
     match stream_finder::find_type(tpi, f, places, t) {
-        FindAnswer::Found(entry, _) => put_record(tpi, places, f, entry),
-        FindAnswer::Refused(_) => {}
+        FindAnswer::Found(entry, _) => put_record(rt, tpi, places, f, entry),
+        FindAnswer::Refused(_) => Ok(()),
     }
 }
 
@@ -278,55 +355,59 @@ fn last_of(f: ItemFinder, c: ItemIter) -> u32 {
     named
 }
 
-fn outline(tpi: &[u8], places: &[u32], f: ItemFinder, c: ItemIter) {
+fn outline(
+    rt: &(impl Print + Eprint),
+    tpi: &[u8],
+    places: &[u32],
+    f: ItemFinder,
+    c: ItemIter,
+) -> io::Result<()> {
     let end = last_of(f, c);
-    let mut i = f.minimum_index;
-    while i < end {
-        put_indexed(tpi, places, f, TypeIndex(i));
-        i += 1;
+    for i in f.minimum_index..end {
+        put_indexed(rt, tpi, places, f, TypeIndex(i))?;
     }
+    Ok(())
 }
 
 // Why the walk ended, where that is not the stream's end.
-fn say_end(end: End) {
+fn say_end(rt: &impl Eprint, end: End) -> io::Result<()> {
     match end {
-        End::Done => {}
-        End::Refused(e) => say_refused(e),
+        End::Done => Ok(()),
+        End::Refused(e) => say_refused(rt, e),
     }
 }
 
 // The whole stream is indexed once; after that any type is found in at most eight steps.
-fn run(tpi: &[u8], places: &mut [u32; 2048]) {
+fn run(rt: &(impl Print + Eprint), tpi: &[u8], places: &mut [u32; 2048]) -> io::Result<()> {
     match stream_index::index_all(Stream::Types, tpi, places) {
         IndexAnswer::Answered(tour) => {
             let end = tour.end;
-            outline(tpi, places, tour.finder, tour.cursor);
-            say_end(end);
+            outline(rt, tpi, places, tour.finder, tour.cursor)?;
+            say_end(rt, end)
         }
-        IndexAnswer::Refused(e) => say_refused(e),
+        IndexAnswer::Refused(e) => say_refused(rt, e),
     }
 }
 
-// Whether standard input is at its end. Where it is not, since a read failed, that is said.
-fn at_end() -> bool {
-    let mut spare = [0u8; 1];
-    if libc::read(STDIN_FILENO, &mut spare) == 0 {
-        return true;
+// Whether standard input was read to its end. Where it was not, since a read failed, that is said.
+fn at_end(rt: &impl Eprint, read: io::Result<usize>) -> io::Result<bool> {
+    if read.is_ok() {
+        return Ok(true);
     }
-    io::write_all(STDERR_FILENO, b"outline: standard input cannot be read\n");
-    false
+    say(rt, "outline: standard input cannot be read\n")?;
+    Ok(false)
 }
 
 // One byte more than a stream may have is read, so that a longer one is told.
-fn main() {
-    let mut stream = [0u8; 65537];
+fn main(rt: HostRuntime) -> io::Result<()> {
+    let mut stream = Vec::new(rt.alloc());
     let mut places = [0u32; 2048];
-    let n = io::read_full(STDIN_FILENO, &mut stream);
-    if 65536 < n {
-        say_refused(Refusal::TooLong);
-        return;
+    let read = rt.stdin().take(65537).read_to_end(&mut stream);
+    if 65536 < stream.len() {
+        return say_refused(&rt, Refusal::TooLong);
     }
-    if at_end() {
-        run(&stream[..n], &mut places);
+    if at_end(&rt, read)? {
+        run(&rt, &stream, &mut places)?;
     }
+    Ok(())
 }
