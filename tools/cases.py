@@ -3,7 +3,7 @@ nothing where a case does not say it; and where the program takes them, its argu
 tools/outline_cases and tools/measure_cases. What is given is bytes, or as text the path of
 what is opened, such as a directory. What has to be answered is text, or bytes.
 
-The program is the one that `rt check` or `rt ci` has proved and built. Each case has a folder of its own.
+The program is the one that `rt run` or `rt ci` has proved and built. Each case has a folder of its own.
 """
 import os
 import subprocess
@@ -16,7 +16,7 @@ def tried(program, case):
     said, words, files = (*more, *("", [], {})[len(more):])
     wanted = wanted if isinstance(wanted, bytes) else wanted.encode()
     with tempfile.TemporaryDirectory() as scratch:
-        os.symlink(os.path.abspath("target"), os.path.join(scratch, "target"))
+        os.symlink(os.path.abspath("crates"), os.path.join(scratch, "crates"))
         for file, content in files.items():
             with open(os.path.join(scratch, file), "wb") as f:
                 f.write(content)
