@@ -6,7 +6,7 @@ ghost use Rattle.answer_name.specs.Names.{name_text, Holds};
 use answer::Refusal;
 
 // A name: its first n bytes, and spaces behind them.
-#[derive(Drop)]
+#[derive(Clone, Copy)]
 pub struct Name {
     pub bytes: [u8; 20],
     pub n: usize,

@@ -27,7 +27,7 @@ pub enum Extent {
 }
 
 // A short text: the first n bytes, and spaces behind them.
-#[derive(Drop)]
+#[derive(Clone, Copy)]
 pub struct Spelling {
     pub bytes: [u8; 40],
     pub n: usize,

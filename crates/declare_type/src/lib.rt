@@ -32,7 +32,7 @@ use walk::Measured;
 const DEEPEST: u32 = 32;
 
 // How many bytes were written; or why none were, and the buffer is as it was.
-#[derive(Drop)]
+#[derive(Clone, Copy)]
 pub enum DeclareAnswer {
     Written(usize),
     Refused(Refusal),

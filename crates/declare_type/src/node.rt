@@ -38,7 +38,7 @@ const FIRST_RECORD: u32 = 0x1000;
 const THROUGH: u32 = 32;
 
 // What a type is, as far as its declaration goes.
-#[derive(Drop)]
+#[derive(Clone, Copy)]
 pub enum Node {
     Primitive(PrimitiveKind, Indirection),
     // A tag name: place and length in the stream.
@@ -53,21 +53,21 @@ pub enum Node {
 }
 
 // An argument list: where its indices start in the stream, and how many there are.
-#[derive(Drop)]
+#[derive(Clone, Copy)]
 pub enum Arguments {
     At(usize, u32),
     Refused(Refusal),
 }
 
 // A size, 0 where none is known; or the type whose size it is.
-#[derive(Drop)]
+#[derive(Clone, Copy)]
 enum Sized {
     Known(u64),
     Through(TypeIndex),
 }
 
 // A type index looked up and read: a primitive; a record by place and length; or why there is none.
-#[derive(Drop)]
+#[derive(Clone, Copy)]
 enum Looked {
     Numbered(PrimitiveType),
     Held(usize, usize, TypeData),

@@ -24,7 +24,7 @@ pub struct Around {
 }
 
 // What a type adds, and where the walk goes on.
-#[derive(Drop)]
+#[derive(Clone, Copy)]
 pub enum Step {
     // A last token on the left.
     Last(Token),

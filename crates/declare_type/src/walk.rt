@@ -14,7 +14,7 @@ use field::index::TypeIndex;
 use stream_finder::ItemFinder;
 
 // How many bytes stand left and right; or why it is refused.
-#[derive(Drop)]
+#[derive(Clone, Copy)]
 pub enum Measured {
     Fits(usize, usize),
     Refused(Refusal),

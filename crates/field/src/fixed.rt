@@ -2,25 +2,25 @@
 ghost use Rattle.std.specs.Prelude.{◌≡◌, ◌+◌, ◌≤◌, length};
 ghost use Rattle.field.specs.Fields.{little_at, fixed_at, said8, said16, said32, said64};
 
-#[derive(Drop)]
+#[derive(Clone, Copy)]
 pub enum Read8 {
     Got(u8, usize),
     Ended,
 }
 
-#[derive(Drop)]
+#[derive(Clone, Copy)]
 pub enum Read16 {
     Got(u16, usize),
     Ended,
 }
 
-#[derive(Drop)]
+#[derive(Clone, Copy)]
 pub enum Read32 {
     Got(u32, usize),
     Ended,
 }
 
-#[derive(Drop)]
+#[derive(Clone, Copy)]
 pub enum Read64 {
     Got(u64, usize),
     Ended,

@@ -16,7 +16,7 @@ pub struct TypeIndex(pub u32);
 pub struct IdIndex(pub u32);
 
 // A string of the database's string table.
-#[derive(Drop)]
+#[derive(Clone, Copy)]
 pub struct StringRef(pub u32);
 
 // The two streams of items: types (TPI) and ids (IPI).
@@ -34,19 +34,19 @@ pub enum ItemIndex {
     Ids(IdIndex),
 }
 
-#[derive(Drop)]
+#[derive(Clone, Copy)]
 pub enum ReadType {
     Got(TypeIndex, usize),
     Ended,
 }
 
-#[derive(Drop)]
+#[derive(Clone, Copy)]
 pub enum ReadId {
     Got(IdIndex, usize),
     Ended,
 }
 
-#[derive(Drop)]
+#[derive(Clone, Copy)]
 pub enum ReadStringRef {
     Got(StringRef, usize),
     Ended,
@@ -64,13 +64,13 @@ pub enum OptIdIndex {
     Some(IdIndex),
 }
 
-#[derive(Drop)]
+#[derive(Clone, Copy)]
 pub enum ReadOptType {
     Got(OptTypeIndex, usize),
     Ended,
 }
 
-#[derive(Drop)]
+#[derive(Clone, Copy)]
 pub enum ReadOptId {
     Got(OptIdIndex, usize),
     Ended,

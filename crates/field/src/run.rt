@@ -3,7 +3,7 @@ ghost use Rattle.std.specs.Prelude.{◌≡◌};
 ghost use Rattle.field.specs.Runs.{bytes_after, bytes_at, said_after};
 
 // The place after some bytes.
-#[derive(Drop)]
+#[derive(Clone, Copy)]
 pub enum After {
     At(usize),
     Ended,

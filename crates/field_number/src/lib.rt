@@ -36,19 +36,19 @@ pub struct Size {
     pub shorter: bool,
 }
 
-#[derive(Drop)]
+#[derive(Clone, Copy)]
 pub enum ReadVariant {
     Got(Variant, usize),
     Refused(Refusal),
 }
 
-#[derive(Drop)]
+#[derive(Clone, Copy)]
 pub enum ReadSize {
     Got(Size, usize),
     Refused(Refusal),
 }
 
-#[derive(Drop)]
+#[derive(Clone, Copy)]
 enum ReadNumber {
     Got(Number, usize),
     Refused(Refusal),

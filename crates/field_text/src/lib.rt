@@ -24,7 +24,7 @@ pub enum OptString {
     Some(RawString),
 }
 
-#[derive(Drop)]
+#[derive(Clone, Copy)]
 pub enum ReadString {
     Got(RawString, usize),
     Ended,

@@ -43,7 +43,7 @@ fn put_record(rt: &impl Print, s: &[u8], item: Item) -> io::Result<()> {
 }
 
 // The cursor behind a record that was listed, or that the walk is over.
-#[derive(Drop)]
+#[derive(Clone, Copy)]
 enum Listed {
     One(ItemIter),
     Over,

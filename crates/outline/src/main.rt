@@ -125,7 +125,7 @@ fn put_member(
 }
 
 // What comes after the last element of a record: the list goes on in another one, or is over, or is refused.
-#[derive(Drop)]
+#[derive(Clone, Copy)]
 enum Rest {
     In(TypeIndex),
     Nothing,
@@ -133,7 +133,7 @@ enum Rest {
 }
 
 // What comes after an element: the next one of this record, or its end.
-#[derive(Drop)]
+#[derive(Clone, Copy)]
 enum Onward {
     To(ListCursor),
     Over(Rest),

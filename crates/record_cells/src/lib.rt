@@ -25,21 +25,21 @@ pub mod layout;
 
 // What a field holds, as three numbers: 1 absent; 2 and a number; 3 (4 where a shorter form carries it), n and the width of a numeric leaf n; 5 (6)
 // and the same for -1 - n; 7, the place and the length of many bytes.
-#[derive(Drop)]
+#[derive(Clone, Copy)]
 pub struct Cell {
     pub kind: u64,
     pub value: u64,
     pub more: u64,
 }
 
-#[derive(Drop)]
+#[derive(Clone, Copy)]
 enum FieldAnswer {
     // The cell, the word that later fields look at, and the place after the field.
     Got(Cell, u32, usize),
     Refused(Refusal),
 }
 
-#[derive(Drop)]
+#[derive(Clone, Copy)]
 pub enum CellsAnswer {
     // The place after the last field.
     Filled(usize),

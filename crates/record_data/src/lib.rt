@@ -27,7 +27,7 @@ use word_attributes::{
 };
 
 // What a class-like record is.
-#[derive(Drop)]
+#[derive(Clone, Copy)]
 pub enum ClassKind {
     // 0x1504
     Class,
@@ -40,7 +40,7 @@ pub enum ClassKind {
 }
 
 // 0x1504, 0x1505, 0x1519 and 0x1609: a class, structure or interface.
-#[derive(Drop)]
+#[derive(Clone, Copy)]
 pub struct ClassType {
     pub kind: ClassKind,
     // How many elements its field list has.
@@ -56,7 +56,7 @@ pub struct ClassType {
 }
 
 // 0x1009: the type of a member function.
-#[derive(Drop)]
+#[derive(Clone, Copy)]
 pub struct MemberFunctionType {
     pub return_type: TypeIndex,
     pub class_type: TypeIndex,
@@ -68,7 +68,7 @@ pub struct MemberFunctionType {
 }
 
 // 0x1008: the type of a function.
-#[derive(Drop)]
+#[derive(Clone, Copy)]
 pub struct ProcedureType {
     pub return_type: OptTypeIndex,
     pub attributes: FunctionAttributes,
@@ -77,7 +77,7 @@ pub struct ProcedureType {
 }
 
 // 0x1002: a pointer or reference; to a member of the containing class in modes 2 and 3.
-#[derive(Drop)]
+#[derive(Clone, Copy)]
 pub struct PointerType {
     pub underlying_type: TypeIndex,
     pub attributes: PointerAttributes,
@@ -85,14 +85,14 @@ pub struct PointerType {
 }
 
 // 0x1001: a type with const, volatile or unaligned.
-#[derive(Drop)]
+#[derive(Clone, Copy)]
 pub struct ModifierType {
     pub underlying_type: TypeIndex,
     pub flags: ModifierFlags,
 }
 
 // 0x1507: an enumeration, whose values stand in its field list.
-#[derive(Drop)]
+#[derive(Clone, Copy)]
 pub struct EnumerationType {
     pub count: u16,
     pub properties: TypeProperties,
@@ -103,7 +103,7 @@ pub struct EnumerationType {
 }
 
 // 0x1503: an array and its size in bytes.
-#[derive(Drop)]
+#[derive(Clone, Copy)]
 pub struct ArrayType {
     pub element_type: TypeIndex,
     pub indexing_type: TypeIndex,
@@ -112,7 +112,7 @@ pub struct ArrayType {
 }
 
 // 0x1506: a union.
-#[derive(Drop)]
+#[derive(Clone, Copy)]
 pub struct UnionType {
     pub count: u16,
     pub properties: TypeProperties,
@@ -123,7 +123,7 @@ pub struct UnionType {
 }
 
 // 0x1205: a bit field: how many bits, and from which one up.
-#[derive(Drop)]
+#[derive(Clone, Copy)]
 pub struct BitfieldType {
     pub underlying_type: TypeIndex,
     pub length: u8,
@@ -131,20 +131,20 @@ pub struct BitfieldType {
 }
 
 // 0x000a: the shape of a table of virtual functions, half a byte a slot: where it starts, and how many slots there are.
-#[derive(Drop)]
+#[derive(Clone, Copy)]
 pub struct VirtualTableShapeType {
     pub place: usize,
     pub count: u16,
 }
 
 // 0x1201: the types of a function's arguments: where the list starts, and how many there are.
-#[derive(Drop)]
+#[derive(Clone, Copy)]
 pub struct ArgumentList {
     pub place: usize,
     pub count: u32,
 }
 
-#[derive(Drop)]
+#[derive(Clone, Copy)]
 pub enum TypeData {
     Class(ClassType),
     MemberFunction(MemberFunctionType),
@@ -163,7 +163,7 @@ pub enum TypeData {
     MethodList,
 }
 
-#[derive(Drop)]
+#[derive(Clone, Copy)]
 pub enum TypeAnswer {
     Answered(TypeData),
     Refused(Refusal),
@@ -194,7 +194,7 @@ impl TypeData {
 
 // Parts that a word says are there --------------------------------------------------------------------------------------------
 
-#[derive(Drop)]
+#[derive(Clone, Copy)]
 enum ReadOptString {
     Got(OptString, usize),
     Ended,
@@ -375,7 +375,7 @@ fn array_at(s: &[u8], p: usize) -> TypeAnswer
 
 // Class, structure and interface have one layout, and one reader: with one caller it is inlined, and a class is made where it is used.
 
-#[derive(Drop)]
+#[derive(Clone, Copy)]
 enum OptKind {
     None,
     Some(ClassKind),

@@ -20,7 +20,7 @@ use record_layout::{
 };
 
 // 0x1601: a global function, usually inlined.
-#[derive(Drop)]
+#[derive(Clone, Copy)]
 pub struct FunctionId {
     pub scope: OptIdIndex,
     pub function_type: TypeIndex,
@@ -28,7 +28,7 @@ pub struct FunctionId {
 }
 
 // 0x1602: a member function, usually inlined.
-#[derive(Drop)]
+#[derive(Clone, Copy)]
 pub struct MemberFunctionId {
     pub parent: TypeIndex,
     pub function_type: TypeIndex,
@@ -36,28 +36,28 @@ pub struct MemberFunctionId {
 }
 
 // 0x1603: tool, version and command line build information, a list of id indices: where it starts, and how many there are.
-#[derive(Drop)]
+#[derive(Clone, Copy)]
 pub struct BuildInfoId {
     pub place: usize,
     pub count: u16,
 }
 
 // 0x1604: a list of substrings, type indices as the crate has them: where it starts, and how many there are.
-#[derive(Drop)]
+#[derive(Clone, Copy)]
 pub struct StringListId {
     pub place: usize,
     pub count: u32,
 }
 
 // 0x1605: a string, usually the full namespace of a function.
-#[derive(Drop)]
+#[derive(Clone, Copy)]
 pub struct StringId {
     pub substrings: OptIdIndex,
     pub name: RawString,
 }
 
 // The source file of a type's definition.
-#[derive(Drop)]
+#[derive(Clone, Copy)]
 pub enum UserDefinedTypeSourceFileRef {
     // 0x1606: the file's name is a string id of the same stream.
     Local(IdIndex),
@@ -66,14 +66,14 @@ pub enum UserDefinedTypeSourceFileRef {
 }
 
 // 0x1606 and 0x1607: source and line of the definition of a user defined type.
-#[derive(Drop)]
+#[derive(Clone, Copy)]
 pub struct UserDefinedTypeSourceId {
     pub udt: TypeIndex,
     pub source_file: UserDefinedTypeSourceFileRef,
     pub line: u32,
 }
 
-#[derive(Drop)]
+#[derive(Clone, Copy)]
 pub enum IdData {
     Function(FunctionId),
     MemberFunction(MemberFunctionId),
@@ -83,7 +83,7 @@ pub enum IdData {
     UserDefinedTypeSource(UserDefinedTypeSourceId),
 }
 
-#[derive(Drop)]
+#[derive(Clone, Copy)]
 pub enum IdAnswer {
     Answered(IdData),
     Refused(Refusal),

@@ -29,14 +29,14 @@ pub struct ListCursor {
 }
 
 // What `start` answers.
-#[derive(Drop)]
+#[derive(Clone, Copy)]
 pub enum StartAnswer {
     Answered(ListCursor),
     Refused(Refusal),
 }
 
 // An element of a list.
-#[derive(Drop)]
+#[derive(Clone, Copy)]
 pub enum Element {
     // Of 0x1201 and of 0x1604.
     Type(TypeIndex),
@@ -49,13 +49,13 @@ pub enum Element {
 }
 
 // What `step` answers: the element at the cursor, and the cursor for the next one.
-#[derive(Drop)]
+#[derive(Clone, Copy)]
 pub enum StepAnswer {
     Answered(Element, ListCursor),
     Refused(Refusal),
 }
 
-#[derive(Drop)]
+#[derive(Clone, Copy)]
 pub enum ElementAnswer {
     Answered(Element),
     Refused(Refusal),

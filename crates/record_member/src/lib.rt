@@ -120,14 +120,14 @@ pub enum Member {
 }
 
 // What `member_at` answers: the member and the place after it.
-#[derive(Drop)]
+#[derive(Clone, Copy)]
 pub enum ReadMember {
     Got(Member, usize),
     Refused(Refusal),
 }
 
 // An element of a method list: one of a method's overloads.
-#[derive(Drop)]
+#[derive(Clone, Copy)]
 pub struct MethodListEntry {
     pub attributes: FieldAttributes,
     pub method_type: TypeIndex,
@@ -135,7 +135,7 @@ pub struct MethodListEntry {
 }
 
 // What `method_entry_at` answers: the method and the place after it.
-#[derive(Drop)]
+#[derive(Clone, Copy)]
 pub enum ReadMethodEntry {
     Got(MethodListEntry, usize),
     Ended,
@@ -176,7 +176,7 @@ impl Member {
     }
 }
 
-#[derive(Drop)]
+#[derive(Clone, Copy)]
 enum ReadOffset {
     Got(OptOffset, usize),
     Ended,

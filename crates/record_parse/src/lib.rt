@@ -13,7 +13,7 @@ use stream_header::LONGEST;
 use stream_item::Entry;
 use word_primitive::{PrimitiveAnswer, PrimitiveType};
 
-#[derive(Drop)]
+#[derive(Clone, Copy)]
 pub enum ParseAnswer {
     Primitive(PrimitiveType),
     Type(TypeData),

@@ -18,7 +18,7 @@ pub struct ListReader<'a> {
 }
 
 // What a step in place leaves as the cursor, and what it answers.
-#[derive(Drop)]
+#[derive(Clone, Copy)]
 pub struct Stepped {
     pub cursor: ListCursor,
     pub answer: ElementAnswer,

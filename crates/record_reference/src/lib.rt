@@ -20,7 +20,7 @@ use record_list::Element;
 use record_member::Member;
 
 // What a field may refer to: the place of the index in the payload, and the index.
-#[derive(Drop)]
+#[derive(Clone, Copy)]
 pub enum Reference {
     None,
     Type(usize, u32),
@@ -28,7 +28,7 @@ pub enum Reference {
 }
 
 // Those of a record's fields that may refer, in the order of its layout; no record has more than four.
-#[derive(Drop)]
+#[derive(Clone, Copy)]
 pub struct References {
     pub first: Reference,
     pub second: Reference,
@@ -38,7 +38,7 @@ pub struct References {
 
 // Those of an element, none of them optional: how far behind the element's first field the first stands, and the indices, the second right
 // behind the first. The first field of a member is the one behind its leaf.
-#[derive(Drop)]
+#[derive(Clone, Copy)]
 pub enum ElementReferences {
     None,
     One(usize, u32),

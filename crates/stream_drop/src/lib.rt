@@ -27,13 +27,13 @@ use stream_item::iter;
 use stream_item::iter::{ItemIter, IterAnswer};
 
 // The new stream's length.
-#[derive(Drop)]
+#[derive(Clone, Copy)]
 pub enum DropAnswer {
     Written(usize),
     Refused(Refusal),
 }
 
-#[derive(Drop)]
+#[derive(Clone, Copy)]
 enum Above {
     None,
     Root(u32),

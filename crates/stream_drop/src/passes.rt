@@ -114,7 +114,7 @@ pub fn down(s: &[u8], minimum: u32, n: usize, table: &mut [u32], out: &mut [u8])
 }
 
 // Where numbering stands: the next number, and the bytes of the links that are kept so far.
-#[derive(Drop)]
+#[derive(Clone, Copy)]
 pub struct Count {
     pub next: u32,
     pub bytes: usize,

@@ -8,14 +8,14 @@ use answer::Refusal;
 use stream_item::iter::ItemIter;
 
 // An update in place answers with no value; what it refuses it leaves as it was, finder and table.
-#[derive(Drop)]
+#[derive(Clone, Copy)]
 pub enum UpdateAnswer {
     Answered,
     Refused(Refusal),
 }
 
 // What an update answers, and the finder after it.
-#[derive(Drop)]
+#[derive(Clone, Copy)]
 pub struct UpdateStep {
     pub answer: UpdateAnswer,
     pub finder: ItemFinder,

@@ -32,7 +32,7 @@ const LARGEST_SHIFT: u32 = 6;
 
 // The records that a finder is made for, by three numbers: where their first link starts, the least index, and the index behind the last. A
 // stream's are its header's.
-#[derive(Drop)]
+#[derive(Clone, Copy)]
 pub struct Records {
     pub start: u32,
     pub minimum: u32,
@@ -49,14 +49,14 @@ pub struct ItemFinder {
     pub shift: u32,
 }
 
-#[derive(Drop)]
+#[derive(Clone, Copy)]
 pub enum FinderAnswer {
     Answered(ItemFinder),
     Refused(Refusal),
 }
 
 // What a lookup found, and how many links it passed.
-#[derive(Drop)]
+#[derive(Clone, Copy)]
 pub enum FindAnswer {
     Found(Entry, u32),
     Refused(Refusal),

@@ -23,7 +23,7 @@ use word_primitive::PrimitiveAnswer;
 
 // What `fit` answers: yes; or no, with the index of the lowest record at fault and the first rule that it breaks, 1 count (of record 0),
 // 2 decode, 3 order, 4 primitive, 5 gap.
-#[derive(Drop)]
+#[derive(Clone, Copy)]
 pub enum FitAnswer {
     Yes,
     No(u32, u32),

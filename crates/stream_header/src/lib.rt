@@ -22,7 +22,7 @@ pub struct Slice {
 }
 
 // All fields of a header, by the crate's names.
-#[derive(Drop)]
+#[derive(Clone, Copy)]
 pub struct Header {
     pub version: u32,
     pub header_size: u32,
@@ -38,7 +38,7 @@ pub struct Header {
     pub hash_adj: Slice,
 }
 
-#[derive(Drop)]
+#[derive(Clone, Copy)]
 pub enum HeaderAnswer {
     Answered(Header),
     Refused(Refusal),

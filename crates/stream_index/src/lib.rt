@@ -11,7 +11,7 @@ use stream_finder::{FinderAnswer, ItemFinder};
 use stream_item::iter;
 use stream_item::iter::{ItemIter, IterAnswer, NextAnswer};
 
-#[derive(Drop)]
+#[derive(Clone, Copy)]
 pub enum TurnAnswer {
     Done,
     Moved(ItemFinder, ItemIter),
@@ -19,7 +19,7 @@ pub enum TurnAnswer {
 }
 
 // Why a walk ended.
-#[derive(Drop)]
+#[derive(Clone, Copy)]
 pub enum End {
     Done,
     Refused(Refusal),
@@ -27,14 +27,14 @@ pub enum End {
 
 // Where a walk ended: after a refusal, finder, cursor and table are as before the turn that was refused, so that the walk can go on from
 // there, with a longer table for example.
-#[derive(Drop)]
+#[derive(Clone, Copy)]
 pub struct Tour {
     pub finder: ItemFinder,
     pub cursor: ItemIter,
     pub end: End,
 }
 
-#[derive(Drop)]
+#[derive(Clone, Copy)]
 pub enum IndexAnswer {
     Answered(Tour),
     Refused(Refusal),

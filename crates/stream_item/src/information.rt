@@ -5,13 +5,13 @@ ghost use Rattle.stream_item.specs.Information.{len_of, said_len, is_empty_of, s
 use answer::Refusal;
 use stream_header::{Header, HeaderAnswer};
 
-#[derive(Drop)]
+#[derive(Clone, Copy)]
 pub enum LenAnswer {
     Answered(u32),
     Refused(Refusal),
 }
 
-#[derive(Drop)]
+#[derive(Clone, Copy)]
 pub enum EmptyAnswer {
     Answered(bool),
     Refused(Refusal),

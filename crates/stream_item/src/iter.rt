@@ -17,13 +17,13 @@ pub struct ItemIter {
     pub index: u32,
 }
 
-#[derive(Drop)]
+#[derive(Clone, Copy)]
 pub enum IterAnswer {
     Answered(ItemIter),
     Refused(Refusal),
 }
 
-#[derive(Drop)]
+#[derive(Clone, Copy)]
 pub enum NextAnswer {
     Done,
     Yielded(Item, ItemIter),

@@ -7,14 +7,14 @@ use crate::length_at;
 use stream_header::LONGEST;
 
 // A link's payload, by place and length; or broken.
-#[derive(Drop)]
+#[derive(Clone, Copy)]
 pub enum Link {
     Whole(usize, usize),
     Broken,
 }
 
 // The payload of the link that a walk came to; or how many links it passed before one broke.
-#[derive(Drop)]
+#[derive(Clone, Copy)]
 pub enum Hit {
     Landed(usize, usize),
     Missed(u32),

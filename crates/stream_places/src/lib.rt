@@ -85,7 +85,7 @@ fn width_for(n: usize) -> Width
 }
 
 // How many bytes a file takes.
-#[derive(Drop)]
+#[derive(Clone, Copy)]
 pub enum SaveAnswer {
     Answered(usize),
     Refused(Refusal),

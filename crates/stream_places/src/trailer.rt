@@ -8,7 +8,7 @@ use answer::Refusal;
 
 // What a places file says of itself: how many places it has and the shift of the finder that they are of; of the stream that it was made for,
 // the bounds of its indices, its length and its header's size; and how far back from the file's end the first place stands.
-#[derive(Drop)]
+#[derive(Clone, Copy)]
 pub struct Trailer {
     pub count: u32,
     pub shift: u8,
@@ -19,7 +19,7 @@ pub struct Trailer {
     pub distance: u32,
 }
 
-#[derive(Drop)]
+#[derive(Clone, Copy)]
 pub enum TrailerAnswer {
     Answered(Trailer),
     Refused(Refusal),

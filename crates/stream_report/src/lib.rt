@@ -35,7 +35,7 @@ pub struct Totals {
     pub rows: u64,
 }
 
-#[derive(Drop)]
+#[derive(Clone, Copy)]
 pub enum ReportAnswer {
     Added(Totals),
     Refused(Refusal),
@@ -43,7 +43,7 @@ pub enum ReportAnswer {
 
 // The count of a stream's records in the table: the row of the last record, the rows in use, whether a leaf had no room, and whether a sum passed
 // 64 bits.
-#[derive(Drop)]
+#[derive(Clone, Copy)]
 struct Count {
     last: usize,
     rows: usize,
@@ -52,14 +52,14 @@ struct Count {
 }
 
 // A stream that was counted.
-#[derive(Drop)]
+#[derive(Clone, Copy)]
 struct Walked {
     count: Count,
     largest: Largest,
     cursor: ItemIter,
 }
 
-#[derive(Drop)]
+#[derive(Clone, Copy)]
 enum WalkAnswer {
     Done(Walked),
     Refused,

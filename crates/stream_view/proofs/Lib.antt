@@ -1,2 +1,3 @@
+pub mod ViewLaws
 pub mod OneOutcome
 pub mod Examples

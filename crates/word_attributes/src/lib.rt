@@ -313,7 +313,7 @@ impl ModifierFlags {
 }
 
 // The kind of a pointer.
-#[derive(Drop)]
+#[derive(Clone, Copy)]
 pub enum PointerKind {
     // 16 bit pointer.
     Near16,
@@ -367,7 +367,7 @@ impl PointerKind {
 }
 
 // The mode of a pointer.
-#[derive(Drop)]
+#[derive(Clone, Copy)]
 pub enum PointerMode {
     // A regular pointer.
     Pointer,
@@ -410,28 +410,28 @@ impl PointerMode {
 }
 
 // What `pointer_kind` answers.
-#[derive(Drop)]
+#[derive(Clone, Copy)]
 pub enum KindAnswer {
     Answered(PointerKind),
     Refused(Refusal),
 }
 
 // What `pointer_mode` answers.
-#[derive(Drop)]
+#[derive(Clone, Copy)]
 pub enum ModeAnswer {
     Answered(PointerMode),
     Refused(Refusal),
 }
 
 // What `pointer_to_member` and `is_reference` answer: they need the mode.
-#[derive(Drop)]
+#[derive(Clone, Copy)]
 pub enum FlagAnswer {
     Answered(bool),
     Refused(Refusal),
 }
 
 // What `size` answers.
-#[derive(Drop)]
+#[derive(Clone, Copy)]
 pub enum SizeAnswer {
     Answered(u8),
     Refused(Refusal),

@@ -123,14 +123,14 @@ pub enum Indirection {
 }
 
 // A primitive type like `void` or `char *`.
-#[derive(Drop)]
+#[derive(Clone, Copy)]
 pub struct PrimitiveType {
     pub kind: PrimitiveKind,
     pub indirection: Indirection,
 }
 
 // What `primitive` answers.
-#[derive(Drop)]
+#[derive(Clone, Copy)]
 pub enum PrimitiveAnswer {
     Answered(PrimitiveType),
     Refused(Refusal),

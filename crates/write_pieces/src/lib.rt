@@ -39,14 +39,14 @@ pub enum Piece {
 }
 
 // How many bytes pieces take, held at 65,536, or that one of them is bad: 17.
-#[derive(Drop)]
+#[derive(Clone, Copy)]
 pub enum Measure {
     Size(usize),
     Bad,
 }
 
 // What every writer answers.
-#[derive(Drop)]
+#[derive(Clone, Copy)]
 pub enum WriteAnswer {
     // The place after what was written.
     Written(usize),
