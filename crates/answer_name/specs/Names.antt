@@ -1,11 +1,10 @@
--- The names of the refusals, as docs/NUMBERS.md has them, and how a name stands in 20 bytes.
-use Rattle.std.specs.Prelude.{ℕ, zero, suc, ◌-◌, ◌≡◌, List, [], ◌∷◌, ◌++◌, length}
+-- The names of the refusals, as docs/NUMBERS.md has them.
+use Rattle.std.specs.Prelude.{ℕ, List, [], ◌∷◌}
 use Prim.Native.Char.{code}
 use Prim.Native.String.{String}
 use Prim.Native.String as string
 use Rattle.answer.specs.declared.Refusal.{Refusal}
 use Rattle.answer.specs.declared.Refusal.TheVariants as refusal
-use Rattle.answer_name.specs.declared.Name.{Name}
 
 -- the bytes of a quoted text
 abbrev quoted : String → List ℕ
@@ -44,12 +43,3 @@ name_text refusal.TotalTooLarge = quoted "total too large"
 name_text refusal.LeavesFull = quoted "leaves full"
 name_text refusal.NotFit = quoted "not fit"
 name_text refusal.ReadsAsNone = quoted "reads as none"
-
-unfoldable pub blanks : ℕ → List ℕ
-blanks zero = []
-blanks (suc n) = 32 ∷ blanks n
-
--- a text in 20 bytes: its own, and spaces behind it
-pub record Holds (w : Name) (text : List ℕ) : Type 0 where
-  pub count : w.n ≡ length text
-  pub whole : w.bytes ≡ text ++ blanks (20 - length text)

@@ -16,19 +16,32 @@ use Rattle.field.proofs.fixed.u64_at.Met as field_fixed_u64_at
 use Rattle.field.proofs.fixed.u8_at.Met as field_fixed_u8_at
 use Rattle.field.proofs.index.IdIndex.is_cross_module.Met as field_index_id_index_is_cross_module
 use Rattle.field.proofs.index.IdIndex.optional.Met as field_index_id_index_optional
+use Rattle.field.proofs.index.IdIndexIndex.from_number.Met as field_index_id_index_index_from_number
+use Rattle.field.proofs.index.IdIndexOptionalIndex.or_none.Met as field_index_id_index_optional_index_or_none
 use Rattle.field.proofs.index.ItemIndex.number.Met as field_index_item_index_number
 use Rattle.field.proofs.index.ItemIndex.stream.Met as field_index_item_index_stream
 use Rattle.field.proofs.index.Stream.index.Met as field_index_stream_index
+use Rattle.field.proofs.index.StringRefIndex.from_number.Met as field_index_string_ref_index_from_number
 use Rattle.field.proofs.index.TypeIndex.is_cross_module.Met as field_index_type_index_is_cross_module
 use Rattle.field.proofs.index.TypeIndex.optional.Met as field_index_type_index_optional
+use Rattle.field.proofs.index.TypeIndexIndex.from_number.Met as field_index_type_index_index_from_number
+use Rattle.field.proofs.index.TypeIndexOptionalIndex.or_none.Met as field_index_type_index_optional_index_or_none
 use Rattle.field.proofs.index.id_at.Met as field_index_id_at
 use Rattle.field.proofs.index.optional_id_at.Met as field_index_optional_id_at
 use Rattle.field.proofs.index.optional_type_at.Met as field_index_optional_type_at
 use Rattle.field.proofs.index.string_ref_at.Met as field_index_string_ref_at
 use Rattle.field.proofs.index.type_at.Met as field_index_type_at
+use Rattle.field.proofs.reader.Reader.index.Met as field_reader_reader_index
+use Rattle.field.proofs.reader.Reader.optional.Met as field_reader_reader_optional
+use Rattle.field.proofs.reader.Reader.skip.Met as field_reader_reader_skip
+use Rattle.field.proofs.reader.Reader.u16.Met as field_reader_reader_u16
+use Rattle.field.proofs.reader.Reader.u32.Met as field_reader_reader_u32
+use Rattle.field.proofs.reader.Reader.u8.Met as field_reader_reader_u8
 use Rattle.field.proofs.run.after_bytes.Met as field_run_after_bytes
 use Rattle.field.proofs.run.bytes_at.Met as field_run_bytes_at
 use Rattle.field_number.proofs.number_at.Met as field_number_number_at
+use Rattle.field_number.proofs.read_number.Met as field_number_read_number
+use Rattle.field_number.proofs.read_size.Met as field_number_read_size
 use Rattle.field_number.proofs.size_at.Met as field_number_size_at
 use Rattle.field_put.proofs.put16.Met as field_put_put16
 use Rattle.field_put.proofs.put32.Met as field_put_put32
@@ -36,6 +49,7 @@ use Rattle.field_put.proofs.put8.Met as field_put_put8
 use Rattle.field_put.proofs.put_all.Met as field_put_put_all
 use Rattle.field_text.proofs.RawString.bytes.Met as field_text_raw_string_bytes
 use Rattle.field_text.proofs.after_padding.Met as field_text_after_padding
+use Rattle.field_text.proofs.read_string.Met as field_text_read_string
 use Rattle.field_text.proofs.string_at.Met as field_text_string_at
 use Rattle.field_text.proofs.string_of.Met as field_text_string_of
 use Rattle.pane.proofs.pdb_find.Met as pane_pdb_find
@@ -58,6 +72,7 @@ use Rattle.pane_index.proofs.pdb_view.Met as pane_index_pdb_view
 use Rattle.pane_out.proofs.first.Met as pane_out_first
 use Rattle.pane_out.proofs.flag.Met as pane_out_flag
 use Rattle.pane_out.proofs.is_set.Met as pane_out_is_set
+use Rattle.pane_out.proofs.refused.Met as pane_out_refused
 use Rattle.pane_out.proofs.second.Met as pane_out_second
 use Rattle.pane_parse.proofs.pdb_parse.Met as pane_parse_pdb_parse
 use Rattle.pane_parse.proofs.pdb_section_read.Met as pane_parse_pdb_section_read
@@ -78,7 +93,10 @@ use Rattle.pane_section.proofs.pdb_section_index.Met as pane_section_pdb_section
 use Rattle.pane_section.proofs.pdb_section_list.Met as pane_section_pdb_section_list
 use Rattle.pane_section.proofs.pdb_section_start.Met as pane_section_pdb_section_start
 use Rattle.pane_section.proofs.pdb_section_stream.Met as pane_section_pdb_section_stream
+use Rattle.pane_state.proofs.cursor_given.Met as pane_state_cursor_given
 use Rattle.pane_state.proofs.entry_of.Met as pane_state_entry_of
+use Rattle.pane_state.proofs.finder_given.Met as pane_state_finder_given
+use Rattle.pane_state.proofs.finder_out.Met as pane_state_finder_out
 use Rattle.pane_state.proofs.walk_out.Met as pane_state_walk_out
 use Rattle.pane_word.proofs.pdb_field_attributes.Met as pane_word_pdb_field_attributes
 use Rattle.pane_word.proofs.pdb_function_attributes.Met as pane_word_pdb_function_attributes
@@ -139,6 +157,7 @@ use Rattle.stream_finder.proofs.create_by.Met as stream_finder_create_by
 use Rattle.stream_finder.proofs.find_id.Met as stream_finder_find_id
 use Rattle.stream_finder.proofs.find_type.Met as stream_finder_find_type
 use Rattle.stream_finder.proofs.update.Met as stream_finder_update
+use Rattle.stream_fit.proofs.Rule.number.Met as stream_fit_rule_number
 use Rattle.stream_fit.proofs.fit.Met as stream_fit_fit
 use Rattle.stream_header.proofs.Header.count.Met as stream_header_header_count
 use Rattle.stream_header.proofs.Header.parse.Met as stream_header_header_parse
@@ -248,15 +267,29 @@ tied = record {
   field_index_string_ref_at = record { says = λ M 𝓤 𝓛 mem run. refl; meets = λ M. field_index_string_ref_at.met };
   field_index_optional_type_at = record { says = λ M 𝓤 𝓛 mem run. refl; meets = λ M. field_index_optional_type_at.met };
   field_index_optional_id_at = record { says = λ M 𝓤 𝓛 mem run. refl; meets = λ M. field_index_optional_id_at.met };
+  field_index_type_index_index_from_number = record { says = λ M 𝓤 𝓛 mem run. refl; meets = λ M. field_index_type_index_index_from_number.met };
+  field_index_id_index_index_from_number = record { says = λ M 𝓤 𝓛 mem run. refl; meets = λ M. field_index_id_index_index_from_number.met };
+  field_index_string_ref_index_from_number = record { says = λ M 𝓤 𝓛 mem run. refl; meets = λ M. field_index_string_ref_index_from_number.met };
+  field_index_type_index_optional_index_or_none = record { says = λ M 𝓤 𝓛 mem run. refl; meets = λ M. field_index_type_index_optional_index_or_none.met };
+  field_index_id_index_optional_index_or_none = record { says = λ M 𝓤 𝓛 mem run. refl; meets = λ M. field_index_id_index_optional_index_or_none.met };
+  field_reader_reader_u8 = record { says = λ M 𝓤 𝓛 mem run. refl; meets = λ M. field_reader_reader_u8.met };
+  field_reader_reader_u16 = record { says = λ M 𝓤 𝓛 mem run. refl; meets = λ M. field_reader_reader_u16.met };
+  field_reader_reader_u32 = record { says = λ M 𝓤 𝓛 mem run. refl; meets = λ M. field_reader_reader_u32.met };
+  field_reader_reader_skip = record { says = λ M 𝓤 𝓛 mem run. refl; meets = λ M. field_reader_reader_skip.met };
+  field_reader_reader_index = λ I the_index the_index_dict the_clone the_clone_dict. record { says = λ M 𝓤 𝓛 mem run. refl; meets = λ M. field_reader_reader_index.met };
+  field_reader_reader_optional = λ I the_optional_index the_optional_index_dict the_index the_index_dict the_clone the_clone_dict. record { says = λ M 𝓤 𝓛 mem run. refl; meets = λ M. field_reader_reader_optional.met };
   field_run_after_bytes = record { says = λ M 𝓤 𝓛 mem run. refl; meets = λ M. field_run_after_bytes.met };
   field_run_bytes_at = record { says = λ M 𝓤 𝓛 mem run. refl; meets = λ M. field_run_bytes_at.met };
   field_number_number_at = record { says = λ M 𝓤 𝓛 mem run. refl; meets = λ M. field_number_number_at.met };
   field_number_size_at = record { says = λ M 𝓤 𝓛 mem run. refl; meets = λ M. field_number_size_at.met };
+  field_number_read_number = record { says = λ M 𝓤 𝓛 mem run. refl; meets = λ M. field_number_read_number.met };
+  field_number_read_size = record { says = λ M 𝓤 𝓛 mem run. refl; meets = λ M. field_number_read_size.met };
   field_put_put8 = record { says = λ M 𝓤 𝓛 mem run. refl; meets = λ M. field_put_put8.met };
   field_put_put16 = record { says = λ M 𝓤 𝓛 mem run. refl; meets = λ M. field_put_put16.met };
   field_put_put32 = record { says = λ M 𝓤 𝓛 mem run. refl; meets = λ M. field_put_put32.met };
   field_put_put_all = record { says = λ M 𝓤 𝓛 mem run. refl; meets = λ M. field_put_put_all.met };
   field_text_string_at = record { says = λ M 𝓤 𝓛 mem run. refl; meets = λ M. field_text_string_at.met };
+  field_text_read_string = record { says = λ M 𝓤 𝓛 mem run. refl; meets = λ M. field_text_read_string.met };
   field_text_raw_string_bytes = record { says = λ M 𝓤 𝓛 mem run. refl; meets = λ M. field_text_raw_string_bytes.met };
   field_text_string_of = record { says = λ M 𝓤 𝓛 mem run. refl; meets = λ M. field_text_string_of.met };
   field_text_after_padding = record { says = λ M 𝓤 𝓛 mem run. refl; meets = λ M. field_text_after_padding.met };
@@ -279,6 +312,7 @@ tied = record {
   pane_index_pdb_save_short = record { says = λ M 𝓤 𝓛 mem run. refl; meets = λ M. pane_index_pdb_save_short.met };
   pane_out_first = record { says = λ M 𝓤 𝓛 mem run. refl; meets = λ M. pane_out_first.met };
   pane_out_second = record { says = λ M 𝓤 𝓛 mem run. refl; meets = λ M. pane_out_second.met };
+  pane_out_refused = record { says = λ M 𝓤 𝓛 mem run. refl; meets = λ M. pane_out_refused.met };
   pane_out_is_set = record { says = λ M 𝓤 𝓛 mem run. refl; meets = λ M. pane_out_is_set.met };
   pane_out_flag = record { says = λ M 𝓤 𝓛 mem run. refl; meets = λ M. pane_out_flag.met };
   pane_parse_pdb_parse = record { says = λ M 𝓤 𝓛 mem run. refl; meets = λ M. pane_parse_pdb_parse.met };
@@ -300,6 +334,9 @@ tied = record {
   pane_section_pdb_section_index = record { says = λ M 𝓤 𝓛 mem run. refl; meets = λ M. pane_section_pdb_section_index.met };
   pane_section_pdb_section_stream = record { says = λ M 𝓤 𝓛 mem run. refl; meets = λ M. pane_section_pdb_section_stream.met };
   pane_section_pdb_section_list = record { says = λ M 𝓤 𝓛 mem run. refl; meets = λ M. pane_section_pdb_section_list.met };
+  pane_state_cursor_given = record { says = λ M 𝓤 𝓛 mem run. refl; meets = λ M. pane_state_cursor_given.met };
+  pane_state_finder_given = record { says = λ M 𝓤 𝓛 mem run. refl; meets = λ M. pane_state_finder_given.met };
+  pane_state_finder_out = record { says = λ M 𝓤 𝓛 mem run. refl; meets = λ M. pane_state_finder_out.met };
   pane_state_walk_out = record { says = λ M 𝓤 𝓛 mem run. refl; meets = λ M. pane_state_walk_out.met };
   pane_state_entry_of = record { says = λ M 𝓤 𝓛 mem run. refl; meets = λ M. pane_state_entry_of.met };
   pane_word_pdb_string = record { says = λ M 𝓤 𝓛 mem run. refl; meets = λ M. pane_word_pdb_string.met };
@@ -361,6 +398,7 @@ tied = record {
   stream_finder_find_type = record { says = λ M 𝓤 𝓛 mem run. refl; meets = λ M. stream_finder_find_type.met };
   stream_finder_find_id = record { says = λ M 𝓤 𝓛 mem run. refl; meets = λ M. stream_finder_find_id.met };
   stream_finder_lent_item_finder_update = record { says = λ M 𝓤 𝓛 mem run. refl; meets = λ M. stream_finder_lent_item_finder_update.met };
+  stream_fit_rule_number = record { says = λ M 𝓤 𝓛 mem run. refl; meets = λ M. stream_fit_rule_number.met };
   stream_fit_fit = record { says = λ M 𝓤 𝓛 mem run. refl; meets = λ M. stream_fit_fit.met };
   stream_header_header_parse = record { says = λ M 𝓤 𝓛 mem run. refl; meets = λ M. stream_header_header_parse.met };
   stream_header_header_count = record { says = λ M 𝓤 𝓛 mem run. refl; meets = λ M. stream_header_header_count.met };

@@ -1,11 +1,13 @@
 -- Each public function is tied to its contract: the clauses of its source are the definition of PublicContracts.antt, and its code meets them. A field
 -- for each, named as that definition. Written by tools/ties.
+use Rattle.std.specs.Prelude.{[], ◌∷◌}
 use Rattle.answer.proofs.Refusal.details.Symbol as answer_refusal_details_code
 use Rattle.answer.proofs.Refusal.number.Symbol as answer_refusal_number_code
 use Rattle.answer.specs.contracts.Refusal.details as answer_refusal_details_source
 use Rattle.answer.specs.contracts.Refusal.number as answer_refusal_number_source
 use Rattle.answer_name.proofs.name_of.Symbol as answer_name_name_of_code
 use Rattle.answer_name.specs.contracts.name_of as answer_name_name_of_source
+use Rattle.claim_demands.specs.Tie.{TieOver}
 use Rattle.declare_spelling.proofs.indirection.Symbol as declare_spelling_indirection_code
 use Rattle.declare_spelling.proofs.kind.size.Symbol as declare_spelling_kind_size_code
 use Rattle.declare_spelling.proofs.kind.spelled.Symbol as declare_spelling_kind_spelled_code
@@ -24,16 +26,27 @@ use Rattle.field.proofs.fixed.u64_at.Symbol as field_fixed_u64_at_code
 use Rattle.field.proofs.fixed.u8_at.Symbol as field_fixed_u8_at_code
 use Rattle.field.proofs.index.IdIndex.is_cross_module.Symbol as field_index_id_index_is_cross_module_code
 use Rattle.field.proofs.index.IdIndex.optional.Symbol as field_index_id_index_optional_code
+use Rattle.field.proofs.index.IdIndexIndex.from_number.Symbol as field_index_id_index_index_from_number_code
+use Rattle.field.proofs.index.IdIndexOptionalIndex.or_none.Symbol as field_index_id_index_optional_index_or_none_code
 use Rattle.field.proofs.index.ItemIndex.number.Symbol as field_index_item_index_number_code
 use Rattle.field.proofs.index.ItemIndex.stream.Symbol as field_index_item_index_stream_code
 use Rattle.field.proofs.index.Stream.index.Symbol as field_index_stream_index_code
+use Rattle.field.proofs.index.StringRefIndex.from_number.Symbol as field_index_string_ref_index_from_number_code
 use Rattle.field.proofs.index.TypeIndex.is_cross_module.Symbol as field_index_type_index_is_cross_module_code
 use Rattle.field.proofs.index.TypeIndex.optional.Symbol as field_index_type_index_optional_code
+use Rattle.field.proofs.index.TypeIndexIndex.from_number.Symbol as field_index_type_index_index_from_number_code
+use Rattle.field.proofs.index.TypeIndexOptionalIndex.or_none.Symbol as field_index_type_index_optional_index_or_none_code
 use Rattle.field.proofs.index.id_at.Symbol as field_index_id_at_code
 use Rattle.field.proofs.index.optional_id_at.Symbol as field_index_optional_id_at_code
 use Rattle.field.proofs.index.optional_type_at.Symbol as field_index_optional_type_at_code
 use Rattle.field.proofs.index.string_ref_at.Symbol as field_index_string_ref_at_code
 use Rattle.field.proofs.index.type_at.Symbol as field_index_type_at_code
+use Rattle.field.proofs.reader.Reader.index.Statement as field_reader_reader_index_stated
+use Rattle.field.proofs.reader.Reader.optional.Statement as field_reader_reader_optional_stated
+use Rattle.field.proofs.reader.Reader.skip.Symbol as field_reader_reader_skip_code
+use Rattle.field.proofs.reader.Reader.u16.Symbol as field_reader_reader_u16_code
+use Rattle.field.proofs.reader.Reader.u32.Symbol as field_reader_reader_u32_code
+use Rattle.field.proofs.reader.Reader.u8.Symbol as field_reader_reader_u8_code
 use Rattle.field.proofs.run.after_bytes.Symbol as field_run_after_bytes_code
 use Rattle.field.proofs.run.bytes_at.Symbol as field_run_bytes_at_code
 use Rattle.field.specs.contracts.fixed.u16_at as field_fixed_u16_at_source
@@ -42,21 +55,38 @@ use Rattle.field.specs.contracts.fixed.u64_at as field_fixed_u64_at_source
 use Rattle.field.specs.contracts.fixed.u8_at as field_fixed_u8_at_source
 use Rattle.field.specs.contracts.index.IdIndex.is_cross_module as field_index_id_index_is_cross_module_source
 use Rattle.field.specs.contracts.index.IdIndex.optional as field_index_id_index_optional_source
+use Rattle.field.specs.contracts.index.IdIndexIndex.from_number as field_index_id_index_index_from_number_source
+use Rattle.field.specs.contracts.index.IdIndexOptionalIndex.or_none as field_index_id_index_optional_index_or_none_source
 use Rattle.field.specs.contracts.index.ItemIndex.number as field_index_item_index_number_source
 use Rattle.field.specs.contracts.index.ItemIndex.stream as field_index_item_index_stream_source
 use Rattle.field.specs.contracts.index.Stream.index as field_index_stream_index_source
+use Rattle.field.specs.contracts.index.StringRefIndex.from_number as field_index_string_ref_index_from_number_source
 use Rattle.field.specs.contracts.index.TypeIndex.is_cross_module as field_index_type_index_is_cross_module_source
 use Rattle.field.specs.contracts.index.TypeIndex.optional as field_index_type_index_optional_source
+use Rattle.field.specs.contracts.index.TypeIndexIndex.from_number as field_index_type_index_index_from_number_source
+use Rattle.field.specs.contracts.index.TypeIndexOptionalIndex.or_none as field_index_type_index_optional_index_or_none_source
 use Rattle.field.specs.contracts.index.id_at as field_index_id_at_source
 use Rattle.field.specs.contracts.index.optional_id_at as field_index_optional_id_at_source
 use Rattle.field.specs.contracts.index.optional_type_at as field_index_optional_type_at_source
 use Rattle.field.specs.contracts.index.string_ref_at as field_index_string_ref_at_source
 use Rattle.field.specs.contracts.index.type_at as field_index_type_at_source
+use Rattle.field.specs.contracts.reader.Reader.index as field_reader_reader_index_source
+use Rattle.field.specs.contracts.reader.Reader.optional as field_reader_reader_optional_source
+use Rattle.field.specs.contracts.reader.Reader.skip as field_reader_reader_skip_source
+use Rattle.field.specs.contracts.reader.Reader.u16 as field_reader_reader_u16_source
+use Rattle.field.specs.contracts.reader.Reader.u32 as field_reader_reader_u32_source
+use Rattle.field.specs.contracts.reader.Reader.u8 as field_reader_reader_u8_source
 use Rattle.field.specs.contracts.run.after_bytes as field_run_after_bytes_source
 use Rattle.field.specs.contracts.run.bytes_at as field_run_bytes_at_source
+use Rattle.field.specs.declared.index.Index as index_trait
+use Rattle.field.specs.declared.index.OptionalIndex as optional_index_trait
 use Rattle.field_number.proofs.number_at.Symbol as field_number_number_at_code
+use Rattle.field_number.proofs.read_number.Symbol as field_number_read_number_code
+use Rattle.field_number.proofs.read_size.Symbol as field_number_read_size_code
 use Rattle.field_number.proofs.size_at.Symbol as field_number_size_at_code
 use Rattle.field_number.specs.contracts.number_at as field_number_number_at_source
+use Rattle.field_number.specs.contracts.read_number as field_number_read_number_source
+use Rattle.field_number.specs.contracts.read_size as field_number_read_size_source
 use Rattle.field_number.specs.contracts.size_at as field_number_size_at_source
 use Rattle.field_put.proofs.put16.Symbol as field_put_put16_code
 use Rattle.field_put.proofs.put32.Symbol as field_put_put32_code
@@ -68,10 +98,12 @@ use Rattle.field_put.specs.contracts.put8 as field_put_put8_source
 use Rattle.field_put.specs.contracts.put_all as field_put_put_all_source
 use Rattle.field_text.proofs.RawString.bytes.Symbol as field_text_raw_string_bytes_code
 use Rattle.field_text.proofs.after_padding.Symbol as field_text_after_padding_code
+use Rattle.field_text.proofs.read_string.Symbol as field_text_read_string_code
 use Rattle.field_text.proofs.string_at.Symbol as field_text_string_at_code
 use Rattle.field_text.proofs.string_of.Symbol as field_text_string_of_code
 use Rattle.field_text.specs.contracts.RawString.bytes as field_text_raw_string_bytes_source
 use Rattle.field_text.specs.contracts.after_padding as field_text_after_padding_source
+use Rattle.field_text.specs.contracts.read_string as field_text_read_string_source
 use Rattle.field_text.specs.contracts.string_at as field_text_string_at_source
 use Rattle.field_text.specs.contracts.string_of as field_text_string_of_source
 use Rattle.pane.proofs.pdb_find.Symbol as pane_pdb_find_code
@@ -111,10 +143,12 @@ use Rattle.pane_index.specs.contracts.pdb_view as pane_index_pdb_view_source
 use Rattle.pane_out.proofs.first.Symbol as pane_out_first_code
 use Rattle.pane_out.proofs.flag.Symbol as pane_out_flag_code
 use Rattle.pane_out.proofs.is_set.Symbol as pane_out_is_set_code
+use Rattle.pane_out.proofs.refused.Symbol as pane_out_refused_code
 use Rattle.pane_out.proofs.second.Symbol as pane_out_second_code
 use Rattle.pane_out.specs.contracts.first as pane_out_first_source
 use Rattle.pane_out.specs.contracts.flag as pane_out_flag_source
 use Rattle.pane_out.specs.contracts.is_set as pane_out_is_set_source
+use Rattle.pane_out.specs.contracts.refused as pane_out_refused_source
 use Rattle.pane_out.specs.contracts.second as pane_out_second_source
 use Rattle.pane_parse.proofs.pdb_parse.Symbol as pane_parse_pdb_parse_code
 use Rattle.pane_parse.proofs.pdb_section_read.Symbol as pane_parse_pdb_section_read_code
@@ -154,9 +188,15 @@ use Rattle.pane_section.specs.contracts.pdb_section_index as pane_section_pdb_se
 use Rattle.pane_section.specs.contracts.pdb_section_list as pane_section_pdb_section_list_source
 use Rattle.pane_section.specs.contracts.pdb_section_start as pane_section_pdb_section_start_source
 use Rattle.pane_section.specs.contracts.pdb_section_stream as pane_section_pdb_section_stream_source
+use Rattle.pane_state.proofs.cursor_given.Symbol as pane_state_cursor_given_code
 use Rattle.pane_state.proofs.entry_of.Symbol as pane_state_entry_of_code
+use Rattle.pane_state.proofs.finder_given.Symbol as pane_state_finder_given_code
+use Rattle.pane_state.proofs.finder_out.Symbol as pane_state_finder_out_code
 use Rattle.pane_state.proofs.walk_out.Symbol as pane_state_walk_out_code
+use Rattle.pane_state.specs.contracts.cursor_given as pane_state_cursor_given_source
 use Rattle.pane_state.specs.contracts.entry_of as pane_state_entry_of_source
+use Rattle.pane_state.specs.contracts.finder_given as pane_state_finder_given_source
+use Rattle.pane_state.specs.contracts.finder_out as pane_state_finder_out_source
 use Rattle.pane_state.specs.contracts.walk_out as pane_state_walk_out_source
 use Rattle.pane_word.proofs.pdb_field_attributes.Symbol as pane_word_pdb_field_attributes_code
 use Rattle.pane_word.proofs.pdb_function_attributes.Symbol as pane_word_pdb_function_attributes_code
@@ -256,6 +296,7 @@ use Rattle.section_read.specs.contracts.parse as section_read_parse_source
 use Rattle.section_read.specs.contracts.start as section_read_start_source
 use Rattle.section_stream.proofs.to_stream.Symbol as section_stream_to_stream_code
 use Rattle.section_stream.specs.contracts.to_stream as section_stream_to_stream_source
+use Rattle.std.specs.declared.clone.Clone as clone_trait
 use Rattle.stream_drop.proofs.drop.Symbol as stream_drop_drop_code
 use Rattle.stream_drop.specs.contracts.drop as stream_drop_drop_source
 use Rattle.stream_finder.proofs.ItemFinder.max_id_index.Symbol as stream_finder_item_finder_max_id_index_code
@@ -276,7 +317,9 @@ use Rattle.stream_finder.specs.contracts.create_by as stream_finder_create_by_so
 use Rattle.stream_finder.specs.contracts.find_id as stream_finder_find_id_source
 use Rattle.stream_finder.specs.contracts.find_type as stream_finder_find_type_source
 use Rattle.stream_finder.specs.contracts.update as stream_finder_update_source
+use Rattle.stream_fit.proofs.Rule.number.Symbol as stream_fit_rule_number_code
 use Rattle.stream_fit.proofs.fit.Symbol as stream_fit_fit_code
+use Rattle.stream_fit.specs.contracts.Rule.number as stream_fit_rule_number_source
 use Rattle.stream_fit.specs.contracts.fit as stream_fit_fit_source
 use Rattle.stream_header.proofs.Header.count.Symbol as stream_header_header_count_code
 use Rattle.stream_header.proofs.Header.parse.Symbol as stream_header_header_parse_code
@@ -436,443 +479,485 @@ use Rattle.write_pieces.specs.contracts.fields.unnamed as write_pieces_fields_un
 use Rattle.write_pieces.specs.contracts.measured as write_pieces_measured_source
 use Rattle.write_pieces.specs.contracts.write_filled as write_pieces_write_filled_source
 use Rattle.write_pieces.specs.contracts.write_plain as write_pieces_write_plain_source
+use denote.RattleType.{RattleType}
+use mir.Syntax.{Dict}
+use package.contract.BorrowLft.{◌⊑◌}
+use package.contract.Lifetimes.{lft_at}
 use Rattle.claim_demands.specs.Tie.{Tie}
 use Rattle.claim_promises.specs.PublicContracts as contract
 
 pub record Tied : Type 2 where
   -- answer::Refusal::number
-  pub answer_refusal_number : Tie answer_refusal_number_source.ended (λ M 𝓤. answer_refusal_number_source.clauses) answer_refusal_number_code.name answer_refusal_number_code.code (λ κs a r e. contract.AnswerRefusalNumber a.0 r)
+  pub answer_refusal_number : Tie answer_refusal_number_source.ended (λ M 𝓤. answer_refusal_number_source.clauses) answer_refusal_number_code.name answer_refusal_number_code.code (λ κs a r e. contract.AnswerRefusalNumber a.0 r ∷ [])
   -- answer::Refusal::details
-  pub answer_refusal_details : Tie answer_refusal_details_source.ended (λ M 𝓤. answer_refusal_details_source.clauses) answer_refusal_details_code.name answer_refusal_details_code.code (λ κs a r e. contract.AnswerRefusalDetails a.0 r)
+  pub answer_refusal_details : Tie answer_refusal_details_source.ended (λ M 𝓤. answer_refusal_details_source.clauses) answer_refusal_details_code.name answer_refusal_details_code.code (λ κs a r e. contract.AnswerRefusalDetails a.0 r ∷ [])
   -- answer_name::name_of
-  pub answer_name_name_of : Tie answer_name_name_of_source.ended (λ M 𝓤. answer_name_name_of_source.clauses) answer_name_name_of_code.name answer_name_name_of_code.code (λ κs a r e. contract.AnswerNameNameOf a.0 r)
+  pub answer_name_name_of : Tie answer_name_name_of_source.ended (λ M 𝓤. answer_name_name_of_source.clauses) answer_name_name_of_code.name answer_name_name_of_code.code (λ κs a r e. contract.AnswerNameNameOf a.0 r.now ∷ [])
   -- declare_spelling::indirection
-  pub declare_spelling_indirection : Tie declare_spelling_indirection_source.ended (λ M 𝓤. declare_spelling_indirection_source.clauses) declare_spelling_indirection_code.name declare_spelling_indirection_code.code (λ κs a r e. contract.DeclareSpellingIndirection a.0 r)
+  pub declare_spelling_indirection : Tie declare_spelling_indirection_source.ended (λ M 𝓤. declare_spelling_indirection_source.clauses) declare_spelling_indirection_code.name declare_spelling_indirection_code.code (λ κs a r e. contract.DeclareSpellingIndirection a.0 r ∷ [])
   -- declare_spelling::mode
-  pub declare_spelling_mode : Tie declare_spelling_mode_source.ended (λ M 𝓤. declare_spelling_mode_source.clauses) declare_spelling_mode_code.name declare_spelling_mode_code.code (λ κs a r e. contract.DeclareSpellingMode a.0 r)
+  pub declare_spelling_mode : Tie declare_spelling_mode_source.ended (λ M 𝓤. declare_spelling_mode_source.clauses) declare_spelling_mode_code.name declare_spelling_mode_code.code (λ κs a r e. contract.DeclareSpellingMode a.0 r ∷ [])
   -- declare_spelling::qualifiers
-  pub declare_spelling_qualifiers : Tie declare_spelling_qualifiers_source.ended (λ M 𝓤. declare_spelling_qualifiers_source.clauses) declare_spelling_qualifiers_code.name declare_spelling_qualifiers_code.code (λ κs a r e. contract.DeclareSpellingQualifiers a.0 r)
+  pub declare_spelling_qualifiers : Tie declare_spelling_qualifiers_source.ended (λ M 𝓤. declare_spelling_qualifiers_source.clauses) declare_spelling_qualifiers_code.name declare_spelling_qualifiers_code.code (λ κs a r e. contract.DeclareSpellingQualifiers a.0 r ∷ [])
   -- declare_spelling::kind::spelled
-  pub declare_spelling_kind_spelled : Tie declare_spelling_kind_spelled_source.ended (λ M 𝓤. declare_spelling_kind_spelled_source.clauses) declare_spelling_kind_spelled_code.name declare_spelling_kind_spelled_code.code (λ κs a r e. contract.DeclareSpellingKindSpelled a.0 r)
+  pub declare_spelling_kind_spelled : Tie declare_spelling_kind_spelled_source.ended (λ M 𝓤. declare_spelling_kind_spelled_source.clauses) declare_spelling_kind_spelled_code.name declare_spelling_kind_spelled_code.code (λ κs a r e. contract.DeclareSpellingKindSpelled a.0 r ∷ [])
   -- declare_spelling::kind::size
-  pub declare_spelling_kind_size : Tie declare_spelling_kind_size_source.ended (λ M 𝓤. declare_spelling_kind_size_source.clauses) declare_spelling_kind_size_code.name declare_spelling_kind_size_code.code (λ κs a r e. contract.DeclareSpellingKindSize a.0 a.1.0 r)
+  pub declare_spelling_kind_size : Tie declare_spelling_kind_size_source.ended (λ M 𝓤. declare_spelling_kind_size_source.clauses) declare_spelling_kind_size_code.name declare_spelling_kind_size_code.code (λ κs a r e. contract.DeclareSpellingKindSize a.0 a.1.0 r ∷ [])
   -- declare_type::declare
-  pub declare_type_declare : Tie declare_type_declare_source.ended (λ M 𝓤. declare_type_declare_source.clauses) declare_type_declare_code.name declare_type_declare_code.code (λ κs a r e. contract.DeclareTypeDeclare a.0.now a.1.0 a.1.1.0.now a.1.1.1.0 a.1.1.1.1.0.now r e.1.1.1.1.0.now)
+  pub declare_type_declare : Tie declare_type_declare_source.ended (λ M 𝓤. declare_type_declare_source.clauses) declare_type_declare_code.name declare_type_declare_code.code (λ κs a r e. contract.DeclareTypeDeclare a.0.now a.1.0 a.1.1.0.now a.1.1.1.0 a.1.1.1.1.0.now r e.1.1.1.1.0.now ∷ [])
   -- field::fixed::u8_at
-  pub field_fixed_u8_at : Tie field_fixed_u8_at_source.ended (λ M 𝓤. field_fixed_u8_at_source.clauses) field_fixed_u8_at_code.name field_fixed_u8_at_code.code (λ κs a r e. contract.FieldFixedU8At a.0.now a.1.0 r)
+  pub field_fixed_u8_at : Tie field_fixed_u8_at_source.ended (λ M 𝓤. field_fixed_u8_at_source.clauses) field_fixed_u8_at_code.name field_fixed_u8_at_code.code (λ κs a r e. contract.FieldFixedU8At a.0.now a.1.0 r ∷ [])
   -- field::fixed::u16_at
-  pub field_fixed_u16_at : Tie field_fixed_u16_at_source.ended (λ M 𝓤. field_fixed_u16_at_source.clauses) field_fixed_u16_at_code.name field_fixed_u16_at_code.code (λ κs a r e. contract.FieldFixedU16At a.0.now a.1.0 r)
+  pub field_fixed_u16_at : Tie field_fixed_u16_at_source.ended (λ M 𝓤. field_fixed_u16_at_source.clauses) field_fixed_u16_at_code.name field_fixed_u16_at_code.code (λ κs a r e. contract.FieldFixedU16At a.0.now a.1.0 r ∷ [])
   -- field::fixed::u32_at
-  pub field_fixed_u32_at : Tie field_fixed_u32_at_source.ended (λ M 𝓤. field_fixed_u32_at_source.clauses) field_fixed_u32_at_code.name field_fixed_u32_at_code.code (λ κs a r e. contract.FieldFixedU32At a.0.now a.1.0 r)
+  pub field_fixed_u32_at : Tie field_fixed_u32_at_source.ended (λ M 𝓤. field_fixed_u32_at_source.clauses) field_fixed_u32_at_code.name field_fixed_u32_at_code.code (λ κs a r e. contract.FieldFixedU32At a.0.now a.1.0 r ∷ [])
   -- field::fixed::u64_at
-  pub field_fixed_u64_at : Tie field_fixed_u64_at_source.ended (λ M 𝓤. field_fixed_u64_at_source.clauses) field_fixed_u64_at_code.name field_fixed_u64_at_code.code (λ κs a r e. contract.FieldFixedU64At a.0.now a.1.0 r)
+  pub field_fixed_u64_at : Tie field_fixed_u64_at_source.ended (λ M 𝓤. field_fixed_u64_at_source.clauses) field_fixed_u64_at_code.name field_fixed_u64_at_code.code (λ κs a r e. contract.FieldFixedU64At a.0.now a.1.0 r ∷ [])
   -- field::index::Stream::index
-  pub field_index_stream_index : Tie field_index_stream_index_source.ended (λ M 𝓤. field_index_stream_index_source.clauses) field_index_stream_index_code.name field_index_stream_index_code.code (λ κs a r e. contract.FieldIndexStreamIndex a.0 a.1.0 r)
+  pub field_index_stream_index : Tie field_index_stream_index_source.ended (λ M 𝓤. field_index_stream_index_source.clauses) field_index_stream_index_code.name field_index_stream_index_code.code (λ κs a r e. contract.FieldIndexStreamIndex a.0 a.1.0 r ∷ [])
   -- field::index::ItemIndex::stream
-  pub field_index_item_index_stream : Tie field_index_item_index_stream_source.ended (λ M 𝓤. field_index_item_index_stream_source.clauses) field_index_item_index_stream_code.name field_index_item_index_stream_code.code (λ κs a r e. contract.FieldIndexItemIndexStream a.0 r)
+  pub field_index_item_index_stream : Tie field_index_item_index_stream_source.ended (λ M 𝓤. field_index_item_index_stream_source.clauses) field_index_item_index_stream_code.name field_index_item_index_stream_code.code (λ κs a r e. contract.FieldIndexItemIndexStream a.0 r ∷ [])
   -- field::index::ItemIndex::number
-  pub field_index_item_index_number : Tie field_index_item_index_number_source.ended (λ M 𝓤. field_index_item_index_number_source.clauses) field_index_item_index_number_code.name field_index_item_index_number_code.code (λ κs a r e. contract.FieldIndexItemIndexNumber a.0 r)
+  pub field_index_item_index_number : Tie field_index_item_index_number_source.ended (λ M 𝓤. field_index_item_index_number_source.clauses) field_index_item_index_number_code.name field_index_item_index_number_code.code (λ κs a r e. contract.FieldIndexItemIndexNumber a.0 r ∷ [])
   -- field::index::TypeIndex::is_cross_module
-  pub field_index_type_index_is_cross_module : Tie field_index_type_index_is_cross_module_source.ended (λ M 𝓤. field_index_type_index_is_cross_module_source.clauses) field_index_type_index_is_cross_module_code.name field_index_type_index_is_cross_module_code.code (λ κs a r e. contract.FieldIndexTypeIndexIsCrossModule a.0 r)
+  pub field_index_type_index_is_cross_module : Tie field_index_type_index_is_cross_module_source.ended (λ M 𝓤. field_index_type_index_is_cross_module_source.clauses) field_index_type_index_is_cross_module_code.name field_index_type_index_is_cross_module_code.code (λ κs a r e. contract.FieldIndexTypeIndexIsCrossModule a.0 r ∷ [])
   -- field::index::TypeIndex::optional
-  pub field_index_type_index_optional : Tie field_index_type_index_optional_source.ended (λ M 𝓤. field_index_type_index_optional_source.clauses) field_index_type_index_optional_code.name field_index_type_index_optional_code.code (λ κs a r e. contract.FieldIndexTypeIndexOptional a.0 r)
+  pub field_index_type_index_optional : Tie field_index_type_index_optional_source.ended (λ M 𝓤. field_index_type_index_optional_source.clauses) field_index_type_index_optional_code.name field_index_type_index_optional_code.code (λ κs a r e. contract.FieldIndexTypeIndexOptional a.0 r ∷ [])
   -- field::index::IdIndex::is_cross_module
-  pub field_index_id_index_is_cross_module : Tie field_index_id_index_is_cross_module_source.ended (λ M 𝓤. field_index_id_index_is_cross_module_source.clauses) field_index_id_index_is_cross_module_code.name field_index_id_index_is_cross_module_code.code (λ κs a r e. contract.FieldIndexIdIndexIsCrossModule a.0 r)
+  pub field_index_id_index_is_cross_module : Tie field_index_id_index_is_cross_module_source.ended (λ M 𝓤. field_index_id_index_is_cross_module_source.clauses) field_index_id_index_is_cross_module_code.name field_index_id_index_is_cross_module_code.code (λ κs a r e. contract.FieldIndexIdIndexIsCrossModule a.0 r ∷ [])
   -- field::index::IdIndex::optional
-  pub field_index_id_index_optional : Tie field_index_id_index_optional_source.ended (λ M 𝓤. field_index_id_index_optional_source.clauses) field_index_id_index_optional_code.name field_index_id_index_optional_code.code (λ κs a r e. contract.FieldIndexIdIndexOptional a.0 r)
+  pub field_index_id_index_optional : Tie field_index_id_index_optional_source.ended (λ M 𝓤. field_index_id_index_optional_source.clauses) field_index_id_index_optional_code.name field_index_id_index_optional_code.code (λ κs a r e. contract.FieldIndexIdIndexOptional a.0 r ∷ [])
   -- field::index::type_at
-  pub field_index_type_at : Tie field_index_type_at_source.ended (λ M 𝓤. field_index_type_at_source.clauses) field_index_type_at_code.name field_index_type_at_code.code (λ κs a r e. contract.FieldIndexTypeAt a.0.now a.1.0 r)
+  pub field_index_type_at : Tie field_index_type_at_source.ended (λ M 𝓤. field_index_type_at_source.clauses) field_index_type_at_code.name field_index_type_at_code.code (λ κs a r e. contract.FieldIndexTypeAt a.0.now a.1.0 r ∷ [])
   -- field::index::id_at
-  pub field_index_id_at : Tie field_index_id_at_source.ended (λ M 𝓤. field_index_id_at_source.clauses) field_index_id_at_code.name field_index_id_at_code.code (λ κs a r e. contract.FieldIndexIdAt a.0.now a.1.0 r)
+  pub field_index_id_at : Tie field_index_id_at_source.ended (λ M 𝓤. field_index_id_at_source.clauses) field_index_id_at_code.name field_index_id_at_code.code (λ κs a r e. contract.FieldIndexIdAt a.0.now a.1.0 r ∷ [])
   -- field::index::string_ref_at
-  pub field_index_string_ref_at : Tie field_index_string_ref_at_source.ended (λ M 𝓤. field_index_string_ref_at_source.clauses) field_index_string_ref_at_code.name field_index_string_ref_at_code.code (λ κs a r e. contract.FieldIndexStringRefAt a.0.now a.1.0 r)
+  pub field_index_string_ref_at : Tie field_index_string_ref_at_source.ended (λ M 𝓤. field_index_string_ref_at_source.clauses) field_index_string_ref_at_code.name field_index_string_ref_at_code.code (λ κs a r e. contract.FieldIndexStringRefAt a.0.now a.1.0 r ∷ [])
   -- field::index::optional_type_at
-  pub field_index_optional_type_at : Tie field_index_optional_type_at_source.ended (λ M 𝓤. field_index_optional_type_at_source.clauses) field_index_optional_type_at_code.name field_index_optional_type_at_code.code (λ κs a r e. contract.FieldIndexOptionalTypeAt a.0.now a.1.0 r)
+  pub field_index_optional_type_at : Tie field_index_optional_type_at_source.ended (λ M 𝓤. field_index_optional_type_at_source.clauses) field_index_optional_type_at_code.name field_index_optional_type_at_code.code (λ κs a r e. contract.FieldIndexOptionalTypeAt a.0.now a.1.0 r ∷ [])
   -- field::index::optional_id_at
-  pub field_index_optional_id_at : Tie field_index_optional_id_at_source.ended (λ M 𝓤. field_index_optional_id_at_source.clauses) field_index_optional_id_at_code.name field_index_optional_id_at_code.code (λ κs a r e. contract.FieldIndexOptionalIdAt a.0.now a.1.0 r)
+  pub field_index_optional_id_at : Tie field_index_optional_id_at_source.ended (λ M 𝓤. field_index_optional_id_at_source.clauses) field_index_optional_id_at_code.name field_index_optional_id_at_code.code (λ κs a r e. contract.FieldIndexOptionalIdAt a.0.now a.1.0 r ∷ [])
+  -- field::index::TypeIndexIndex::from_number
+  pub field_index_type_index_index_from_number : Tie field_index_type_index_index_from_number_source.ended (λ M 𝓤. field_index_type_index_index_from_number_source.clauses) field_index_type_index_index_from_number_code.name field_index_type_index_index_from_number_code.code (λ κs a r e. contract.FieldIndexTypeIndexIndexFromNumber a.0 r ∷ [])
+  -- field::index::IdIndexIndex::from_number
+  pub field_index_id_index_index_from_number : Tie field_index_id_index_index_from_number_source.ended (λ M 𝓤. field_index_id_index_index_from_number_source.clauses) field_index_id_index_index_from_number_code.name field_index_id_index_index_from_number_code.code (λ κs a r e. contract.FieldIndexIdIndexIndexFromNumber a.0 r ∷ [])
+  -- field::index::StringRefIndex::from_number
+  pub field_index_string_ref_index_from_number : Tie field_index_string_ref_index_from_number_source.ended (λ M 𝓤. field_index_string_ref_index_from_number_source.clauses) field_index_string_ref_index_from_number_code.name field_index_string_ref_index_from_number_code.code (λ κs a r e. contract.FieldIndexStringRefIndexFromNumber a.0 r ∷ [])
+  -- field::index::TypeIndexOptionalIndex::or_none
+  pub field_index_type_index_optional_index_or_none : Tie field_index_type_index_optional_index_or_none_source.ended (λ M 𝓤. field_index_type_index_optional_index_or_none_source.clauses) field_index_type_index_optional_index_or_none_code.name field_index_type_index_optional_index_or_none_code.code (λ κs a r e. contract.FieldIndexTypeIndexOptionalIndexOrNone a.0 r ∷ [])
+  -- field::index::IdIndexOptionalIndex::or_none
+  pub field_index_id_index_optional_index_or_none : Tie field_index_id_index_optional_index_or_none_source.ended (λ M 𝓤. field_index_id_index_optional_index_or_none_source.clauses) field_index_id_index_optional_index_or_none_code.name field_index_id_index_optional_index_or_none_code.code (λ κs a r e. contract.FieldIndexIdIndexOptionalIndexOrNone a.0 r ∷ [])
+  -- field::reader::Reader::u8
+  pub field_reader_reader_u8 : Tie field_reader_reader_u8_source.ended (λ M 𝓤. field_reader_reader_u8_source.clauses) field_reader_reader_u8_code.name field_reader_reader_u8_code.code (λ κs a r e. contract.FieldReaderReaderU8Value a.0.now r e.0.now ∷ contract.FieldReaderReaderU8Stays a.0.now r e.0.now ∷ contract.FieldReaderReaderU8Bytes a.0.now r e.0.now ∷ [])
+  -- field::reader::Reader::u16
+  pub field_reader_reader_u16 : Tie field_reader_reader_u16_source.ended (λ M 𝓤. field_reader_reader_u16_source.clauses) field_reader_reader_u16_code.name field_reader_reader_u16_code.code (λ κs a r e. contract.FieldReaderReaderU16Value a.0.now r e.0.now ∷ contract.FieldReaderReaderU16Stays a.0.now r e.0.now ∷ contract.FieldReaderReaderU16Bytes a.0.now r e.0.now ∷ [])
+  -- field::reader::Reader::u32
+  pub field_reader_reader_u32 : Tie field_reader_reader_u32_source.ended (λ M 𝓤. field_reader_reader_u32_source.clauses) field_reader_reader_u32_code.name field_reader_reader_u32_code.code (λ κs a r e. contract.FieldReaderReaderU32Value a.0.now r e.0.now ∷ contract.FieldReaderReaderU32Stays a.0.now r e.0.now ∷ contract.FieldReaderReaderU32Bytes a.0.now r e.0.now ∷ [])
+  -- field::reader::Reader::skip
+  pub field_reader_reader_skip : Tie field_reader_reader_skip_source.ended (λ M 𝓤. field_reader_reader_skip_source.clauses) field_reader_reader_skip_code.name field_reader_reader_skip_code.code (λ κs a r e. contract.FieldReaderReaderSkipPlace a.0.now a.1.0 r e.0.now ∷ contract.FieldReaderReaderSkipStays a.0.now a.1.0 r e.0.now ∷ contract.FieldReaderReaderSkipBytes a.0.now a.1.0 r e.0.now ∷ [])
+  -- field::reader::Reader::index
+  pub field_reader_reader_index : (I : RattleType) (the_index : index_trait.Ghosts I.Denot) (the_index_dict : Dict) (the_clone : clone_trait.Ghosts I.Denot) (the_clone_dict : Dict) → TieOver (field_reader_reader_index_source.ended I the_index the_index_dict the_clone the_clone_dict) (λ M 𝓤. field_reader_reader_index_source.clauses I the_index the_index_dict the_clone the_clone_dict) field_reader_reader_index_stated.statement (λ κs. lft_at 3 2 tt κs ⊑ I.lives) (λ κs a r e. contract.FieldReaderReaderIndexValue the_index a.0.now r e.0.now ∷ contract.FieldReaderReaderIndexStays the_index a.0.now r e.0.now ∷ contract.FieldReaderReaderIndexBytes the_index a.0.now r e.0.now ∷ [])
+  -- field::reader::Reader::optional
+  pub field_reader_reader_optional : (I : RattleType) (the_optional_index : optional_index_trait.Ghosts I.Denot) (the_optional_index_dict : Dict) (the_index : index_trait.Ghosts I.Denot) (the_index_dict : Dict) (the_clone : clone_trait.Ghosts I.Denot) (the_clone_dict : Dict) → TieOver (field_reader_reader_optional_source.ended I the_optional_index the_optional_index_dict the_index the_index_dict the_clone the_clone_dict) (λ M 𝓤. field_reader_reader_optional_source.clauses I the_optional_index the_optional_index_dict the_index the_index_dict the_clone the_clone_dict) field_reader_reader_optional_stated.statement (λ κs. lft_at 3 2 tt κs ⊑ I.lives) (λ κs a r e. contract.FieldReaderReaderOptionalValue the_optional_index the_index a.0.now r e.0.now ∷ contract.FieldReaderReaderOptionalStays the_optional_index the_index a.0.now r e.0.now ∷ contract.FieldReaderReaderOptionalBytes the_optional_index the_index a.0.now r e.0.now ∷ [])
   -- field::run::after_bytes
-  pub field_run_after_bytes : Tie field_run_after_bytes_source.ended (λ M 𝓤. field_run_after_bytes_source.clauses) field_run_after_bytes_code.name field_run_after_bytes_code.code (λ κs a r e. contract.FieldRunAfterBytes a.0.now a.1.0 a.1.1.0 r)
+  pub field_run_after_bytes : Tie field_run_after_bytes_source.ended (λ M 𝓤. field_run_after_bytes_source.clauses) field_run_after_bytes_code.name field_run_after_bytes_code.code (λ κs a r e. contract.FieldRunAfterBytes a.0.now a.1.0 a.1.1.0 r ∷ [])
   -- field::run::bytes_at
-  pub field_run_bytes_at : Tie field_run_bytes_at_source.ended (λ M 𝓤. field_run_bytes_at_source.clauses) field_run_bytes_at_code.name field_run_bytes_at_code.code (λ κs a r e. contract.FieldRunBytesAt a.0.now a.1.0 a.1.1.0 r.now)
+  pub field_run_bytes_at : Tie field_run_bytes_at_source.ended (λ M 𝓤. field_run_bytes_at_source.clauses) field_run_bytes_at_code.name field_run_bytes_at_code.code (λ κs a r e. contract.FieldRunBytesAt a.0.now a.1.0 a.1.1.0 r.now ∷ [])
   -- field_number::number_at
-  pub field_number_number_at : Tie field_number_number_at_source.ended (λ M 𝓤. field_number_number_at_source.clauses) field_number_number_at_code.name field_number_number_at_code.code (λ κs a r e. contract.FieldNumberNumberAt a.0.now a.1.0 r)
+  pub field_number_number_at : Tie field_number_number_at_source.ended (λ M 𝓤. field_number_number_at_source.clauses) field_number_number_at_code.name field_number_number_at_code.code (λ κs a r e. contract.FieldNumberNumberAt a.0.now a.1.0 r ∷ [])
   -- field_number::size_at
-  pub field_number_size_at : Tie field_number_size_at_source.ended (λ M 𝓤. field_number_size_at_source.clauses) field_number_size_at_code.name field_number_size_at_code.code (λ κs a r e. contract.FieldNumberSizeAt a.0.now a.1.0 r)
+  pub field_number_size_at : Tie field_number_size_at_source.ended (λ M 𝓤. field_number_size_at_source.clauses) field_number_size_at_code.name field_number_size_at_code.code (λ κs a r e. contract.FieldNumberSizeAt a.0.now a.1.0 r ∷ [])
+  -- field_number::read_number
+  pub field_number_read_number : Tie field_number_read_number_source.ended (λ M 𝓤. field_number_read_number_source.clauses) field_number_read_number_code.name field_number_read_number_code.code (λ κs a r e. contract.FieldNumberReadNumberValue a.0.now r e.0.now ∷ contract.FieldNumberReadNumberStays a.0.now r e.0.now ∷ contract.FieldNumberReadNumberBytes a.0.now r e.0.now ∷ [])
+  -- field_number::read_size
+  pub field_number_read_size : Tie field_number_read_size_source.ended (λ M 𝓤. field_number_read_size_source.clauses) field_number_read_size_code.name field_number_read_size_code.code (λ κs a r e. contract.FieldNumberReadSizeValue a.0.now r e.0.now ∷ contract.FieldNumberReadSizeStays a.0.now r e.0.now ∷ contract.FieldNumberReadSizeBytes a.0.now r e.0.now ∷ [])
   -- field_put::put8
-  pub field_put_put8 : Tie field_put_put8_source.ended (λ M 𝓤. field_put_put8_source.clauses) field_put_put8_code.name field_put_put8_code.code (λ κs a r e. contract.FieldPutPut8 a.0.now a.1.0 a.1.1.0 r e.0.now)
+  pub field_put_put8 : Tie field_put_put8_source.ended (λ M 𝓤. field_put_put8_source.clauses) field_put_put8_code.name field_put_put8_code.code (λ κs a r e. contract.FieldPutPut8 a.0.now a.1.0 a.1.1.0 r e.0.now ∷ [])
   -- field_put::put16
-  pub field_put_put16 : Tie field_put_put16_source.ended (λ M 𝓤. field_put_put16_source.clauses) field_put_put16_code.name field_put_put16_code.code (λ κs a r e. contract.FieldPutPut16 a.0.now a.1.0 a.1.1.0 r e.0.now)
+  pub field_put_put16 : Tie field_put_put16_source.ended (λ M 𝓤. field_put_put16_source.clauses) field_put_put16_code.name field_put_put16_code.code (λ κs a r e. contract.FieldPutPut16 a.0.now a.1.0 a.1.1.0 r e.0.now ∷ [])
   -- field_put::put32
-  pub field_put_put32 : Tie field_put_put32_source.ended (λ M 𝓤. field_put_put32_source.clauses) field_put_put32_code.name field_put_put32_code.code (λ κs a r e. contract.FieldPutPut32 a.0.now a.1.0 a.1.1.0 r e.0.now)
+  pub field_put_put32 : Tie field_put_put32_source.ended (λ M 𝓤. field_put_put32_source.clauses) field_put_put32_code.name field_put_put32_code.code (λ κs a r e. contract.FieldPutPut32 a.0.now a.1.0 a.1.1.0 r e.0.now ∷ [])
   -- field_put::put_all
-  pub field_put_put_all : Tie field_put_put_all_source.ended (λ M 𝓤. field_put_put_all_source.clauses) field_put_put_all_code.name field_put_put_all_code.code (λ κs a r e. contract.FieldPutPutAll a.0.now a.1.0 a.1.1.0.now r e.0.now)
+  pub field_put_put_all : Tie field_put_put_all_source.ended (λ M 𝓤. field_put_put_all_source.clauses) field_put_put_all_code.name field_put_put_all_code.code (λ κs a r e. contract.FieldPutPutAll a.0.now a.1.0 a.1.1.0.now r e.0.now ∷ [])
   -- field_text::string_at
-  pub field_text_string_at : Tie field_text_string_at_source.ended (λ M 𝓤. field_text_string_at_source.clauses) field_text_string_at_code.name field_text_string_at_code.code (λ κs a r e. contract.FieldTextStringAt a.0.now a.1.0 r)
+  pub field_text_string_at : Tie field_text_string_at_source.ended (λ M 𝓤. field_text_string_at_source.clauses) field_text_string_at_code.name field_text_string_at_code.code (λ κs a r e. contract.FieldTextStringAt a.0.now a.1.0 r ∷ [])
+  -- field_text::read_string
+  pub field_text_read_string : Tie field_text_read_string_source.ended (λ M 𝓤. field_text_read_string_source.clauses) field_text_read_string_code.name field_text_read_string_code.code (λ κs a r e. contract.FieldTextReadStringValue a.0.now r e.0.now ∷ contract.FieldTextReadStringStays a.0.now r e.0.now ∷ contract.FieldTextReadStringBytes a.0.now r e.0.now ∷ [])
   -- field_text::RawString::bytes
-  pub field_text_raw_string_bytes : Tie field_text_raw_string_bytes_source.ended (λ M 𝓤. field_text_raw_string_bytes_source.clauses) field_text_raw_string_bytes_code.name field_text_raw_string_bytes_code.code (λ κs a r e. contract.FieldTextRawStringBytes a.0 a.1.0.now r.now)
+  pub field_text_raw_string_bytes : Tie field_text_raw_string_bytes_source.ended (λ M 𝓤. field_text_raw_string_bytes_source.clauses) field_text_raw_string_bytes_code.name field_text_raw_string_bytes_code.code (λ κs a r e. contract.FieldTextRawStringBytes a.0 a.1.0.now r.now ∷ [])
   -- field_text::string_of
-  pub field_text_string_of : Tie field_text_string_of_source.ended (λ M 𝓤. field_text_string_of_source.clauses) field_text_string_of_code.name field_text_string_of_code.code (λ κs a r e. contract.FieldTextStringOf a.0 a.1.0.now a.1.1.0 r)
+  pub field_text_string_of : Tie field_text_string_of_source.ended (λ M 𝓤. field_text_string_of_source.clauses) field_text_string_of_code.name field_text_string_of_code.code (λ κs a r e. contract.FieldTextStringOf a.0 a.1.0.now a.1.1.0 r ∷ [])
   -- field_text::after_padding
-  pub field_text_after_padding : Tie field_text_after_padding_source.ended (λ M 𝓤. field_text_after_padding_source.clauses) field_text_after_padding_code.name field_text_after_padding_code.code (λ κs a r e. contract.FieldTextAfterPadding a.0.now a.1.0 r)
+  pub field_text_after_padding : Tie field_text_after_padding_source.ended (λ M 𝓤. field_text_after_padding_source.clauses) field_text_after_padding_code.name field_text_after_padding_code.code (λ κs a r e. contract.FieldTextAfterPadding a.0.now a.1.0 r ∷ [])
   -- pane::pdb_header
-  pub pane_pdb_header : Tie pane_pdb_header_source.ended (λ M 𝓤. pane_pdb_header_source.clauses) pane_pdb_header_code.name pane_pdb_header_code.code (λ κs a r e. contract.PanePdbHeader a.0.now r e.1.0.now)
+  pub pane_pdb_header : Tie pane_pdb_header_source.ended (λ M 𝓤. pane_pdb_header_source.clauses) pane_pdb_header_code.name pane_pdb_header_code.code (λ κs a r e. contract.PanePdbHeader a.0.now r e.1.0.now ∷ [])
   -- pane::pdb_next
-  pub pane_pdb_next : Tie pane_pdb_next_source.ended (λ M 𝓤. pane_pdb_next_source.clauses) pane_pdb_next_code.name pane_pdb_next_code.code (λ κs a r e. contract.PanePdbNext a.0.now a.1.0 a.1.1.0 r e.1.1.1.0.now)
+  pub pane_pdb_next : Tie pane_pdb_next_source.ended (λ M 𝓤. pane_pdb_next_source.clauses) pane_pdb_next_code.name pane_pdb_next_code.code (λ κs a r e. contract.PanePdbNext a.0.now a.1.0 a.1.1.0 r e.1.1.1.0.now ∷ [])
   -- pane::pdb_update
-  pub pane_pdb_update : Tie pane_pdb_update_source.ended (λ M 𝓤. pane_pdb_update_source.clauses) pane_pdb_update_code.name pane_pdb_update_code.code (λ κs a r e. contract.PanePdbUpdate a.0.now a.1.0 a.1.1.0 a.1.1.1.0 a.1.1.1.1.0 a.1.1.1.1.1.0 a.1.1.1.1.1.1.0 r e.0.now e.1.1.1.1.1.1.1.0.now)
+  pub pane_pdb_update : Tie pane_pdb_update_source.ended (λ M 𝓤. pane_pdb_update_source.clauses) pane_pdb_update_code.name pane_pdb_update_code.code (λ κs a r e. contract.PanePdbUpdate a.0.now a.1.0 a.1.1.0 a.1.1.1.0 a.1.1.1.1.0 a.1.1.1.1.1.0 a.1.1.1.1.1.1.0 r e.0.now e.1.1.1.1.1.1.1.0.now ∷ [])
   -- pane::pdb_find
-  pub pane_pdb_find : Tie pane_pdb_find_source.ended (λ M 𝓤. pane_pdb_find_source.clauses) pane_pdb_find_code.name pane_pdb_find_code.code (λ κs a r e. contract.PanePdbFind a.0.now a.1.0.now a.1.1.0 a.1.1.1.0 a.1.1.1.1.0 a.1.1.1.1.1.0 a.1.1.1.1.1.1.0 r e.1.1.1.1.1.1.1.0.now)
+  pub pane_pdb_find : Tie pane_pdb_find_source.ended (λ M 𝓤. pane_pdb_find_source.clauses) pane_pdb_find_code.name pane_pdb_find_code.code (λ κs a r e. contract.PanePdbFind a.0.now a.1.0.now a.1.1.0 a.1.1.1.0 a.1.1.1.1.0 a.1.1.1.1.1.0 a.1.1.1.1.1.1.0 r e.1.1.1.1.1.1.1.0.now ∷ [])
   -- pane::pdb_primitive
-  pub pane_pdb_primitive : Tie pane_pdb_primitive_source.ended (λ M 𝓤. pane_pdb_primitive_source.clauses) pane_pdb_primitive_code.name pane_pdb_primitive_code.code (λ κs a r e. contract.PanePdbPrimitive a.0 r e.1.0.now)
+  pub pane_pdb_primitive : Tie pane_pdb_primitive_source.ended (λ M 𝓤. pane_pdb_primitive_source.clauses) pane_pdb_primitive_code.name pane_pdb_primitive_code.code (λ κs a r e. contract.PanePdbPrimitive a.0 r e.1.0.now ∷ [])
   -- pane_declare::pdb_declare
-  pub pane_declare_pdb_declare : Tie pane_declare_pdb_declare_source.ended (λ M 𝓤. pane_declare_pdb_declare_source.clauses) pane_declare_pdb_declare_code.name pane_declare_pdb_declare_code.code (λ κs a r e. contract.PaneDeclarePdbDeclare a.0.now a.1.0.now a.1.1.0 a.1.1.1.0 a.1.1.1.1.0 a.1.1.1.1.1.0 a.1.1.1.1.1.1.0 a.1.1.1.1.1.1.1.0.now r e.1.1.1.1.1.1.1.0.now e.1.1.1.1.1.1.1.1.0.now)
+  pub pane_declare_pdb_declare : Tie pane_declare_pdb_declare_source.ended (λ M 𝓤. pane_declare_pdb_declare_source.clauses) pane_declare_pdb_declare_code.name pane_declare_pdb_declare_code.code (λ κs a r e. contract.PaneDeclarePdbDeclare a.0.now a.1.0.now a.1.1.0 a.1.1.1.0 a.1.1.1.1.0 a.1.1.1.1.1.0 a.1.1.1.1.1.1.0 a.1.1.1.1.1.1.1.0.now r e.1.1.1.1.1.1.1.0.now e.1.1.1.1.1.1.1.1.0.now ∷ [])
   -- pane_drop::pdb_drop
-  pub pane_drop_pdb_drop : Tie pane_drop_pdb_drop_source.ended (λ M 𝓤. pane_drop_pdb_drop_source.clauses) pane_drop_pdb_drop_code.name pane_drop_pdb_drop_code.code (λ κs a r e. contract.PaneDropPdbDrop a.0.now a.1.0.now a.1.1.0.now a.1.1.1.0.now r e.1.1.0.now e.1.1.1.0.now e.1.1.1.1.0.now)
+  pub pane_drop_pdb_drop : Tie pane_drop_pdb_drop_source.ended (λ M 𝓤. pane_drop_pdb_drop_source.clauses) pane_drop_pdb_drop_code.name pane_drop_pdb_drop_code.code (λ κs a r e. contract.PaneDropPdbDrop a.0.now a.1.0.now a.1.1.0.now a.1.1.1.0.now r e.1.1.0.now e.1.1.1.0.now e.1.1.1.1.0.now ∷ [])
   -- pane_fit::pdb_fit
-  pub pane_fit_pdb_fit : Tie pane_fit_pdb_fit_source.ended (λ M 𝓤. pane_fit_pdb_fit_source.clauses) pane_fit_pdb_fit_code.name pane_fit_pdb_fit_code.code (λ κs a r e. contract.PaneFitPdbFit a.0.now r e.1.0.now)
+  pub pane_fit_pdb_fit : Tie pane_fit_pdb_fit_source.ended (λ M 𝓤. pane_fit_pdb_fit_source.clauses) pane_fit_pdb_fit_code.name pane_fit_pdb_fit_code.code (λ κs a r e. contract.PaneFitPdbFit a.0.now r e.1.0.now ∷ [])
   -- pane_index::pdb_create
-  pub pane_index_pdb_create : Tie pane_index_pdb_create_source.ended (λ M 𝓤. pane_index_pdb_create_source.clauses) pane_index_pdb_create_code.name pane_index_pdb_create_code.code (λ κs a r e. contract.PaneIndexPdbCreate a.0.now a.1.0.now a.1.1.0 r e.1.0.now e.1.1.1.0.now)
+  pub pane_index_pdb_create : Tie pane_index_pdb_create_source.ended (λ M 𝓤. pane_index_pdb_create_source.clauses) pane_index_pdb_create_code.name pane_index_pdb_create_code.code (λ κs a r e. contract.PaneIndexPdbCreate a.0.now a.1.0.now a.1.1.0 r e.1.0.now e.1.1.1.0.now ∷ [])
   -- pane_index::pdb_index
-  pub pane_index_pdb_index : Tie pane_index_pdb_index_source.ended (λ M 𝓤. pane_index_pdb_index_source.clauses) pane_index_pdb_index_code.name pane_index_pdb_index_code.code (λ κs a r e. contract.PaneIndexPdbIndex a.0.now a.1.0.now a.1.1.0 r e.1.0.now e.1.1.1.0.now)
+  pub pane_index_pdb_index : Tie pane_index_pdb_index_source.ended (λ M 𝓤. pane_index_pdb_index_source.clauses) pane_index_pdb_index_code.name pane_index_pdb_index_code.code (λ κs a r e. contract.PaneIndexPdbIndex a.0.now a.1.0.now a.1.1.0 r e.1.0.now e.1.1.1.0.now ∷ [])
   -- pane_index::pdb_max_index
-  pub pane_index_pdb_max_index : Tie pane_index_pdb_max_index_source.ended (λ M 𝓤. pane_index_pdb_max_index_source.clauses) pane_index_pdb_max_index_code.name pane_index_pdb_max_index_code.code (λ κs a r e. contract.PaneIndexPdbMaxIndex a.0 a.1.0 a.1.1.0 a.1.1.1.0 r)
+  pub pane_index_pdb_max_index : Tie pane_index_pdb_max_index_source.ended (λ M 𝓤. pane_index_pdb_max_index_source.clauses) pane_index_pdb_max_index_code.name pane_index_pdb_max_index_code.code (λ κs a r e. contract.PaneIndexPdbMaxIndex a.0 a.1.0 a.1.1.0 a.1.1.1.0 r ∷ [])
   -- pane_index::pdb_view
-  pub pane_index_pdb_view : Tie pane_index_pdb_view_source.ended (λ M 𝓤. pane_index_pdb_view_source.clauses) pane_index_pdb_view_code.name pane_index_pdb_view_code.code (λ κs a r e. contract.PaneIndexPdbView a.0.now a.1.0.now a.1.1.0 a.1.1.1.0 a.1.1.1.1.0 a.1.1.1.1.1.0 a.1.1.1.1.1.1.0 r e.1.1.1.1.1.1.1.0.now)
+  pub pane_index_pdb_view : Tie pane_index_pdb_view_source.ended (λ M 𝓤. pane_index_pdb_view_source.clauses) pane_index_pdb_view_code.name pane_index_pdb_view_code.code (λ κs a r e. contract.PaneIndexPdbView a.0.now a.1.0.now a.1.1.0 a.1.1.1.0 a.1.1.1.1.0 a.1.1.1.1.1.0 a.1.1.1.1.1.1.0 r e.1.1.1.1.1.1.1.0.now ∷ [])
   -- pane_index::pdb_kind
-  pub pane_index_pdb_kind : Tie pane_index_pdb_kind_source.ended (λ M 𝓤. pane_index_pdb_kind_source.clauses) pane_index_pdb_kind_code.name pane_index_pdb_kind_code.code (λ κs a r e. contract.PaneIndexPdbKind a.0.now a.1.0.now a.1.1.0 a.1.1.1.0 a.1.1.1.1.0 a.1.1.1.1.1.0 a.1.1.1.1.1.1.0 r e.1.1.1.1.1.1.1.0.now)
+  pub pane_index_pdb_kind : Tie pane_index_pdb_kind_source.ended (λ M 𝓤. pane_index_pdb_kind_source.clauses) pane_index_pdb_kind_code.name pane_index_pdb_kind_code.code (λ κs a r e. contract.PaneIndexPdbKind a.0.now a.1.0.now a.1.1.0 a.1.1.1.0 a.1.1.1.1.0 a.1.1.1.1.1.0 a.1.1.1.1.1.1.0 r e.1.1.1.1.1.1.1.0.now ∷ [])
   -- pane_index::pdb_load
-  pub pane_index_pdb_load : Tie pane_index_pdb_load_source.ended (λ M 𝓤. pane_index_pdb_load_source.clauses) pane_index_pdb_load_code.name pane_index_pdb_load_code.code (λ κs a r e. contract.PaneIndexPdbLoad a.0.now a.1.0.now a.1.1.0.now r e.1.1.0.now e.1.1.1.0.now)
+  pub pane_index_pdb_load : Tie pane_index_pdb_load_source.ended (λ M 𝓤. pane_index_pdb_load_source.clauses) pane_index_pdb_load_code.name pane_index_pdb_load_code.code (λ κs a r e. contract.PaneIndexPdbLoad a.0.now a.1.0.now a.1.1.0.now r e.1.1.0.now e.1.1.1.0.now ∷ [])
   -- pane_index::pdb_load_short
-  pub pane_index_pdb_load_short : Tie pane_index_pdb_load_short_source.ended (λ M 𝓤. pane_index_pdb_load_short_source.clauses) pane_index_pdb_load_short_code.name pane_index_pdb_load_short_code.code (λ κs a r e. contract.PaneIndexPdbLoadShort a.0.now a.1.0.now a.1.1.0.now r e.1.1.0.now e.1.1.1.0.now)
+  pub pane_index_pdb_load_short : Tie pane_index_pdb_load_short_source.ended (λ M 𝓤. pane_index_pdb_load_short_source.clauses) pane_index_pdb_load_short_code.name pane_index_pdb_load_short_code.code (λ κs a r e. contract.PaneIndexPdbLoadShort a.0.now a.1.0.now a.1.1.0.now r e.1.1.0.now e.1.1.1.0.now ∷ [])
   -- pane_index::pdb_save
-  pub pane_index_pdb_save : Tie pane_index_pdb_save_source.ended (λ M 𝓤. pane_index_pdb_save_source.clauses) pane_index_pdb_save_code.name pane_index_pdb_save_code.code (λ κs a r e. contract.PaneIndexPdbSave a.0.now a.1.0.now a.1.1.0 a.1.1.1.0 a.1.1.1.1.0 a.1.1.1.1.1.0 a.1.1.1.1.1.1.0.now r e.1.1.1.1.1.1.0.now e.1.1.1.1.1.1.1.0.now)
+  pub pane_index_pdb_save : Tie pane_index_pdb_save_source.ended (λ M 𝓤. pane_index_pdb_save_source.clauses) pane_index_pdb_save_code.name pane_index_pdb_save_code.code (λ κs a r e. contract.PaneIndexPdbSave a.0.now a.1.0.now a.1.1.0 a.1.1.1.0 a.1.1.1.1.0 a.1.1.1.1.1.0 a.1.1.1.1.1.1.0.now r e.1.1.1.1.1.1.0.now e.1.1.1.1.1.1.1.0.now ∷ [])
   -- pane_index::pdb_save_short
-  pub pane_index_pdb_save_short : Tie pane_index_pdb_save_short_source.ended (λ M 𝓤. pane_index_pdb_save_short_source.clauses) pane_index_pdb_save_short_code.name pane_index_pdb_save_short_code.code (λ κs a r e. contract.PaneIndexPdbSaveShort a.0.now a.1.0.now a.1.1.0 a.1.1.1.0 a.1.1.1.1.0 a.1.1.1.1.1.0 a.1.1.1.1.1.1.0.now r e.1.1.1.1.1.1.0.now e.1.1.1.1.1.1.1.0.now)
+  pub pane_index_pdb_save_short : Tie pane_index_pdb_save_short_source.ended (λ M 𝓤. pane_index_pdb_save_short_source.clauses) pane_index_pdb_save_short_code.name pane_index_pdb_save_short_code.code (λ κs a r e. contract.PaneIndexPdbSaveShort a.0.now a.1.0.now a.1.1.0 a.1.1.1.0 a.1.1.1.1.0 a.1.1.1.1.1.0 a.1.1.1.1.1.1.0.now r e.1.1.1.1.1.1.0.now e.1.1.1.1.1.1.1.0.now ∷ [])
   -- pane_out::first
-  pub pane_out_first : Tie pane_out_first_source.ended (λ M 𝓤. pane_out_first_source.clauses) pane_out_first_code.name pane_out_first_code.code (λ κs a r e. contract.PaneOutFirst a.0 r)
+  pub pane_out_first : Tie pane_out_first_source.ended (λ M 𝓤. pane_out_first_source.clauses) pane_out_first_code.name pane_out_first_code.code (λ κs a r e. contract.PaneOutFirst a.0 r ∷ [])
   -- pane_out::second
-  pub pane_out_second : Tie pane_out_second_source.ended (λ M 𝓤. pane_out_second_source.clauses) pane_out_second_code.name pane_out_second_code.code (λ κs a r e. contract.PaneOutSecond a.0 r)
+  pub pane_out_second : Tie pane_out_second_source.ended (λ M 𝓤. pane_out_second_source.clauses) pane_out_second_code.name pane_out_second_code.code (λ κs a r e. contract.PaneOutSecond a.0 r ∷ [])
+  -- pane_out::refused
+  pub pane_out_refused : Tie pane_out_refused_source.ended (λ M 𝓤. pane_out_refused_source.clauses) pane_out_refused_code.name pane_out_refused_code.code (λ κs a r e. contract.PaneOutRefused a.0 a.1.0.now r e.1.0.now ∷ [])
   -- pane_out::is_set
-  pub pane_out_is_set : Tie pane_out_is_set_source.ended (λ M 𝓤. pane_out_is_set_source.clauses) pane_out_is_set_code.name pane_out_is_set_code.code (λ κs a r e. contract.PaneOutIsSet a.0 r)
+  pub pane_out_is_set : Tie pane_out_is_set_source.ended (λ M 𝓤. pane_out_is_set_source.clauses) pane_out_is_set_code.name pane_out_is_set_code.code (λ κs a r e. contract.PaneOutIsSet a.0 r ∷ [])
   -- pane_out::flag
-  pub pane_out_flag : Tie pane_out_flag_source.ended (λ M 𝓤. pane_out_flag_source.clauses) pane_out_flag_code.name pane_out_flag_code.code (λ κs a r e. contract.PaneOutFlag a.0 r)
+  pub pane_out_flag : Tie pane_out_flag_source.ended (λ M 𝓤. pane_out_flag_source.clauses) pane_out_flag_code.name pane_out_flag_code.code (λ κs a r e. contract.PaneOutFlag a.0 r ∷ [])
   -- pane_parse::pdb_parse
-  pub pane_parse_pdb_parse : Tie pane_parse_pdb_parse_source.ended (λ M 𝓤. pane_parse_pdb_parse_source.clauses) pane_parse_pdb_parse_code.name pane_parse_pdb_parse_code.code (λ κs a r e. contract.PaneParsePdbParse a.0.now a.1.0.now a.1.1.0 a.1.1.1.0 a.1.1.1.1.0 a.1.1.1.1.1.0 a.1.1.1.1.1.1.0 r e.1.1.1.1.1.1.1.0.now)
+  pub pane_parse_pdb_parse : Tie pane_parse_pdb_parse_source.ended (λ M 𝓤. pane_parse_pdb_parse_source.clauses) pane_parse_pdb_parse_code.name pane_parse_pdb_parse_code.code (λ κs a r e. contract.PaneParsePdbParse a.0.now a.1.0.now a.1.1.0 a.1.1.1.0 a.1.1.1.1.0 a.1.1.1.1.1.0 a.1.1.1.1.1.1.0 r e.1.1.1.1.1.1.1.0.now ∷ [])
   -- pane_parse::pdb_section_read
-  pub pane_parse_pdb_section_read : Tie pane_parse_pdb_section_read_source.ended (λ M 𝓤. pane_parse_pdb_section_read_source.clauses) pane_parse_pdb_section_read_code.name pane_parse_pdb_section_read_code.code (λ κs a r e. contract.PaneParsePdbSectionRead a.0.now a.1.0 a.1.1.0 a.1.1.1.0 r e.1.1.1.1.0.now)
+  pub pane_parse_pdb_section_read : Tie pane_parse_pdb_section_read_source.ended (λ M 𝓤. pane_parse_pdb_section_read_source.clauses) pane_parse_pdb_section_read_code.name pane_parse_pdb_section_read_code.code (λ κs a r e. contract.PaneParsePdbSectionRead a.0.now a.1.0 a.1.1.0 a.1.1.1.0 r e.1.1.1.1.0.now ∷ [])
   -- pane_record::pdb_type
-  pub pane_record_pdb_type : Tie pane_record_pdb_type_source.ended (λ M 𝓤. pane_record_pdb_type_source.clauses) pane_record_pdb_type_code.name pane_record_pdb_type_code.code (λ κs a r e. contract.PaneRecordPdbType a.0.now r e.1.0.now)
+  pub pane_record_pdb_type : Tie pane_record_pdb_type_source.ended (λ M 𝓤. pane_record_pdb_type_source.clauses) pane_record_pdb_type_code.name pane_record_pdb_type_code.code (λ κs a r e. contract.PaneRecordPdbType a.0.now r e.1.0.now ∷ [])
   -- pane_record::pdb_id
-  pub pane_record_pdb_id : Tie pane_record_pdb_id_source.ended (λ M 𝓤. pane_record_pdb_id_source.clauses) pane_record_pdb_id_code.name pane_record_pdb_id_code.code (λ κs a r e. contract.PaneRecordPdbId a.0.now r e.1.0.now)
+  pub pane_record_pdb_id : Tie pane_record_pdb_id_source.ended (λ M 𝓤. pane_record_pdb_id_source.clauses) pane_record_pdb_id_code.name pane_record_pdb_id_code.code (λ κs a r e. contract.PaneRecordPdbId a.0.now r e.1.0.now ∷ [])
   -- pane_record::pdb_list
-  pub pane_record_pdb_list : Tie pane_record_pdb_list_source.ended (λ M 𝓤. pane_record_pdb_list_source.clauses) pane_record_pdb_list_code.name pane_record_pdb_list_code.code (λ κs a r e. contract.PaneRecordPdbList a.0.now a.1.0 r e.1.1.0.now)
+  pub pane_record_pdb_list : Tie pane_record_pdb_list_source.ended (λ M 𝓤. pane_record_pdb_list_source.clauses) pane_record_pdb_list_code.name pane_record_pdb_list_code.code (λ κs a r e. contract.PaneRecordPdbList a.0.now a.1.0 r e.1.1.0.now ∷ [])
   -- pane_record::pdb_step
-  pub pane_record_pdb_step : Tie pane_record_pdb_step_source.ended (λ M 𝓤. pane_record_pdb_step_source.clauses) pane_record_pdb_step_code.name pane_record_pdb_step_code.code (λ κs a r e. contract.PaneRecordPdbStep a.0.now a.1.0 a.1.1.0 a.1.1.1.0 a.1.1.1.1.0 r e.1.1.1.1.1.0.now)
+  pub pane_record_pdb_step : Tie pane_record_pdb_step_source.ended (λ M 𝓤. pane_record_pdb_step_source.clauses) pane_record_pdb_step_code.name pane_record_pdb_step_code.code (λ κs a r e. contract.PaneRecordPdbStep a.0.now a.1.0 a.1.1.0 a.1.1.1.0 a.1.1.1.1.0 r e.1.1.1.1.1.0.now ∷ [])
   -- pane_report::pdb_report
-  pub pane_report_pdb_report : Tie pane_report_pdb_report_source.ended (λ M 𝓤. pane_report_pdb_report_source.clauses) pane_report_pdb_report_code.name pane_report_pdb_report_code.code (λ κs a r e. contract.PaneReportPdbReport a.0.now a.1.0 a.1.1.0 a.1.1.1.0 a.1.1.1.1.0 a.1.1.1.1.1.0 a.1.1.1.1.1.1.0 a.1.1.1.1.1.1.1.0 a.1.1.1.1.1.1.1.1.0 a.1.1.1.1.1.1.1.1.1.0 a.1.1.1.1.1.1.1.1.1.1.0.now r e.1.1.1.1.1.1.1.1.1.1.0.now e.1.1.1.1.1.1.1.1.1.1.1.0.now)
+  pub pane_report_pdb_report : Tie pane_report_pdb_report_source.ended (λ M 𝓤. pane_report_pdb_report_source.clauses) pane_report_pdb_report_code.name pane_report_pdb_report_code.code (λ κs a r e. contract.PaneReportPdbReport a.0.now a.1.0 a.1.1.0 a.1.1.1.0 a.1.1.1.1.0 a.1.1.1.1.1.0 a.1.1.1.1.1.1.0 a.1.1.1.1.1.1.1.0 a.1.1.1.1.1.1.1.1.0 a.1.1.1.1.1.1.1.1.1.0 a.1.1.1.1.1.1.1.1.1.1.0.now r e.1.1.1.1.1.1.1.1.1.1.0.now e.1.1.1.1.1.1.1.1.1.1.1.0.now ∷ [])
   -- pane_row::type_row
-  pub pane_row_type_row : Tie pane_row_type_row_source.ended (λ M 𝓤. pane_row_type_row_source.clauses) pane_row_type_row_code.name pane_row_type_row_code.code (λ κs a r e. contract.PaneRowTypeRow a.0 r)
+  pub pane_row_type_row : Tie pane_row_type_row_source.ended (λ M 𝓤. pane_row_type_row_source.clauses) pane_row_type_row_code.name pane_row_type_row_code.code (λ κs a r e. contract.PaneRowTypeRow a.0 r ∷ [])
   -- pane_row::id_row
-  pub pane_row_id_row : Tie pane_row_id_row_source.ended (λ M 𝓤. pane_row_id_row_source.clauses) pane_row_id_row_code.name pane_row_id_row_code.code (λ κs a r e. contract.PaneRowIdRow a.0 r)
+  pub pane_row_id_row : Tie pane_row_id_row_source.ended (λ M 𝓤. pane_row_id_row_source.clauses) pane_row_id_row_code.name pane_row_id_row_code.code (λ κs a r e. contract.PaneRowIdRow a.0 r ∷ [])
   -- pane_row::cursor_row
-  pub pane_row_cursor_row : Tie pane_row_cursor_row_source.ended (λ M 𝓤. pane_row_cursor_row_source.clauses) pane_row_cursor_row_code.name pane_row_cursor_row_code.code (λ κs a r e. contract.PaneRowCursorRow a.0 r)
+  pub pane_row_cursor_row : Tie pane_row_cursor_row_source.ended (λ M 𝓤. pane_row_cursor_row_source.clauses) pane_row_cursor_row_code.name pane_row_cursor_row_code.code (λ κs a r e. contract.PaneRowCursorRow a.0 r ∷ [])
   -- pane_row::member_row
-  pub pane_row_member_row : Tie pane_row_member_row_source.ended (λ M 𝓤. pane_row_member_row_source.clauses) pane_row_member_row_code.name pane_row_member_row_code.code (λ κs a r e. contract.PaneRowMemberRow a.0 a.1.0 a.1.1.0 a.1.1.1.0 r)
+  pub pane_row_member_row : Tie pane_row_member_row_source.ended (λ M 𝓤. pane_row_member_row_source.clauses) pane_row_member_row_code.name pane_row_member_row_code.code (λ κs a r e. contract.PaneRowMemberRow a.0 a.1.0 a.1.1.0 a.1.1.1.0 r ∷ [])
   -- pane_row::entry_row
-  pub pane_row_entry_row : Tie pane_row_entry_row_source.ended (λ M 𝓤. pane_row_entry_row_source.clauses) pane_row_entry_row_code.name pane_row_entry_row_code.code (λ κs a r e. contract.PaneRowEntryRow a.0 a.1.0 a.1.1.0 a.1.1.1.0 r)
+  pub pane_row_entry_row : Tie pane_row_entry_row_source.ended (λ M 𝓤. pane_row_entry_row_source.clauses) pane_row_entry_row_code.name pane_row_entry_row_code.code (λ κs a r e. contract.PaneRowEntryRow a.0 a.1.0 a.1.1.0 a.1.1.1.0 r ∷ [])
   -- pane_row::index_row
-  pub pane_row_index_row : Tie pane_row_index_row_source.ended (λ M 𝓤. pane_row_index_row_source.clauses) pane_row_index_row_code.name pane_row_index_row_code.code (λ κs a r e. contract.PaneRowIndexRow a.0 a.1.0 a.1.1.0 a.1.1.1.0 r)
+  pub pane_row_index_row : Tie pane_row_index_row_source.ended (λ M 𝓤. pane_row_index_row_source.clauses) pane_row_index_row_code.name pane_row_index_row_code.code (λ κs a r e. contract.PaneRowIndexRow a.0 a.1.0 a.1.1.0 a.1.1.1.0 r ∷ [])
   -- pane_section::pdb_section_start
-  pub pane_section_pdb_section_start : Tie pane_section_pdb_section_start_source.ended (λ M 𝓤. pane_section_pdb_section_start_source.clauses) pane_section_pdb_section_start_code.name pane_section_pdb_section_start_code.code (λ κs a r e. contract.PaneSectionPdbSectionStart a.0.now r e.1.0.now)
+  pub pane_section_pdb_section_start : Tie pane_section_pdb_section_start_source.ended (λ M 𝓤. pane_section_pdb_section_start_source.clauses) pane_section_pdb_section_start_code.name pane_section_pdb_section_start_code.code (λ κs a r e. contract.PaneSectionPdbSectionStart a.0.now r e.1.0.now ∷ [])
   -- pane_section::pdb_section_count
-  pub pane_section_pdb_section_count : Tie pane_section_pdb_section_count_source.ended (λ M 𝓤. pane_section_pdb_section_count_source.clauses) pane_section_pdb_section_count_code.name pane_section_pdb_section_count_code.code (λ κs a r e. contract.PaneSectionPdbSectionCount a.0.now r e.1.0.now)
+  pub pane_section_pdb_section_count : Tie pane_section_pdb_section_count_source.ended (λ M 𝓤. pane_section_pdb_section_count_source.clauses) pane_section_pdb_section_count_code.name pane_section_pdb_section_count_code.code (λ κs a r e. contract.PaneSectionPdbSectionCount a.0.now r e.1.0.now ∷ [])
   -- pane_section::pdb_section_create
-  pub pane_section_pdb_section_create : Tie pane_section_pdb_section_create_source.ended (λ M 𝓤. pane_section_pdb_section_create_source.clauses) pane_section_pdb_section_create_code.name pane_section_pdb_section_create_code.code (λ κs a r e. contract.PaneSectionPdbSectionCreate a.0.now a.1.0.now a.1.1.0 r e.1.0.now e.1.1.1.0.now)
+  pub pane_section_pdb_section_create : Tie pane_section_pdb_section_create_source.ended (λ M 𝓤. pane_section_pdb_section_create_source.clauses) pane_section_pdb_section_create_code.name pane_section_pdb_section_create_code.code (λ κs a r e. contract.PaneSectionPdbSectionCreate a.0.now a.1.0.now a.1.1.0 r e.1.0.now e.1.1.1.0.now ∷ [])
   -- pane_section::pdb_section_index
-  pub pane_section_pdb_section_index : Tie pane_section_pdb_section_index_source.ended (λ M 𝓤. pane_section_pdb_section_index_source.clauses) pane_section_pdb_section_index_code.name pane_section_pdb_section_index_code.code (λ κs a r e. contract.PaneSectionPdbSectionIndex a.0.now a.1.0.now a.1.1.0 r e.1.0.now e.1.1.1.0.now)
+  pub pane_section_pdb_section_index : Tie pane_section_pdb_section_index_source.ended (λ M 𝓤. pane_section_pdb_section_index_source.clauses) pane_section_pdb_section_index_code.name pane_section_pdb_section_index_code.code (λ κs a r e. contract.PaneSectionPdbSectionIndex a.0.now a.1.0.now a.1.1.0 r e.1.0.now e.1.1.1.0.now ∷ [])
   -- pane_section::pdb_section_stream
-  pub pane_section_pdb_section_stream : Tie pane_section_pdb_section_stream_source.ended (λ M 𝓤. pane_section_pdb_section_stream_source.clauses) pane_section_pdb_section_stream_code.name pane_section_pdb_section_stream_code.code (λ κs a r e. contract.PaneSectionPdbSectionStream a.0.now a.1.0.now r e.1.0.now e.1.1.0.now)
+  pub pane_section_pdb_section_stream : Tie pane_section_pdb_section_stream_source.ended (λ M 𝓤. pane_section_pdb_section_stream_source.clauses) pane_section_pdb_section_stream_code.name pane_section_pdb_section_stream_code.code (λ κs a r e. contract.PaneSectionPdbSectionStream a.0.now a.1.0.now r e.1.0.now e.1.1.0.now ∷ [])
   -- pane_section::pdb_section_list
-  pub pane_section_pdb_section_list : Tie pane_section_pdb_section_list_source.ended (λ M 𝓤. pane_section_pdb_section_list_source.clauses) pane_section_pdb_section_list_code.name pane_section_pdb_section_list_code.code (λ κs a r e. contract.PaneSectionPdbSectionList a.0.now r e.1.0.now)
+  pub pane_section_pdb_section_list : Tie pane_section_pdb_section_list_source.ended (λ M 𝓤. pane_section_pdb_section_list_source.clauses) pane_section_pdb_section_list_code.name pane_section_pdb_section_list_code.code (λ κs a r e. contract.PaneSectionPdbSectionList a.0.now r e.1.0.now ∷ [])
+  -- pane_state::cursor_given
+  pub pane_state_cursor_given : Tie pane_state_cursor_given_source.ended (λ M 𝓤. pane_state_cursor_given_source.clauses) pane_state_cursor_given_code.name pane_state_cursor_given_code.code (λ κs a r e. contract.PaneStateCursorGiven a.0 a.1.0 r ∷ [])
+  -- pane_state::finder_given
+  pub pane_state_finder_given : Tie pane_state_finder_given_source.ended (λ M 𝓤. pane_state_finder_given_source.clauses) pane_state_finder_given_code.name pane_state_finder_given_code.code (λ κs a r e. contract.PaneStateFinderGiven a.0 a.1.0 a.1.1.0 a.1.1.1.0 r ∷ [])
+  -- pane_state::finder_out
+  pub pane_state_finder_out : Tie pane_state_finder_out_source.ended (λ M 𝓤. pane_state_finder_out_source.clauses) pane_state_finder_out_code.name pane_state_finder_out_code.code (λ κs a r e. contract.PaneStateFinderOut a.0 r ∷ [])
   -- pane_state::walk_out
-  pub pane_state_walk_out : Tie pane_state_walk_out_source.ended (λ M 𝓤. pane_state_walk_out_source.clauses) pane_state_walk_out_code.name pane_state_walk_out_code.code (λ κs a r e. contract.PaneStateWalkOut a.0 r)
+  pub pane_state_walk_out : Tie pane_state_walk_out_source.ended (λ M 𝓤. pane_state_walk_out_source.clauses) pane_state_walk_out_code.name pane_state_walk_out_code.code (λ κs a r e. contract.PaneStateWalkOut a.0 r ∷ [])
   -- pane_state::entry_of
-  pub pane_state_entry_of : Tie pane_state_entry_of_source.ended (λ M 𝓤. pane_state_entry_of_source.clauses) pane_state_entry_of_code.name pane_state_entry_of_code.code (λ κs a r e. contract.PaneStateEntryOf a.0 a.1.0 a.1.1.0 a.1.1.1.0 a.1.1.1.1.0 r)
+  pub pane_state_entry_of : Tie pane_state_entry_of_source.ended (λ M 𝓤. pane_state_entry_of_source.clauses) pane_state_entry_of_code.name pane_state_entry_of_code.code (λ κs a r e. contract.PaneStateEntryOf a.0 a.1.0 a.1.1.0 a.1.1.1.0 a.1.1.1.1.0 r ∷ [])
   -- pane_word::pdb_string
-  pub pane_word_pdb_string : Tie pane_word_pdb_string_source.ended (λ M 𝓤. pane_word_pdb_string_source.clauses) pane_word_pdb_string_code.name pane_word_pdb_string_code.code (λ κs a r e. contract.PaneWordPdbString a.0.now a.1.0 a.1.1.0 r e.1.1.1.0.now)
+  pub pane_word_pdb_string : Tie pane_word_pdb_string_source.ended (λ M 𝓤. pane_word_pdb_string_source.clauses) pane_word_pdb_string_code.name pane_word_pdb_string_code.code (λ κs a r e. contract.PaneWordPdbString a.0.now a.1.0 a.1.1.0 r e.1.1.1.0.now ∷ [])
   -- pane_word::pdb_padding
-  pub pane_word_pdb_padding : Tie pane_word_pdb_padding_source.ended (λ M 𝓤. pane_word_pdb_padding_source.clauses) pane_word_pdb_padding_code.name pane_word_pdb_padding_code.code (λ κs a r e. contract.PaneWordPdbPadding a.0.now a.1.0 r e.1.1.0.now)
+  pub pane_word_pdb_padding : Tie pane_word_pdb_padding_source.ended (λ M 𝓤. pane_word_pdb_padding_source.clauses) pane_word_pdb_padding_code.name pane_word_pdb_padding_code.code (λ κs a r e. contract.PaneWordPdbPadding a.0.now a.1.0 r e.1.1.0.now ∷ [])
   -- pane_word::pdb_size
-  pub pane_word_pdb_size : Tie pane_word_pdb_size_source.ended (λ M 𝓤. pane_word_pdb_size_source.clauses) pane_word_pdb_size_code.name pane_word_pdb_size_code.code (λ κs a r e. contract.PaneWordPdbSize a.0.now a.1.0 r e.1.1.0.now)
+  pub pane_word_pdb_size : Tie pane_word_pdb_size_source.ended (λ M 𝓤. pane_word_pdb_size_source.clauses) pane_word_pdb_size_code.name pane_word_pdb_size_code.code (λ κs a r e. contract.PaneWordPdbSize a.0.now a.1.0 r e.1.1.0.now ∷ [])
   -- pane_word::pdb_number
-  pub pane_word_pdb_number : Tie pane_word_pdb_number_source.ended (λ M 𝓤. pane_word_pdb_number_source.clauses) pane_word_pdb_number_code.name pane_word_pdb_number_code.code (λ κs a r e. contract.PaneWordPdbNumber a.0.now a.1.0 r e.1.1.0.now)
+  pub pane_word_pdb_number : Tie pane_word_pdb_number_source.ended (λ M 𝓤. pane_word_pdb_number_source.clauses) pane_word_pdb_number_code.name pane_word_pdb_number_code.code (λ κs a r e. contract.PaneWordPdbNumber a.0.now a.1.0 r e.1.1.0.now ∷ [])
   -- pane_word::pdb_optional_type
-  pub pane_word_pdb_optional_type : Tie pane_word_pdb_optional_type_source.ended (λ M 𝓤. pane_word_pdb_optional_type_source.clauses) pane_word_pdb_optional_type_code.name pane_word_pdb_optional_type_code.code (λ κs a r e. contract.PaneWordPdbOptionalType a.0 r)
+  pub pane_word_pdb_optional_type : Tie pane_word_pdb_optional_type_source.ended (λ M 𝓤. pane_word_pdb_optional_type_source.clauses) pane_word_pdb_optional_type_code.name pane_word_pdb_optional_type_code.code (λ κs a r e. contract.PaneWordPdbOptionalType a.0 r ∷ [])
   -- pane_word::pdb_optional_id
-  pub pane_word_pdb_optional_id : Tie pane_word_pdb_optional_id_source.ended (λ M 𝓤. pane_word_pdb_optional_id_source.clauses) pane_word_pdb_optional_id_code.name pane_word_pdb_optional_id_code.code (λ κs a r e. contract.PaneWordPdbOptionalId a.0 r)
+  pub pane_word_pdb_optional_id : Tie pane_word_pdb_optional_id_source.ended (λ M 𝓤. pane_word_pdb_optional_id_source.clauses) pane_word_pdb_optional_id_code.name pane_word_pdb_optional_id_code.code (λ κs a r e. contract.PaneWordPdbOptionalId a.0 r ∷ [])
   -- pane_word::pdb_is_cross_module
-  pub pane_word_pdb_is_cross_module : Tie pane_word_pdb_is_cross_module_source.ended (λ M 𝓤. pane_word_pdb_is_cross_module_source.clauses) pane_word_pdb_is_cross_module_code.name pane_word_pdb_is_cross_module_code.code (λ κs a r e. contract.PaneWordPdbIsCrossModule a.0 r)
+  pub pane_word_pdb_is_cross_module : Tie pane_word_pdb_is_cross_module_source.ended (λ M 𝓤. pane_word_pdb_is_cross_module_source.clauses) pane_word_pdb_is_cross_module_code.name pane_word_pdb_is_cross_module_code.code (λ κs a r e. contract.PaneWordPdbIsCrossModule a.0 r ∷ [])
   -- pane_word::pdb_properties
-  pub pane_word_pdb_properties : Tie pane_word_pdb_properties_source.ended (λ M 𝓤. pane_word_pdb_properties_source.clauses) pane_word_pdb_properties_code.name pane_word_pdb_properties_code.code (λ κs a r e. contract.PaneWordPdbProperties a.0 r e.1.0.now)
+  pub pane_word_pdb_properties : Tie pane_word_pdb_properties_source.ended (λ M 𝓤. pane_word_pdb_properties_source.clauses) pane_word_pdb_properties_code.name pane_word_pdb_properties_code.code (λ κs a r e. contract.PaneWordPdbProperties a.0 r e.1.0.now ∷ [])
   -- pane_word::pdb_field_attributes
-  pub pane_word_pdb_field_attributes : Tie pane_word_pdb_field_attributes_source.ended (λ M 𝓤. pane_word_pdb_field_attributes_source.clauses) pane_word_pdb_field_attributes_code.name pane_word_pdb_field_attributes_code.code (λ κs a r e. contract.PaneWordPdbFieldAttributes a.0 r e.1.0.now)
+  pub pane_word_pdb_field_attributes : Tie pane_word_pdb_field_attributes_source.ended (λ M 𝓤. pane_word_pdb_field_attributes_source.clauses) pane_word_pdb_field_attributes_code.name pane_word_pdb_field_attributes_code.code (λ κs a r e. contract.PaneWordPdbFieldAttributes a.0 r e.1.0.now ∷ [])
   -- pane_word::pdb_function_attributes
-  pub pane_word_pdb_function_attributes : Tie pane_word_pdb_function_attributes_source.ended (λ M 𝓤. pane_word_pdb_function_attributes_source.clauses) pane_word_pdb_function_attributes_code.name pane_word_pdb_function_attributes_code.code (λ κs a r e. contract.PaneWordPdbFunctionAttributes a.0 r e.1.0.now)
+  pub pane_word_pdb_function_attributes : Tie pane_word_pdb_function_attributes_source.ended (λ M 𝓤. pane_word_pdb_function_attributes_source.clauses) pane_word_pdb_function_attributes_code.name pane_word_pdb_function_attributes_code.code (λ κs a r e. contract.PaneWordPdbFunctionAttributes a.0 r e.1.0.now ∷ [])
   -- pane_word::pdb_pointer_attributes
-  pub pane_word_pdb_pointer_attributes : Tie pane_word_pdb_pointer_attributes_source.ended (λ M 𝓤. pane_word_pdb_pointer_attributes_source.clauses) pane_word_pdb_pointer_attributes_code.name pane_word_pdb_pointer_attributes_code.code (λ κs a r e. contract.PaneWordPdbPointerAttributes a.0 r e.1.0.now)
+  pub pane_word_pdb_pointer_attributes : Tie pane_word_pdb_pointer_attributes_source.ended (λ M 𝓤. pane_word_pdb_pointer_attributes_source.clauses) pane_word_pdb_pointer_attributes_code.name pane_word_pdb_pointer_attributes_code.code (λ κs a r e. contract.PaneWordPdbPointerAttributes a.0 r e.1.0.now ∷ [])
   -- pane_write::pdb_write_type
-  pub pane_write_pdb_write_type : Tie pane_write_pdb_write_type_source.ended (λ M 𝓤. pane_write_pdb_write_type_source.clauses) pane_write_pdb_write_type_code.name pane_write_pdb_write_type_code.code (λ κs a r e. contract.PaneWritePdbWriteType a.0.now a.1.0 a.1.1.0.now a.1.1.1.0.now a.1.1.1.1.0 r e.1.1.1.0.now e.1.1.1.1.1.0.now)
+  pub pane_write_pdb_write_type : Tie pane_write_pdb_write_type_source.ended (λ M 𝓤. pane_write_pdb_write_type_source.clauses) pane_write_pdb_write_type_code.name pane_write_pdb_write_type_code.code (λ κs a r e. contract.PaneWritePdbWriteType a.0.now a.1.0 a.1.1.0.now a.1.1.1.0.now a.1.1.1.1.0 r e.1.1.1.0.now e.1.1.1.1.1.0.now ∷ [])
   -- pane_write::pdb_write_id
-  pub pane_write_pdb_write_id : Tie pane_write_pdb_write_id_source.ended (λ M 𝓤. pane_write_pdb_write_id_source.clauses) pane_write_pdb_write_id_code.name pane_write_pdb_write_id_code.code (λ κs a r e. contract.PaneWritePdbWriteId a.0.now a.1.0 a.1.1.0.now a.1.1.1.0.now a.1.1.1.1.0 r e.1.1.1.0.now e.1.1.1.1.1.0.now)
+  pub pane_write_pdb_write_id : Tie pane_write_pdb_write_id_source.ended (λ M 𝓤. pane_write_pdb_write_id_source.clauses) pane_write_pdb_write_id_code.name pane_write_pdb_write_id_code.code (λ κs a r e. contract.PaneWritePdbWriteId a.0.now a.1.0 a.1.1.0.now a.1.1.1.0.now a.1.1.1.1.0 r e.1.1.1.0.now e.1.1.1.1.1.0.now ∷ [])
   -- pane_write::pdb_write_fields
-  pub pane_write_pdb_write_fields : Tie pane_write_pdb_write_fields_source.ended (λ M 𝓤. pane_write_pdb_write_fields_source.clauses) pane_write_pdb_write_fields_code.name pane_write_pdb_write_fields_code.code (λ κs a r e. contract.PaneWritePdbWriteFields a.0.now a.1.0.now a.1.1.0.now a.1.1.1.0 r e.1.1.0.now e.1.1.1.1.0.now)
+  pub pane_write_pdb_write_fields : Tie pane_write_pdb_write_fields_source.ended (λ M 𝓤. pane_write_pdb_write_fields_source.clauses) pane_write_pdb_write_fields_code.name pane_write_pdb_write_fields_code.code (λ κs a r e. contract.PaneWritePdbWriteFields a.0.now a.1.0.now a.1.1.0.now a.1.1.1.0 r e.1.1.0.now e.1.1.1.1.0.now ∷ [])
   -- pane_write::pdb_write_methods
-  pub pane_write_pdb_write_methods : Tie pane_write_pdb_write_methods_source.ended (λ M 𝓤. pane_write_pdb_write_methods_source.clauses) pane_write_pdb_write_methods_code.name pane_write_pdb_write_methods_code.code (λ κs a r e. contract.PaneWritePdbWriteMethods a.0.now a.1.0.now a.1.1.0.now a.1.1.1.0 r e.1.1.0.now e.1.1.1.1.0.now)
+  pub pane_write_pdb_write_methods : Tie pane_write_pdb_write_methods_source.ended (λ M 𝓤. pane_write_pdb_write_methods_source.clauses) pane_write_pdb_write_methods_code.name pane_write_pdb_write_methods_code.code (λ κs a r e. contract.PaneWritePdbWriteMethods a.0.now a.1.0.now a.1.1.0.now a.1.1.1.0 r e.1.1.0.now e.1.1.1.1.0.now ∷ [])
   -- pane_write::pdb_write_header
-  pub pane_write_pdb_write_header : Tie pane_write_pdb_write_header_source.ended (λ M 𝓤. pane_write_pdb_write_header_source.clauses) pane_write_pdb_write_header_code.name pane_write_pdb_write_header_code.code (λ κs a r e. contract.PaneWritePdbWriteHeader a.0.now a.1.0 a.1.1.0 a.1.1.1.0.now a.1.1.1.1.0 r e.1.1.1.0.now e.1.1.1.1.1.0.now)
+  pub pane_write_pdb_write_header : Tie pane_write_pdb_write_header_source.ended (λ M 𝓤. pane_write_pdb_write_header_source.clauses) pane_write_pdb_write_header_code.name pane_write_pdb_write_header_code.code (λ κs a r e. contract.PaneWritePdbWriteHeader a.0.now a.1.0 a.1.1.0 a.1.1.1.0.now a.1.1.1.1.0 r e.1.1.1.0.now e.1.1.1.1.1.0.now ∷ [])
   -- pane_write::pdb_cells
-  pub pane_write_pdb_cells : Tie pane_write_pdb_cells_source.ended (λ M 𝓤. pane_write_pdb_cells_source.clauses) pane_write_pdb_cells_code.name pane_write_pdb_cells_code.code (λ κs a r e. contract.PaneWritePdbCells a.0.now a.1.0 a.1.1.0.now r e.1.1.0.now e.1.1.1.0.now)
+  pub pane_write_pdb_cells : Tie pane_write_pdb_cells_source.ended (λ M 𝓤. pane_write_pdb_cells_source.clauses) pane_write_pdb_cells_code.name pane_write_pdb_cells_code.code (λ κs a r e. contract.PaneWritePdbCells a.0.now a.1.0 a.1.1.0.now r e.1.1.0.now e.1.1.1.0.now ∷ [])
   -- pane_write::pdb_layout
-  pub pane_write_pdb_layout : Tie pane_write_pdb_layout_source.ended (λ M 𝓤. pane_write_pdb_layout_source.clauses) pane_write_pdb_layout_code.name pane_write_pdb_layout_code.code (λ κs a r e. contract.PaneWritePdbLayout a.0 a.1.0 r)
+  pub pane_write_pdb_layout : Tie pane_write_pdb_layout_source.ended (λ M 𝓤. pane_write_pdb_layout_source.clauses) pane_write_pdb_layout_code.name pane_write_pdb_layout_code.code (λ κs a r e. contract.PaneWritePdbLayout a.0 a.1.0 r ∷ [])
   -- record_cells::type_cells
-  pub record_cells_type_cells : Tie record_cells_type_cells_source.ended (λ M 𝓤. record_cells_type_cells_source.clauses) record_cells_type_cells_code.name record_cells_type_cells_code.code (λ κs a r e. contract.RecordCellsTypeCells a.0.now a.1.0 a.1.1.0 a.1.1.1.0.now r e.1.1.1.0.now)
+  pub record_cells_type_cells : Tie record_cells_type_cells_source.ended (λ M 𝓤. record_cells_type_cells_source.clauses) record_cells_type_cells_code.name record_cells_type_cells_code.code (λ κs a r e. contract.RecordCellsTypeCells a.0.now a.1.0 a.1.1.0 a.1.1.1.0.now r e.1.1.1.0.now ∷ [])
   -- record_cells::id_cells
-  pub record_cells_id_cells : Tie record_cells_id_cells_source.ended (λ M 𝓤. record_cells_id_cells_source.clauses) record_cells_id_cells_code.name record_cells_id_cells_code.code (λ κs a r e. contract.RecordCellsIdCells a.0.now a.1.0 a.1.1.0 a.1.1.1.0.now r e.1.1.1.0.now)
+  pub record_cells_id_cells : Tie record_cells_id_cells_source.ended (λ M 𝓤. record_cells_id_cells_source.clauses) record_cells_id_cells_code.name record_cells_id_cells_code.code (λ κs a r e. contract.RecordCellsIdCells a.0.now a.1.0 a.1.1.0 a.1.1.1.0.now r e.1.1.1.0.now ∷ [])
   -- record_cells::layout::type_layout
-  pub record_cells_layout_type_layout : Tie record_cells_layout_type_layout_source.ended (λ M 𝓤. record_cells_layout_type_layout_source.clauses) record_cells_layout_type_layout_code.name record_cells_layout_type_layout_code.code (λ κs a r e. contract.RecordCellsLayoutTypeLayout a.0 r)
+  pub record_cells_layout_type_layout : Tie record_cells_layout_type_layout_source.ended (λ M 𝓤. record_cells_layout_type_layout_source.clauses) record_cells_layout_type_layout_code.name record_cells_layout_type_layout_code.code (λ κs a r e. contract.RecordCellsLayoutTypeLayout a.0 r ∷ [])
   -- record_cells::layout::member_layout
-  pub record_cells_layout_member_layout : Tie record_cells_layout_member_layout_source.ended (λ M 𝓤. record_cells_layout_member_layout_source.clauses) record_cells_layout_member_layout_code.name record_cells_layout_member_layout_code.code (λ κs a r e. contract.RecordCellsLayoutMemberLayout a.0 r)
+  pub record_cells_layout_member_layout : Tie record_cells_layout_member_layout_source.ended (λ M 𝓤. record_cells_layout_member_layout_source.clauses) record_cells_layout_member_layout_code.name record_cells_layout_member_layout_code.code (λ κs a r e. contract.RecordCellsLayoutMemberLayout a.0 r ∷ [])
   -- record_cells::layout::method_layout
-  pub record_cells_layout_method_layout : Tie record_cells_layout_method_layout_source.ended (λ M 𝓤. record_cells_layout_method_layout_source.clauses) record_cells_layout_method_layout_code.name record_cells_layout_method_layout_code.code (λ κs a r e. contract.RecordCellsLayoutMethodLayout r)
+  pub record_cells_layout_method_layout : Tie record_cells_layout_method_layout_source.ended (λ M 𝓤. record_cells_layout_method_layout_source.clauses) record_cells_layout_method_layout_code.name record_cells_layout_method_layout_code.code (λ κs a r e. contract.RecordCellsLayoutMethodLayout r ∷ [])
   -- record_cells::layout::id_layout
-  pub record_cells_layout_id_layout : Tie record_cells_layout_id_layout_source.ended (λ M 𝓤. record_cells_layout_id_layout_source.clauses) record_cells_layout_id_layout_code.name record_cells_layout_id_layout_code.code (λ κs a r e. contract.RecordCellsLayoutIdLayout a.0 r)
+  pub record_cells_layout_id_layout : Tie record_cells_layout_id_layout_source.ended (λ M 𝓤. record_cells_layout_id_layout_source.clauses) record_cells_layout_id_layout_code.name record_cells_layout_id_layout_code.code (λ κs a r e. contract.RecordCellsLayoutIdLayout a.0 r ∷ [])
   -- record_data::TypeData::name
-  pub record_data_type_data_name : Tie record_data_type_data_name_source.ended (λ M 𝓤. record_data_type_data_name_source.clauses) record_data_type_data_name_code.name record_data_type_data_name_code.code (λ κs a r e. contract.RecordDataTypeDataName a.0 r)
+  pub record_data_type_data_name : Tie record_data_type_data_name_source.ended (λ M 𝓤. record_data_type_data_name_source.clauses) record_data_type_data_name_code.name record_data_type_data_name_code.code (λ κs a r e. contract.RecordDataTypeDataName a.0 r ∷ [])
   -- record_data::type_data
-  pub record_data_type_data : Tie record_data_type_data_source.ended (λ M 𝓤. record_data_type_data_source.clauses) record_data_type_data_code.name record_data_type_data_code.code (λ κs a r e. contract.RecordDataTypeData a.0.now r)
+  pub record_data_type_data : Tie record_data_type_data_source.ended (λ M 𝓤. record_data_type_data_source.clauses) record_data_type_data_code.name record_data_type_data_code.code (λ κs a r e. contract.RecordDataTypeData a.0.now r ∷ [])
   -- record_id::id_data
-  pub record_id_id_data : Tie record_id_id_data_source.ended (λ M 𝓤. record_id_id_data_source.clauses) record_id_id_data_code.name record_id_id_data_code.code (λ κs a r e. contract.RecordIdIdData a.0.now r)
+  pub record_id_id_data : Tie record_id_id_data_source.ended (λ M 𝓤. record_id_id_data_source.clauses) record_id_id_data_code.name record_id_id_data_code.code (λ κs a r e. contract.RecordIdIdData a.0.now r ∷ [])
   -- record_list::start
-  pub record_list_start : Tie record_list_start_source.ended (λ M 𝓤. record_list_start_source.clauses) record_list_start_code.name record_list_start_code.code (λ κs a r e. contract.RecordListStart a.0 a.1.0.now r)
+  pub record_list_start : Tie record_list_start_source.ended (λ M 𝓤. record_list_start_source.clauses) record_list_start_code.name record_list_start_code.code (λ κs a r e. contract.RecordListStart a.0 a.1.0.now r ∷ [])
   -- record_list::step
-  pub record_list_step : Tie record_list_step_source.ended (λ M 𝓤. record_list_step_source.clauses) record_list_step_code.name record_list_step_code.code (λ κs a r e. contract.RecordListStep a.0.now a.1.0 r)
+  pub record_list_step : Tie record_list_step_source.ended (λ M 𝓤. record_list_step_source.clauses) record_list_step_code.name record_list_step_code.code (λ κs a r e. contract.RecordListStep a.0.now a.1.0 r ∷ [])
   -- record_list::element_from
-  pub record_list_element_from : Tie record_list_element_from_source.ended (λ M 𝓤. record_list_element_from_source.clauses) record_list_element_from_code.name record_list_element_from_code.code (λ κs a r e. contract.RecordListElementFrom a.0.now a.1.0 a.1.1.0 r)
+  pub record_list_element_from : Tie record_list_element_from_source.ended (λ M 𝓤. record_list_element_from_source.clauses) record_list_element_from_code.name record_list_element_from_code.code (λ κs a r e. contract.RecordListElementFrom a.0.now a.1.0 a.1.1.0 r ∷ [])
   -- record_member::Member::name
-  pub record_member_member_name : Tie record_member_member_name_source.ended (λ M 𝓤. record_member_member_name_source.clauses) record_member_member_name_code.name record_member_member_name_code.code (λ κs a r e. contract.RecordMemberMemberName a.0 r)
+  pub record_member_member_name : Tie record_member_member_name_source.ended (λ M 𝓤. record_member_member_name_source.clauses) record_member_member_name_code.name record_member_member_name_code.code (λ κs a r e. contract.RecordMemberMemberName a.0 r ∷ [])
   -- record_member::member_at
-  pub record_member_member_at : Tie record_member_member_at_source.ended (λ M 𝓤. record_member_member_at_source.clauses) record_member_member_at_code.name record_member_member_at_code.code (λ κs a r e. contract.RecordMemberMemberAt a.0.now a.1.0 r)
+  pub record_member_member_at : Tie record_member_member_at_source.ended (λ M 𝓤. record_member_member_at_source.clauses) record_member_member_at_code.name record_member_member_at_code.code (λ κs a r e. contract.RecordMemberMemberAt a.0.now a.1.0 r ∷ [])
   -- record_member::method_entry_at
-  pub record_member_method_entry_at : Tie record_member_method_entry_at_source.ended (λ M 𝓤. record_member_method_entry_at_source.clauses) record_member_method_entry_at_code.name record_member_method_entry_at_code.code (λ κs a r e. contract.RecordMemberMethodEntryAt a.0.now a.1.0 r)
+  pub record_member_method_entry_at : Tie record_member_method_entry_at_source.ended (λ M 𝓤. record_member_method_entry_at_source.clauses) record_member_method_entry_at_code.name record_member_method_entry_at_code.code (λ κs a r e. contract.RecordMemberMethodEntryAt a.0.now a.1.0 r ∷ [])
   -- record_parse::parse
-  pub record_parse_parse : Tie record_parse_parse_source.ended (λ M 𝓤. record_parse_parse_source.clauses) record_parse_parse_code.name record_parse_parse_code.code (λ κs a r e. contract.RecordParseParse a.0.now a.1.0.now a.1.1.0 r)
+  pub record_parse_parse : Tie record_parse_parse_source.ended (λ M 𝓤. record_parse_parse_source.clauses) record_parse_parse_code.name record_parse_parse_code.code (λ κs a r e. contract.RecordParseParse a.0.now a.1.0.now a.1.1.0 r ∷ [])
   -- record_reader::ListReader::new
-  pub record_reader_list_reader_new : Tie record_reader_list_reader_new_source.ended (λ M 𝓤. record_reader_list_reader_new_source.clauses) record_reader_list_reader_new_code.name record_reader_list_reader_new_code.code (λ κs a r e. contract.RecordReaderListReaderNew a.0 a.1.0 r)
+  pub record_reader_list_reader_new : Tie record_reader_list_reader_new_source.ended (λ M 𝓤. record_reader_list_reader_new_source.clauses) record_reader_list_reader_new_code.name record_reader_list_reader_new_code.code (λ κs a r e. contract.RecordReaderListReaderNew a.0 a.1.0 r ∷ [])
   -- record_reader::ListReader::element
-  pub record_reader_list_reader_element : Tie record_reader_list_reader_element_source.ended (λ M 𝓤. record_reader_list_reader_element_source.clauses) record_reader_list_reader_element_code.name record_reader_list_reader_element_code.code (λ κs a r e. contract.RecordReaderListReaderElement a.0 a.1.0 r)
+  pub record_reader_list_reader_element : Tie record_reader_list_reader_element_source.ended (λ M 𝓤. record_reader_list_reader_element_source.clauses) record_reader_list_reader_element_code.name record_reader_list_reader_element_code.code (λ κs a r e. contract.RecordReaderListReaderElement a.0 a.1.0 r ∷ [])
   -- record_reader::ListReader::step
-  pub record_reader_list_reader_step : Tie record_reader_list_reader_step_source.ended (λ M 𝓤. record_reader_list_reader_step_source.clauses) record_reader_list_reader_step_code.name record_reader_list_reader_step_code.code (λ κs a r e. contract.RecordReaderListReaderStep a.0.now r e.0.now)
+  pub record_reader_list_reader_step : Tie record_reader_list_reader_step_source.ended (λ M 𝓤. record_reader_list_reader_step_source.clauses) record_reader_list_reader_step_code.name record_reader_list_reader_step_code.code (λ κs a r e. contract.RecordReaderListReaderStep a.0.now r e.0.now ∷ [])
   -- record_reader::nth
-  pub record_reader_nth : Tie record_reader_nth_source.ended (λ M 𝓤. record_reader_nth_source.clauses) record_reader_nth_code.name record_reader_nth_code.code (λ κs a r e. contract.RecordReaderNth a.0 a.1.0.now a.1.1.0 r)
+  pub record_reader_nth : Tie record_reader_nth_source.ended (λ M 𝓤. record_reader_nth_source.clauses) record_reader_nth_code.name record_reader_nth_code.code (λ κs a r e. contract.RecordReaderNth a.0 a.1.0.now a.1.1.0 r ∷ [])
   -- record_reference::record_references
-  pub record_reference_record_references : Tie record_reference_record_references_source.ended (λ M 𝓤. record_reference_record_references_source.clauses) record_reference_record_references_code.name record_reference_record_references_code.code (λ κs a r e. contract.RecordReferenceRecordReferences a.0 r)
+  pub record_reference_record_references : Tie record_reference_record_references_source.ended (λ M 𝓤. record_reference_record_references_source.clauses) record_reference_record_references_code.name record_reference_record_references_code.code (λ κs a r e. contract.RecordReferenceRecordReferences a.0 r ∷ [])
   -- record_reference::element_references
-  pub record_reference_element_references : Tie record_reference_element_references_source.ended (λ M 𝓤. record_reference_element_references_source.clauses) record_reference_element_references_code.name record_reference_element_references_code.code (λ κs a r e. contract.RecordReferenceElementReferences a.0 r)
+  pub record_reference_element_references : Tie record_reference_element_references_source.ended (λ M 𝓤. record_reference_element_references_source.clauses) record_reference_element_references_code.name record_reference_element_references_code.code (λ κs a r e. contract.RecordReferenceElementReferences a.0 r ∷ [])
   -- section_finder::create
-  pub section_finder_create : Tie section_finder_create_source.ended (λ M 𝓤. section_finder_create_source.clauses) section_finder_create_code.name section_finder_create_code.code (λ κs a r e. contract.SectionFinderCreate a.0.now a.1.0.now r e.1.0.now)
+  pub section_finder_create : Tie section_finder_create_source.ended (λ M 𝓤. section_finder_create_source.clauses) section_finder_create_code.name section_finder_create_code.code (λ κs a r e. contract.SectionFinderCreate a.0.now a.1.0.now r e.1.0.now ∷ [])
   -- section_finder::create_by
-  pub section_finder_create_by : Tie section_finder_create_by_source.ended (λ M 𝓤. section_finder_create_by_source.clauses) section_finder_create_by_code.name section_finder_create_by_code.code (λ κs a r e. contract.SectionFinderCreateBy a.0.now a.1.0.now a.1.1.0 r e.1.0.now)
+  pub section_finder_create_by : Tie section_finder_create_by_source.ended (λ M 𝓤. section_finder_create_by_source.clauses) section_finder_create_by_code.name section_finder_create_by_code.code (λ κs a r e. contract.SectionFinderCreateBy a.0.now a.1.0.now a.1.1.0 r e.1.0.now ∷ [])
   -- section_finder::index_all
-  pub section_finder_index_all : Tie section_finder_index_all_source.ended (λ M 𝓤. section_finder_index_all_source.clauses) section_finder_index_all_code.name section_finder_index_all_code.code (λ κs a r e. contract.SectionFinderIndexAll a.0.now a.1.0.now r e.1.0.now)
+  pub section_finder_index_all : Tie section_finder_index_all_source.ended (λ M 𝓤. section_finder_index_all_source.clauses) section_finder_index_all_code.name section_finder_index_all_code.code (λ κs a r e. contract.SectionFinderIndexAll a.0.now a.1.0.now r e.1.0.now ∷ [])
   -- section_finder::index_all_by
-  pub section_finder_index_all_by : Tie section_finder_index_all_by_source.ended (λ M 𝓤. section_finder_index_all_by_source.clauses) section_finder_index_all_by_code.name section_finder_index_all_by_code.code (λ κs a r e. contract.SectionFinderIndexAllBy a.0.now a.1.0.now a.1.1.0 r e.1.0.now)
+  pub section_finder_index_all_by : Tie section_finder_index_all_by_source.ended (λ M 𝓤. section_finder_index_all_by_source.clauses) section_finder_index_all_by_code.name section_finder_index_all_by_code.code (λ κs a r e. contract.SectionFinderIndexAllBy a.0.now a.1.0.now a.1.1.0 r e.1.0.now ∷ [])
   -- section_item::iter
-  pub section_item_iter : Tie section_item_iter_source.ended (λ M 𝓤. section_item_iter_source.clauses) section_item_iter_code.name section_item_iter_code.code (λ κs a r e. contract.SectionItemIter a.0.now r)
+  pub section_item_iter : Tie section_item_iter_source.ended (λ M 𝓤. section_item_iter_source.clauses) section_item_iter_code.name section_item_iter_code.code (λ κs a r e. contract.SectionItemIter a.0.now r ∷ [])
   -- section_item::len
-  pub section_item_len : Tie section_item_len_source.ended (λ M 𝓤. section_item_len_source.clauses) section_item_len_code.name section_item_len_code.code (λ κs a r e. contract.SectionItemLen a.0.now r)
+  pub section_item_len : Tie section_item_len_source.ended (λ M 𝓤. section_item_len_source.clauses) section_item_len_code.name section_item_len_code.code (λ κs a r e. contract.SectionItemLen a.0.now r ∷ [])
   -- section_read::parse
-  pub section_read_parse : Tie section_read_parse_source.ended (λ M 𝓤. section_read_parse_source.clauses) section_read_parse_code.name section_read_parse_code.code (λ κs a r e. contract.SectionReadParse a.0.now a.1.0 r)
+  pub section_read_parse : Tie section_read_parse_source.ended (λ M 𝓤. section_read_parse_source.clauses) section_read_parse_code.name section_read_parse_code.code (λ κs a r e. contract.SectionReadParse a.0.now a.1.0 r ∷ [])
   -- section_read::start
-  pub section_read_start : Tie section_read_start_source.ended (λ M 𝓤. section_read_start_source.clauses) section_read_start_code.name section_read_start_code.code (λ κs a r e. contract.SectionReadStart a.0.now r)
+  pub section_read_start : Tie section_read_start_source.ended (λ M 𝓤. section_read_start_source.clauses) section_read_start_code.name section_read_start_code.code (λ κs a r e. contract.SectionReadStart a.0.now r ∷ [])
   -- section_stream::to_stream
-  pub section_stream_to_stream : Tie section_stream_to_stream_source.ended (λ M 𝓤. section_stream_to_stream_source.clauses) section_stream_to_stream_code.name section_stream_to_stream_code.code (λ κs a r e. contract.SectionStreamToStream a.0.now a.1.0.now r e.1.0.now)
+  pub section_stream_to_stream : Tie section_stream_to_stream_source.ended (λ M 𝓤. section_stream_to_stream_source.clauses) section_stream_to_stream_code.name section_stream_to_stream_code.code (λ κs a r e. contract.SectionStreamToStream a.0.now a.1.0.now r e.1.0.now ∷ [])
   -- stream_drop::drop
-  pub stream_drop_drop : Tie stream_drop_drop_source.ended (λ M 𝓤. stream_drop_drop_source.clauses) stream_drop_drop_code.name stream_drop_drop_code.code (λ κs a r e. contract.StreamDropDrop a.0.now a.1.0.now a.1.1.0.now a.1.1.1.0.now r e.1.1.0.now e.1.1.1.0.now)
+  pub stream_drop_drop : Tie stream_drop_drop_source.ended (λ M 𝓤. stream_drop_drop_source.clauses) stream_drop_drop_code.name stream_drop_drop_code.code (λ κs a r e. contract.StreamDropDrop a.0.now a.1.0.now a.1.1.0.now a.1.1.1.0.now r e.1.1.0.now e.1.1.1.0.now ∷ [])
   -- stream_finder::create
-  pub stream_finder_create : Tie stream_finder_create_source.ended (λ M 𝓤. stream_finder_create_source.clauses) stream_finder_create_code.name stream_finder_create_code.code (λ κs a r e. contract.StreamFinderCreate a.0.now a.1.0.now r e.1.0.now)
+  pub stream_finder_create : Tie stream_finder_create_source.ended (λ M 𝓤. stream_finder_create_source.clauses) stream_finder_create_code.name stream_finder_create_code.code (λ κs a r e. contract.StreamFinderCreate a.0.now a.1.0.now r e.1.0.now ∷ [])
   -- stream_finder::create_by
-  pub stream_finder_create_by : Tie stream_finder_create_by_source.ended (λ M 𝓤. stream_finder_create_by_source.clauses) stream_finder_create_by_code.name stream_finder_create_by_code.code (λ κs a r e. contract.StreamFinderCreateBy a.0.now a.1.0.now a.1.1.0 r e.1.0.now)
+  pub stream_finder_create_by : Tie stream_finder_create_by_source.ended (λ M 𝓤. stream_finder_create_by_source.clauses) stream_finder_create_by_code.name stream_finder_create_by_code.code (λ κs a r e. contract.StreamFinderCreateBy a.0.now a.1.0.now a.1.1.0 r e.1.0.now ∷ [])
   -- stream_finder::begin
-  pub stream_finder_begin : Tie stream_finder_begin_source.ended (λ M 𝓤. stream_finder_begin_source.clauses) stream_finder_begin_code.name stream_finder_begin_code.code (λ κs a r e. contract.StreamFinderBegin a.0.now a.1.0 a.1.1.0 r e.0.now)
+  pub stream_finder_begin : Tie stream_finder_begin_source.ended (λ M 𝓤. stream_finder_begin_source.clauses) stream_finder_begin_code.name stream_finder_begin_code.code (λ κs a r e. contract.StreamFinderBegin a.0.now a.1.0 a.1.1.0 r e.0.now ∷ [])
   -- stream_finder::update
-  pub stream_finder_update : Tie stream_finder_update_source.ended (λ M 𝓤. stream_finder_update_source.clauses) stream_finder_update_code.name stream_finder_update_code.code (λ κs a r e. contract.StreamFinderUpdate a.0 a.1.0.now a.1.1.0 r e.1.0.now)
+  pub stream_finder_update : Tie stream_finder_update_source.ended (λ M 𝓤. stream_finder_update_source.clauses) stream_finder_update_code.name stream_finder_update_code.code (λ κs a r e. contract.StreamFinderUpdate a.0 a.1.0.now a.1.1.0 r e.1.0.now ∷ [])
   -- stream_finder::ItemFinder::max_type_index
-  pub stream_finder_item_finder_max_type_index : Tie stream_finder_item_finder_max_type_index_source.ended (λ M 𝓤. stream_finder_item_finder_max_type_index_source.clauses) stream_finder_item_finder_max_type_index_code.name stream_finder_item_finder_max_type_index_code.code (λ κs a r e. contract.StreamFinderItemFinderMaxTypeIndex a.0 r)
+  pub stream_finder_item_finder_max_type_index : Tie stream_finder_item_finder_max_type_index_source.ended (λ M 𝓤. stream_finder_item_finder_max_type_index_source.clauses) stream_finder_item_finder_max_type_index_code.name stream_finder_item_finder_max_type_index_code.code (λ κs a r e. contract.StreamFinderItemFinderMaxTypeIndex a.0 r ∷ [])
   -- stream_finder::ItemFinder::max_id_index
-  pub stream_finder_item_finder_max_id_index : Tie stream_finder_item_finder_max_id_index_source.ended (λ M 𝓤. stream_finder_item_finder_max_id_index_source.clauses) stream_finder_item_finder_max_id_index_code.name stream_finder_item_finder_max_id_index_code.code (λ κs a r e. contract.StreamFinderItemFinderMaxIdIndex a.0 r)
+  pub stream_finder_item_finder_max_id_index : Tie stream_finder_item_finder_max_id_index_source.ended (λ M 𝓤. stream_finder_item_finder_max_id_index_source.clauses) stream_finder_item_finder_max_id_index_code.name stream_finder_item_finder_max_id_index_code.code (λ κs a r e. contract.StreamFinderItemFinderMaxIdIndex a.0 r ∷ [])
   -- stream_finder::find_type
-  pub stream_finder_find_type : Tie stream_finder_find_type_source.ended (λ M 𝓤. stream_finder_find_type_source.clauses) stream_finder_find_type_code.name stream_finder_find_type_code.code (λ κs a r e. contract.StreamFinderFindType a.0.now a.1.0 a.1.1.0.now a.1.1.1.0 r)
+  pub stream_finder_find_type : Tie stream_finder_find_type_source.ended (λ M 𝓤. stream_finder_find_type_source.clauses) stream_finder_find_type_code.name stream_finder_find_type_code.code (λ κs a r e. contract.StreamFinderFindType a.0.now a.1.0 a.1.1.0.now a.1.1.1.0 r ∷ [])
   -- stream_finder::find_id
-  pub stream_finder_find_id : Tie stream_finder_find_id_source.ended (λ M 𝓤. stream_finder_find_id_source.clauses) stream_finder_find_id_code.name stream_finder_find_id_code.code (λ κs a r e. contract.StreamFinderFindId a.0.now a.1.0 a.1.1.0.now a.1.1.1.0 r)
+  pub stream_finder_find_id : Tie stream_finder_find_id_source.ended (λ M 𝓤. stream_finder_find_id_source.clauses) stream_finder_find_id_code.name stream_finder_find_id_code.code (λ κs a r e. contract.StreamFinderFindId a.0.now a.1.0 a.1.1.0.now a.1.1.1.0 r ∷ [])
   -- stream_finder::lent::ItemFinder::update
-  pub stream_finder_lent_item_finder_update : Tie stream_finder_lent_item_finder_update_source.ended (λ M 𝓤. stream_finder_lent_item_finder_update_source.clauses) stream_finder_lent_item_finder_update_code.name stream_finder_lent_item_finder_update_code.code (λ κs a r e. contract.StreamFinderLentItemFinderUpdate a.0.now a.1.0.now a.1.1.0 r e.0.now e.1.0.now)
+  pub stream_finder_lent_item_finder_update : Tie stream_finder_lent_item_finder_update_source.ended (λ M 𝓤. stream_finder_lent_item_finder_update_source.clauses) stream_finder_lent_item_finder_update_code.name stream_finder_lent_item_finder_update_code.code (λ κs a r e. contract.StreamFinderLentItemFinderUpdate a.0.now a.1.0.now a.1.1.0 r e.0.now e.1.0.now ∷ [])
+  -- stream_fit::Rule::number
+  pub stream_fit_rule_number : Tie stream_fit_rule_number_source.ended (λ M 𝓤. stream_fit_rule_number_source.clauses) stream_fit_rule_number_code.name stream_fit_rule_number_code.code (λ κs a r e. contract.StreamFitRuleNumber a.0 r ∷ [])
   -- stream_fit::fit
-  pub stream_fit_fit : Tie stream_fit_fit_source.ended (λ M 𝓤. stream_fit_fit_source.clauses) stream_fit_fit_code.name stream_fit_fit_code.code (λ κs a r e. contract.StreamFitFit a.0.now r)
+  pub stream_fit_fit : Tie stream_fit_fit_source.ended (λ M 𝓤. stream_fit_fit_source.clauses) stream_fit_fit_code.name stream_fit_fit_code.code (λ κs a r e. contract.StreamFitFit a.0.now r ∷ [])
   -- stream_header::Header::parse
-  pub stream_header_header_parse : Tie stream_header_header_parse_source.ended (λ M 𝓤. stream_header_header_parse_source.clauses) stream_header_header_parse_code.name stream_header_header_parse_code.code (λ κs a r e. contract.StreamHeaderHeaderParse a.0.now r)
+  pub stream_header_header_parse : Tie stream_header_header_parse_source.ended (λ M 𝓤. stream_header_header_parse_source.clauses) stream_header_header_parse_code.name stream_header_header_parse_code.code (λ κs a r e. contract.StreamHeaderHeaderParse a.0.now r ∷ [])
   -- stream_header::Header::count
-  pub stream_header_header_count : Tie stream_header_header_count_source.ended (λ M 𝓤. stream_header_header_count_source.clauses) stream_header_header_count_code.name stream_header_header_count_code.code (λ κs a r e. contract.StreamHeaderHeaderCount a.0 r)
+  pub stream_header_header_count : Tie stream_header_header_count_source.ended (λ M 𝓤. stream_header_header_count_source.clauses) stream_header_header_count_code.name stream_header_header_count_code.code (λ κs a r e. contract.StreamHeaderHeaderCount a.0 r ∷ [])
   -- stream_index::next_and_update
-  pub stream_index_next_and_update : Tie stream_index_next_and_update_source.ended (λ M 𝓤. stream_index_next_and_update_source.clauses) stream_index_next_and_update_code.name stream_index_next_and_update_code.code (λ κs a r e. contract.StreamIndexNextAndUpdate a.0.now a.1.0 a.1.1.0.now a.1.1.1.0 r e.1.1.0.now)
+  pub stream_index_next_and_update : Tie stream_index_next_and_update_source.ended (λ M 𝓤. stream_index_next_and_update_source.clauses) stream_index_next_and_update_code.name stream_index_next_and_update_code.code (λ κs a r e. contract.StreamIndexNextAndUpdate a.0.now a.1.0 a.1.1.0.now a.1.1.1.0 r e.1.1.0.now ∷ [])
   -- stream_index::index_on
-  pub stream_index_index_on : Tie stream_index_index_on_source.ended (λ M 𝓤. stream_index_index_on_source.clauses) stream_index_index_on_code.name stream_index_index_on_code.code (λ κs a r e. contract.StreamIndexIndexOn a.0.now a.1.0 a.1.1.0.now a.1.1.1.0 r e.1.1.0.now)
+  pub stream_index_index_on : Tie stream_index_index_on_source.ended (λ M 𝓤. stream_index_index_on_source.clauses) stream_index_index_on_code.name stream_index_index_on_code.code (λ κs a r e. contract.StreamIndexIndexOn a.0.now a.1.0 a.1.1.0.now a.1.1.1.0 r e.1.1.0.now ∷ [])
   -- stream_index::index_all
-  pub stream_index_index_all : Tie stream_index_index_all_source.ended (λ M 𝓤. stream_index_index_all_source.clauses) stream_index_index_all_code.name stream_index_index_all_code.code (λ κs a r e. contract.StreamIndexIndexAll a.0 a.1.0.now a.1.1.0.now r e.1.1.0.now)
+  pub stream_index_index_all : Tie stream_index_index_all_source.ended (λ M 𝓤. stream_index_index_all_source.clauses) stream_index_index_all_code.name stream_index_index_all_code.code (λ κs a r e. contract.StreamIndexIndexAll a.0 a.1.0.now a.1.1.0.now r e.1.1.0.now ∷ [])
   -- stream_index::index_all_by
-  pub stream_index_index_all_by : Tie stream_index_index_all_by_source.ended (λ M 𝓤. stream_index_index_all_by_source.clauses) stream_index_index_all_by_code.name stream_index_index_all_by_code.code (λ κs a r e. contract.StreamIndexIndexAllBy a.0 a.1.0.now a.1.1.0.now a.1.1.1.0 r e.1.1.0.now)
+  pub stream_index_index_all_by : Tie stream_index_index_all_by_source.ended (λ M 𝓤. stream_index_index_all_by_source.clauses) stream_index_index_all_by_code.name stream_index_index_all_by_code.code (λ κs a r e. contract.StreamIndexIndexAllBy a.0 a.1.0.now a.1.1.0.now a.1.1.1.0 r e.1.1.0.now ∷ [])
   -- stream_item::Entry::index
-  pub stream_item_entry_index : Tie stream_item_entry_index_source.ended (λ M 𝓤. stream_item_entry_index_source.clauses) stream_item_entry_index_code.name stream_item_entry_index_code.code (λ κs a r e. contract.StreamItemEntryIndex a.0 r)
+  pub stream_item_entry_index : Tie stream_item_entry_index_source.ended (λ M 𝓤. stream_item_entry_index_source.clauses) stream_item_entry_index_code.name stream_item_entry_index_code.code (λ κs a r e. contract.StreamItemEntryIndex a.0 r ∷ [])
   -- stream_item::Entry::len
-  pub stream_item_entry_len : Tie stream_item_entry_len_source.ended (λ M 𝓤. stream_item_entry_len_source.clauses) stream_item_entry_len_code.name stream_item_entry_len_code.code (λ κs a r e. contract.StreamItemEntryLen a.0 r)
+  pub stream_item_entry_len : Tie stream_item_entry_len_source.ended (λ M 𝓤. stream_item_entry_len_source.clauses) stream_item_entry_len_code.name stream_item_entry_len_code.code (λ κs a r e. contract.StreamItemEntryLen a.0 r ∷ [])
   -- stream_item::Entry::is_empty
-  pub stream_item_entry_is_empty : Tie stream_item_entry_is_empty_source.ended (λ M 𝓤. stream_item_entry_is_empty_source.clauses) stream_item_entry_is_empty_code.name stream_item_entry_is_empty_code.code (λ κs a r e. contract.StreamItemEntryIsEmpty a.0 r)
+  pub stream_item_entry_is_empty : Tie stream_item_entry_is_empty_source.ended (λ M 𝓤. stream_item_entry_is_empty_source.clauses) stream_item_entry_is_empty_code.name stream_item_entry_is_empty_code.code (λ κs a r e. contract.StreamItemEntryIsEmpty a.0 r ∷ [])
   -- stream_item::information::len
-  pub stream_item_information_len : Tie stream_item_information_len_source.ended (λ M 𝓤. stream_item_information_len_source.clauses) stream_item_information_len_code.name stream_item_information_len_code.code (λ κs a r e. contract.StreamItemInformationLen a.0.now r)
+  pub stream_item_information_len : Tie stream_item_information_len_source.ended (λ M 𝓤. stream_item_information_len_source.clauses) stream_item_information_len_code.name stream_item_information_len_code.code (λ κs a r e. contract.StreamItemInformationLen a.0.now r ∷ [])
   -- stream_item::information::is_empty
-  pub stream_item_information_is_empty : Tie stream_item_information_is_empty_source.ended (λ M 𝓤. stream_item_information_is_empty_source.clauses) stream_item_information_is_empty_code.name stream_item_information_is_empty_code.code (λ κs a r e. contract.StreamItemInformationIsEmpty a.0.now r)
+  pub stream_item_information_is_empty : Tie stream_item_information_is_empty_source.ended (λ M 𝓤. stream_item_information_is_empty_source.clauses) stream_item_information_is_empty_code.name stream_item_information_is_empty_code.code (λ κs a r e. contract.StreamItemInformationIsEmpty a.0.now r ∷ [])
   -- stream_item::iter::iter
-  pub stream_item_iter_iter : Tie stream_item_iter_iter_source.ended (λ M 𝓤. stream_item_iter_iter_source.clauses) stream_item_iter_iter_code.name stream_item_iter_iter_code.code (λ κs a r e. contract.StreamItemIterIter a.0 a.1.0.now r)
+  pub stream_item_iter_iter : Tie stream_item_iter_iter_source.ended (λ M 𝓤. stream_item_iter_iter_source.clauses) stream_item_iter_iter_code.name stream_item_iter_iter_code.code (λ κs a r e. contract.StreamItemIterIter a.0 a.1.0.now r ∷ [])
   -- stream_item::iter::next
-  pub stream_item_iter_next : Tie stream_item_iter_next_source.ended (λ M 𝓤. stream_item_iter_next_source.clauses) stream_item_iter_next_code.name stream_item_iter_next_code.code (λ κs a r e. contract.StreamItemIterNext a.0.now a.1.0 r)
+  pub stream_item_iter_next : Tie stream_item_iter_next_source.ended (λ M 𝓤. stream_item_iter_next_source.clauses) stream_item_iter_next_code.name stream_item_iter_next_code.code (λ κs a r e. contract.StreamItemIterNext a.0.now a.1.0 r ∷ [])
   -- stream_item::link::link_of
-  pub stream_item_link_link_of : Tie stream_item_link_link_of_source.ended (λ M 𝓤. stream_item_link_link_of_source.clauses) stream_item_link_link_of_code.name stream_item_link_link_of_code.code (λ κs a r e. contract.StreamItemLinkLinkOf a.0.now a.1.0 a.1.1.0 r)
+  pub stream_item_link_link_of : Tie stream_item_link_link_of_source.ended (λ M 𝓤. stream_item_link_link_of_source.clauses) stream_item_link_link_of_code.name stream_item_link_link_of_code.code (λ κs a r e. contract.StreamItemLinkLinkOf a.0.now a.1.0 a.1.1.0 r ∷ [])
   -- stream_places::load
-  pub stream_places_load : Tie stream_places_load_source.ended (λ M 𝓤. stream_places_load_source.clauses) stream_places_load_code.name stream_places_load_code.code (λ κs a r e. contract.StreamPlacesLoad a.0.now a.1.0.now a.1.1.0.now r e.1.1.0.now)
+  pub stream_places_load : Tie stream_places_load_source.ended (λ M 𝓤. stream_places_load_source.clauses) stream_places_load_code.name stream_places_load_code.code (λ κs a r e. contract.StreamPlacesLoad a.0.now a.1.0.now a.1.1.0.now r e.1.1.0.now ∷ [])
   -- stream_places::load_wide
-  pub stream_places_load_wide : Tie stream_places_load_wide_source.ended (λ M 𝓤. stream_places_load_wide_source.clauses) stream_places_load_wide_code.name stream_places_load_wide_code.code (λ κs a r e. contract.StreamPlacesLoadWide a.0.now a.1.0.now a.1.1.0.now r e.1.1.0.now)
+  pub stream_places_load_wide : Tie stream_places_load_wide_source.ended (λ M 𝓤. stream_places_load_wide_source.clauses) stream_places_load_wide_code.name stream_places_load_wide_code.code (λ κs a r e. contract.StreamPlacesLoadWide a.0.now a.1.0.now a.1.1.0.now r e.1.1.0.now ∷ [])
   -- stream_places::save
-  pub stream_places_save : Tie stream_places_save_source.ended (λ M 𝓤. stream_places_save_source.clauses) stream_places_save_code.name stream_places_save_code.code (λ κs a r e. contract.StreamPlacesSave a.0.now a.1.0 a.1.1.0.now a.1.1.1.0.now r e.1.1.1.0.now)
+  pub stream_places_save : Tie stream_places_save_source.ended (λ M 𝓤. stream_places_save_source.clauses) stream_places_save_code.name stream_places_save_code.code (λ κs a r e. contract.StreamPlacesSave a.0.now a.1.0 a.1.1.0.now a.1.1.1.0.now r e.1.1.1.0.now ∷ [])
   -- stream_places::save_wide
-  pub stream_places_save_wide : Tie stream_places_save_wide_source.ended (λ M 𝓤. stream_places_save_wide_source.clauses) stream_places_save_wide_code.name stream_places_save_wide_code.code (λ κs a r e. contract.StreamPlacesSaveWide a.0.now a.1.0 a.1.1.0.now a.1.1.1.0.now r e.1.1.1.0.now)
+  pub stream_places_save_wide : Tie stream_places_save_wide_source.ended (λ M 𝓤. stream_places_save_wide_source.clauses) stream_places_save_wide_code.name stream_places_save_wide_code.code (λ κs a r e. contract.StreamPlacesSaveWide a.0.now a.1.0 a.1.1.0.now a.1.1.1.0.now r e.1.1.1.0.now ∷ [])
   -- stream_places::trailer::Trailer::parse
-  pub stream_places_trailer_trailer_parse : Tie stream_places_trailer_trailer_parse_source.ended (λ M 𝓤. stream_places_trailer_trailer_parse_source.clauses) stream_places_trailer_trailer_parse_code.name stream_places_trailer_trailer_parse_code.code (λ κs a r e. contract.StreamPlacesTrailerTrailerParse a.0.now r)
+  pub stream_places_trailer_trailer_parse : Tie stream_places_trailer_trailer_parse_source.ended (λ M 𝓤. stream_places_trailer_trailer_parse_source.clauses) stream_places_trailer_trailer_parse_code.name stream_places_trailer_trailer_parse_code.code (λ κs a r e. contract.StreamPlacesTrailerTrailerParse a.0.now r ∷ [])
   -- stream_places::trailer::Trailer::parse_wide
-  pub stream_places_trailer_trailer_parse_wide : Tie stream_places_trailer_trailer_parse_wide_source.ended (λ M 𝓤. stream_places_trailer_trailer_parse_wide_source.clauses) stream_places_trailer_trailer_parse_wide_code.name stream_places_trailer_trailer_parse_wide_code.code (λ κs a r e. contract.StreamPlacesTrailerTrailerParseWide a.0.now r)
+  pub stream_places_trailer_trailer_parse_wide : Tie stream_places_trailer_trailer_parse_wide_source.ended (λ M 𝓤. stream_places_trailer_trailer_parse_wide_source.clauses) stream_places_trailer_trailer_parse_wide_code.name stream_places_trailer_trailer_parse_wide_code.code (λ κs a r e. contract.StreamPlacesTrailerTrailerParseWide a.0.now r ∷ [])
   -- stream_report::new
-  pub stream_report_new : Tie stream_report_new_source.ended (λ M 𝓤. stream_report_new_source.clauses) stream_report_new_code.name stream_report_new_code.code (λ κs a r e. contract.StreamReportNew r)
+  pub stream_report_new : Tie stream_report_new_source.ended (λ M 𝓤. stream_report_new_source.clauses) stream_report_new_code.name stream_report_new_code.code (λ κs a r e. contract.StreamReportNew r ∷ [])
   -- stream_report::add
-  pub stream_report_add : Tie stream_report_add_source.ended (λ M 𝓤. stream_report_add_source.clauses) stream_report_add_code.name stream_report_add_code.code (λ κs a r e. contract.StreamReportAdd a.0 a.1.0.now a.1.1.0.now r e.1.0.now)
+  pub stream_report_add : Tie stream_report_add_source.ended (λ M 𝓤. stream_report_add_source.clauses) stream_report_add_code.name stream_report_add_code.code (λ κs a r e. contract.StreamReportAdd a.0 a.1.0.now a.1.1.0.now r e.1.0.now ∷ [])
   -- stream_view::view_answer
-  pub stream_view_view_answer : Tie stream_view_view_answer_source.ended (λ M 𝓤. stream_view_view_answer_source.clauses) stream_view_view_answer_code.name stream_view_view_answer_code.code (λ κs a r e. contract.StreamViewViewAnswer a.0.now a.1.0.now a.1.1.0 r)
+  pub stream_view_view_answer : Tie stream_view_view_answer_source.ended (λ M 𝓤. stream_view_view_answer_source.clauses) stream_view_view_answer_code.name stream_view_view_answer_code.code (λ κs a r e. contract.StreamViewViewAnswer a.0.now a.1.0.now a.1.1.0 r ∷ [])
   -- stream_view::bytes_of
-  pub stream_view_bytes_of : Tie stream_view_bytes_of_source.ended (λ M 𝓤. stream_view_bytes_of_source.clauses) stream_view_bytes_of_code.name stream_view_bytes_of_code.code (λ κs a r e. contract.StreamViewBytesOf a.0.now a.1.0.now a.1.1.0 r.now)
+  pub stream_view_bytes_of : Tie stream_view_bytes_of_source.ended (λ M 𝓤. stream_view_bytes_of_source.clauses) stream_view_bytes_of_code.name stream_view_bytes_of_code.code (λ κs a r e. contract.StreamViewBytesOf a.0.now a.1.0.now a.1.1.0 r.now ∷ [])
   -- stream_view::view
-  pub stream_view_view : Tie stream_view_view_source.ended (λ M 𝓤. stream_view_view_source.clauses) stream_view_view_code.name stream_view_view_code.code (λ κs a r e. contract.StreamViewView a.0.now a.1.0.now a.1.1.0 r)
+  pub stream_view_view : Tie stream_view_view_source.ended (λ M 𝓤. stream_view_view_source.clauses) stream_view_view_code.name stream_view_view_code.code (λ κs a r e. contract.StreamViewView a.0.now a.1.0.now a.1.1.0 r ∷ [])
   -- stream_view::raw_kind
-  pub stream_view_raw_kind : Tie stream_view_raw_kind_source.ended (λ M 𝓤. stream_view_raw_kind_source.clauses) stream_view_raw_kind_code.name stream_view_raw_kind_code.code (λ κs a r e. contract.StreamViewRawKind a.0.now a.1.0.now a.1.1.0 r)
+  pub stream_view_raw_kind : Tie stream_view_raw_kind_source.ended (λ M 𝓤. stream_view_raw_kind_source.clauses) stream_view_raw_kind_code.name stream_view_raw_kind_code.code (λ κs a r e. contract.StreamViewRawKind a.0.now a.1.0.now a.1.1.0 r ∷ [])
   -- word_attributes::TypeProperties::packed
-  pub word_attributes_type_properties_packed : Tie word_attributes_type_properties_packed_source.ended (λ M 𝓤. word_attributes_type_properties_packed_source.clauses) word_attributes_type_properties_packed_code.name word_attributes_type_properties_packed_code.code (λ κs a r e. contract.WordAttributesTypePropertiesPacked a.0 r)
+  pub word_attributes_type_properties_packed : Tie word_attributes_type_properties_packed_source.ended (λ M 𝓤. word_attributes_type_properties_packed_source.clauses) word_attributes_type_properties_packed_code.name word_attributes_type_properties_packed_code.code (λ κs a r e. contract.WordAttributesTypePropertiesPacked a.0 r ∷ [])
   -- word_attributes::TypeProperties::constructors
-  pub word_attributes_type_properties_constructors : Tie word_attributes_type_properties_constructors_source.ended (λ M 𝓤. word_attributes_type_properties_constructors_source.clauses) word_attributes_type_properties_constructors_code.name word_attributes_type_properties_constructors_code.code (λ κs a r e. contract.WordAttributesTypePropertiesConstructors a.0 r)
+  pub word_attributes_type_properties_constructors : Tie word_attributes_type_properties_constructors_source.ended (λ M 𝓤. word_attributes_type_properties_constructors_source.clauses) word_attributes_type_properties_constructors_code.name word_attributes_type_properties_constructors_code.code (λ κs a r e. contract.WordAttributesTypePropertiesConstructors a.0 r ∷ [])
   -- word_attributes::TypeProperties::overloaded_operators
-  pub word_attributes_type_properties_overloaded_operators : Tie word_attributes_type_properties_overloaded_operators_source.ended (λ M 𝓤. word_attributes_type_properties_overloaded_operators_source.clauses) word_attributes_type_properties_overloaded_operators_code.name word_attributes_type_properties_overloaded_operators_code.code (λ κs a r e. contract.WordAttributesTypePropertiesOverloadedOperators a.0 r)
+  pub word_attributes_type_properties_overloaded_operators : Tie word_attributes_type_properties_overloaded_operators_source.ended (λ M 𝓤. word_attributes_type_properties_overloaded_operators_source.clauses) word_attributes_type_properties_overloaded_operators_code.name word_attributes_type_properties_overloaded_operators_code.code (λ κs a r e. contract.WordAttributesTypePropertiesOverloadedOperators a.0 r ∷ [])
   -- word_attributes::TypeProperties::is_nested_type
-  pub word_attributes_type_properties_is_nested_type : Tie word_attributes_type_properties_is_nested_type_source.ended (λ M 𝓤. word_attributes_type_properties_is_nested_type_source.clauses) word_attributes_type_properties_is_nested_type_code.name word_attributes_type_properties_is_nested_type_code.code (λ κs a r e. contract.WordAttributesTypePropertiesIsNestedType a.0 r)
+  pub word_attributes_type_properties_is_nested_type : Tie word_attributes_type_properties_is_nested_type_source.ended (λ M 𝓤. word_attributes_type_properties_is_nested_type_source.clauses) word_attributes_type_properties_is_nested_type_code.name word_attributes_type_properties_is_nested_type_code.code (λ κs a r e. contract.WordAttributesTypePropertiesIsNestedType a.0 r ∷ [])
   -- word_attributes::TypeProperties::contains_nested_types
-  pub word_attributes_type_properties_contains_nested_types : Tie word_attributes_type_properties_contains_nested_types_source.ended (λ M 𝓤. word_attributes_type_properties_contains_nested_types_source.clauses) word_attributes_type_properties_contains_nested_types_code.name word_attributes_type_properties_contains_nested_types_code.code (λ κs a r e. contract.WordAttributesTypePropertiesContainsNestedTypes a.0 r)
+  pub word_attributes_type_properties_contains_nested_types : Tie word_attributes_type_properties_contains_nested_types_source.ended (λ M 𝓤. word_attributes_type_properties_contains_nested_types_source.clauses) word_attributes_type_properties_contains_nested_types_code.name word_attributes_type_properties_contains_nested_types_code.code (λ κs a r e. contract.WordAttributesTypePropertiesContainsNestedTypes a.0 r ∷ [])
   -- word_attributes::TypeProperties::overloaded_assignment
-  pub word_attributes_type_properties_overloaded_assignment : Tie word_attributes_type_properties_overloaded_assignment_source.ended (λ M 𝓤. word_attributes_type_properties_overloaded_assignment_source.clauses) word_attributes_type_properties_overloaded_assignment_code.name word_attributes_type_properties_overloaded_assignment_code.code (λ κs a r e. contract.WordAttributesTypePropertiesOverloadedAssignment a.0 r)
+  pub word_attributes_type_properties_overloaded_assignment : Tie word_attributes_type_properties_overloaded_assignment_source.ended (λ M 𝓤. word_attributes_type_properties_overloaded_assignment_source.clauses) word_attributes_type_properties_overloaded_assignment_code.name word_attributes_type_properties_overloaded_assignment_code.code (λ κs a r e. contract.WordAttributesTypePropertiesOverloadedAssignment a.0 r ∷ [])
   -- word_attributes::TypeProperties::overloaded_casting
-  pub word_attributes_type_properties_overloaded_casting : Tie word_attributes_type_properties_overloaded_casting_source.ended (λ M 𝓤. word_attributes_type_properties_overloaded_casting_source.clauses) word_attributes_type_properties_overloaded_casting_code.name word_attributes_type_properties_overloaded_casting_code.code (λ κs a r e. contract.WordAttributesTypePropertiesOverloadedCasting a.0 r)
+  pub word_attributes_type_properties_overloaded_casting : Tie word_attributes_type_properties_overloaded_casting_source.ended (λ M 𝓤. word_attributes_type_properties_overloaded_casting_source.clauses) word_attributes_type_properties_overloaded_casting_code.name word_attributes_type_properties_overloaded_casting_code.code (λ κs a r e. contract.WordAttributesTypePropertiesOverloadedCasting a.0 r ∷ [])
   -- word_attributes::TypeProperties::forward_reference
-  pub word_attributes_type_properties_forward_reference : Tie word_attributes_type_properties_forward_reference_source.ended (λ M 𝓤. word_attributes_type_properties_forward_reference_source.clauses) word_attributes_type_properties_forward_reference_code.name word_attributes_type_properties_forward_reference_code.code (λ κs a r e. contract.WordAttributesTypePropertiesForwardReference a.0 r)
+  pub word_attributes_type_properties_forward_reference : Tie word_attributes_type_properties_forward_reference_source.ended (λ M 𝓤. word_attributes_type_properties_forward_reference_source.clauses) word_attributes_type_properties_forward_reference_code.name word_attributes_type_properties_forward_reference_code.code (λ κs a r e. contract.WordAttributesTypePropertiesForwardReference a.0 r ∷ [])
   -- word_attributes::TypeProperties::scoped_definition
-  pub word_attributes_type_properties_scoped_definition : Tie word_attributes_type_properties_scoped_definition_source.ended (λ M 𝓤. word_attributes_type_properties_scoped_definition_source.clauses) word_attributes_type_properties_scoped_definition_code.name word_attributes_type_properties_scoped_definition_code.code (λ κs a r e. contract.WordAttributesTypePropertiesScopedDefinition a.0 r)
+  pub word_attributes_type_properties_scoped_definition : Tie word_attributes_type_properties_scoped_definition_source.ended (λ M 𝓤. word_attributes_type_properties_scoped_definition_source.clauses) word_attributes_type_properties_scoped_definition_code.name word_attributes_type_properties_scoped_definition_code.code (λ κs a r e. contract.WordAttributesTypePropertiesScopedDefinition a.0 r ∷ [])
   -- word_attributes::TypeProperties::has_unique_name
-  pub word_attributes_type_properties_has_unique_name : Tie word_attributes_type_properties_has_unique_name_source.ended (λ M 𝓤. word_attributes_type_properties_has_unique_name_source.clauses) word_attributes_type_properties_has_unique_name_code.name word_attributes_type_properties_has_unique_name_code.code (λ κs a r e. contract.WordAttributesTypePropertiesHasUniqueName a.0 r)
+  pub word_attributes_type_properties_has_unique_name : Tie word_attributes_type_properties_has_unique_name_source.ended (λ M 𝓤. word_attributes_type_properties_has_unique_name_source.clauses) word_attributes_type_properties_has_unique_name_code.name word_attributes_type_properties_has_unique_name_code.code (λ κs a r e. contract.WordAttributesTypePropertiesHasUniqueName a.0 r ∷ [])
   -- word_attributes::TypeProperties::sealed
-  pub word_attributes_type_properties_sealed : Tie word_attributes_type_properties_sealed_source.ended (λ M 𝓤. word_attributes_type_properties_sealed_source.clauses) word_attributes_type_properties_sealed_code.name word_attributes_type_properties_sealed_code.code (λ κs a r e. contract.WordAttributesTypePropertiesSealed a.0 r)
+  pub word_attributes_type_properties_sealed : Tie word_attributes_type_properties_sealed_source.ended (λ M 𝓤. word_attributes_type_properties_sealed_source.clauses) word_attributes_type_properties_sealed_code.name word_attributes_type_properties_sealed_code.code (λ κs a r e. contract.WordAttributesTypePropertiesSealed a.0 r ∷ [])
   -- word_attributes::TypeProperties::intrinsic_type
-  pub word_attributes_type_properties_intrinsic_type : Tie word_attributes_type_properties_intrinsic_type_source.ended (λ M 𝓤. word_attributes_type_properties_intrinsic_type_source.clauses) word_attributes_type_properties_intrinsic_type_code.name word_attributes_type_properties_intrinsic_type_code.code (λ κs a r e. contract.WordAttributesTypePropertiesIntrinsicType a.0 r)
+  pub word_attributes_type_properties_intrinsic_type : Tie word_attributes_type_properties_intrinsic_type_source.ended (λ M 𝓤. word_attributes_type_properties_intrinsic_type_source.clauses) word_attributes_type_properties_intrinsic_type_code.name word_attributes_type_properties_intrinsic_type_code.code (λ κs a r e. contract.WordAttributesTypePropertiesIntrinsicType a.0 r ∷ [])
   -- word_attributes::TypeProperties::hfa
-  pub word_attributes_type_properties_hfa : Tie word_attributes_type_properties_hfa_source.ended (λ M 𝓤. word_attributes_type_properties_hfa_source.clauses) word_attributes_type_properties_hfa_code.name word_attributes_type_properties_hfa_code.code (λ κs a r e. contract.WordAttributesTypePropertiesHfa a.0 r)
+  pub word_attributes_type_properties_hfa : Tie word_attributes_type_properties_hfa_source.ended (λ M 𝓤. word_attributes_type_properties_hfa_source.clauses) word_attributes_type_properties_hfa_code.name word_attributes_type_properties_hfa_code.code (λ κs a r e. contract.WordAttributesTypePropertiesHfa a.0 r ∷ [])
   -- word_attributes::TypeProperties::mocom
-  pub word_attributes_type_properties_mocom : Tie word_attributes_type_properties_mocom_source.ended (λ M 𝓤. word_attributes_type_properties_mocom_source.clauses) word_attributes_type_properties_mocom_code.name word_attributes_type_properties_mocom_code.code (λ κs a r e. contract.WordAttributesTypePropertiesMocom a.0 r)
+  pub word_attributes_type_properties_mocom : Tie word_attributes_type_properties_mocom_source.ended (λ M 𝓤. word_attributes_type_properties_mocom_source.clauses) word_attributes_type_properties_mocom_code.name word_attributes_type_properties_mocom_code.code (λ κs a r e. contract.WordAttributesTypePropertiesMocom a.0 r ∷ [])
   -- word_attributes::FieldAttributes::access
-  pub word_attributes_field_attributes_access : Tie word_attributes_field_attributes_access_source.ended (λ M 𝓤. word_attributes_field_attributes_access_source.clauses) word_attributes_field_attributes_access_code.name word_attributes_field_attributes_access_code.code (λ κs a r e. contract.WordAttributesFieldAttributesAccess a.0 r)
+  pub word_attributes_field_attributes_access : Tie word_attributes_field_attributes_access_source.ended (λ M 𝓤. word_attributes_field_attributes_access_source.clauses) word_attributes_field_attributes_access_code.name word_attributes_field_attributes_access_code.code (λ κs a r e. contract.WordAttributesFieldAttributesAccess a.0 r ∷ [])
   -- word_attributes::FieldAttributes::method_properties
-  pub word_attributes_field_attributes_method_properties : Tie word_attributes_field_attributes_method_properties_source.ended (λ M 𝓤. word_attributes_field_attributes_method_properties_source.clauses) word_attributes_field_attributes_method_properties_code.name word_attributes_field_attributes_method_properties_code.code (λ κs a r e. contract.WordAttributesFieldAttributesMethodProperties a.0 r)
+  pub word_attributes_field_attributes_method_properties : Tie word_attributes_field_attributes_method_properties_source.ended (λ M 𝓤. word_attributes_field_attributes_method_properties_source.clauses) word_attributes_field_attributes_method_properties_code.name word_attributes_field_attributes_method_properties_code.code (λ κs a r e. contract.WordAttributesFieldAttributesMethodProperties a.0 r ∷ [])
   -- word_attributes::FieldAttributes::is_static
-  pub word_attributes_field_attributes_is_static : Tie word_attributes_field_attributes_is_static_source.ended (λ M 𝓤. word_attributes_field_attributes_is_static_source.clauses) word_attributes_field_attributes_is_static_code.name word_attributes_field_attributes_is_static_code.code (λ κs a r e. contract.WordAttributesFieldAttributesIsStatic a.0 r)
+  pub word_attributes_field_attributes_is_static : Tie word_attributes_field_attributes_is_static_source.ended (λ M 𝓤. word_attributes_field_attributes_is_static_source.clauses) word_attributes_field_attributes_is_static_code.name word_attributes_field_attributes_is_static_code.code (λ κs a r e. contract.WordAttributesFieldAttributesIsStatic a.0 r ∷ [])
   -- word_attributes::FieldAttributes::is_virtual
-  pub word_attributes_field_attributes_is_virtual : Tie word_attributes_field_attributes_is_virtual_source.ended (λ M 𝓤. word_attributes_field_attributes_is_virtual_source.clauses) word_attributes_field_attributes_is_virtual_code.name word_attributes_field_attributes_is_virtual_code.code (λ κs a r e. contract.WordAttributesFieldAttributesIsVirtual a.0 r)
+  pub word_attributes_field_attributes_is_virtual : Tie word_attributes_field_attributes_is_virtual_source.ended (λ M 𝓤. word_attributes_field_attributes_is_virtual_source.clauses) word_attributes_field_attributes_is_virtual_code.name word_attributes_field_attributes_is_virtual_code.code (λ κs a r e. contract.WordAttributesFieldAttributesIsVirtual a.0 r ∷ [])
   -- word_attributes::FieldAttributes::is_pure_virtual
-  pub word_attributes_field_attributes_is_pure_virtual : Tie word_attributes_field_attributes_is_pure_virtual_source.ended (λ M 𝓤. word_attributes_field_attributes_is_pure_virtual_source.clauses) word_attributes_field_attributes_is_pure_virtual_code.name word_attributes_field_attributes_is_pure_virtual_code.code (λ κs a r e. contract.WordAttributesFieldAttributesIsPureVirtual a.0 r)
+  pub word_attributes_field_attributes_is_pure_virtual : Tie word_attributes_field_attributes_is_pure_virtual_source.ended (λ M 𝓤. word_attributes_field_attributes_is_pure_virtual_source.clauses) word_attributes_field_attributes_is_pure_virtual_code.name word_attributes_field_attributes_is_pure_virtual_code.code (λ κs a r e. contract.WordAttributesFieldAttributesIsPureVirtual a.0 r ∷ [])
   -- word_attributes::FieldAttributes::is_intro_virtual
-  pub word_attributes_field_attributes_is_intro_virtual : Tie word_attributes_field_attributes_is_intro_virtual_source.ended (λ M 𝓤. word_attributes_field_attributes_is_intro_virtual_source.clauses) word_attributes_field_attributes_is_intro_virtual_code.name word_attributes_field_attributes_is_intro_virtual_code.code (λ κs a r e. contract.WordAttributesFieldAttributesIsIntroVirtual a.0 r)
+  pub word_attributes_field_attributes_is_intro_virtual : Tie word_attributes_field_attributes_is_intro_virtual_source.ended (λ M 𝓤. word_attributes_field_attributes_is_intro_virtual_source.clauses) word_attributes_field_attributes_is_intro_virtual_code.name word_attributes_field_attributes_is_intro_virtual_code.code (λ κs a r e. contract.WordAttributesFieldAttributesIsIntroVirtual a.0 r ∷ [])
   -- word_attributes::FunctionAttributes::calling_convention
-  pub word_attributes_function_attributes_calling_convention : Tie word_attributes_function_attributes_calling_convention_source.ended (λ M 𝓤. word_attributes_function_attributes_calling_convention_source.clauses) word_attributes_function_attributes_calling_convention_code.name word_attributes_function_attributes_calling_convention_code.code (λ κs a r e. contract.WordAttributesFunctionAttributesCallingConvention a.0 r)
+  pub word_attributes_function_attributes_calling_convention : Tie word_attributes_function_attributes_calling_convention_source.ended (λ M 𝓤. word_attributes_function_attributes_calling_convention_source.clauses) word_attributes_function_attributes_calling_convention_code.name word_attributes_function_attributes_calling_convention_code.code (λ κs a r e. contract.WordAttributesFunctionAttributesCallingConvention a.0 r ∷ [])
   -- word_attributes::FunctionAttributes::cxx_return_udt
-  pub word_attributes_function_attributes_cxx_return_udt : Tie word_attributes_function_attributes_cxx_return_udt_source.ended (λ M 𝓤. word_attributes_function_attributes_cxx_return_udt_source.clauses) word_attributes_function_attributes_cxx_return_udt_code.name word_attributes_function_attributes_cxx_return_udt_code.code (λ κs a r e. contract.WordAttributesFunctionAttributesCxxReturnUdt a.0 r)
+  pub word_attributes_function_attributes_cxx_return_udt : Tie word_attributes_function_attributes_cxx_return_udt_source.ended (λ M 𝓤. word_attributes_function_attributes_cxx_return_udt_source.clauses) word_attributes_function_attributes_cxx_return_udt_code.name word_attributes_function_attributes_cxx_return_udt_code.code (λ κs a r e. contract.WordAttributesFunctionAttributesCxxReturnUdt a.0 r ∷ [])
   -- word_attributes::FunctionAttributes::is_constructor
-  pub word_attributes_function_attributes_is_constructor : Tie word_attributes_function_attributes_is_constructor_source.ended (λ M 𝓤. word_attributes_function_attributes_is_constructor_source.clauses) word_attributes_function_attributes_is_constructor_code.name word_attributes_function_attributes_is_constructor_code.code (λ κs a r e. contract.WordAttributesFunctionAttributesIsConstructor a.0 r)
+  pub word_attributes_function_attributes_is_constructor : Tie word_attributes_function_attributes_is_constructor_source.ended (λ M 𝓤. word_attributes_function_attributes_is_constructor_source.clauses) word_attributes_function_attributes_is_constructor_code.name word_attributes_function_attributes_is_constructor_code.code (λ κs a r e. contract.WordAttributesFunctionAttributesIsConstructor a.0 r ∷ [])
   -- word_attributes::FunctionAttributes::is_constructor_with_virtual_bases
-  pub word_attributes_function_attributes_is_constructor_with_virtual_bases : Tie word_attributes_function_attributes_is_constructor_with_virtual_bases_source.ended (λ M 𝓤. word_attributes_function_attributes_is_constructor_with_virtual_bases_source.clauses) word_attributes_function_attributes_is_constructor_with_virtual_bases_code.name word_attributes_function_attributes_is_constructor_with_virtual_bases_code.code (λ κs a r e. contract.WordAttributesFunctionAttributesIsConstructorWithVirtualBases a.0 r)
+  pub word_attributes_function_attributes_is_constructor_with_virtual_bases : Tie word_attributes_function_attributes_is_constructor_with_virtual_bases_source.ended (λ M 𝓤. word_attributes_function_attributes_is_constructor_with_virtual_bases_source.clauses) word_attributes_function_attributes_is_constructor_with_virtual_bases_code.name word_attributes_function_attributes_is_constructor_with_virtual_bases_code.code (λ κs a r e. contract.WordAttributesFunctionAttributesIsConstructorWithVirtualBases a.0 r ∷ [])
   -- word_attributes::ModifierFlags::constant
-  pub word_attributes_modifier_flags_constant : Tie word_attributes_modifier_flags_constant_source.ended (λ M 𝓤. word_attributes_modifier_flags_constant_source.clauses) word_attributes_modifier_flags_constant_code.name word_attributes_modifier_flags_constant_code.code (λ κs a r e. contract.WordAttributesModifierFlagsConstant a.0 r)
+  pub word_attributes_modifier_flags_constant : Tie word_attributes_modifier_flags_constant_source.ended (λ M 𝓤. word_attributes_modifier_flags_constant_source.clauses) word_attributes_modifier_flags_constant_code.name word_attributes_modifier_flags_constant_code.code (λ κs a r e. contract.WordAttributesModifierFlagsConstant a.0 r ∷ [])
   -- word_attributes::ModifierFlags::volatile
-  pub word_attributes_modifier_flags_volatile : Tie word_attributes_modifier_flags_volatile_source.ended (λ M 𝓤. word_attributes_modifier_flags_volatile_source.clauses) word_attributes_modifier_flags_volatile_code.name word_attributes_modifier_flags_volatile_code.code (λ κs a r e. contract.WordAttributesModifierFlagsVolatile a.0 r)
+  pub word_attributes_modifier_flags_volatile : Tie word_attributes_modifier_flags_volatile_source.ended (λ M 𝓤. word_attributes_modifier_flags_volatile_source.clauses) word_attributes_modifier_flags_volatile_code.name word_attributes_modifier_flags_volatile_code.code (λ κs a r e. contract.WordAttributesModifierFlagsVolatile a.0 r ∷ [])
   -- word_attributes::ModifierFlags::unaligned
-  pub word_attributes_modifier_flags_unaligned : Tie word_attributes_modifier_flags_unaligned_source.ended (λ M 𝓤. word_attributes_modifier_flags_unaligned_source.clauses) word_attributes_modifier_flags_unaligned_code.name word_attributes_modifier_flags_unaligned_code.code (λ κs a r e. contract.WordAttributesModifierFlagsUnaligned a.0 r)
+  pub word_attributes_modifier_flags_unaligned : Tie word_attributes_modifier_flags_unaligned_source.ended (λ M 𝓤. word_attributes_modifier_flags_unaligned_source.clauses) word_attributes_modifier_flags_unaligned_code.name word_attributes_modifier_flags_unaligned_code.code (λ κs a r e. contract.WordAttributesModifierFlagsUnaligned a.0 r ∷ [])
   -- word_attributes::PointerAttributes::pointer_kind
-  pub word_attributes_pointer_attributes_pointer_kind : Tie word_attributes_pointer_attributes_pointer_kind_source.ended (λ M 𝓤. word_attributes_pointer_attributes_pointer_kind_source.clauses) word_attributes_pointer_attributes_pointer_kind_code.name word_attributes_pointer_attributes_pointer_kind_code.code (λ κs a r e. contract.WordAttributesPointerAttributesPointerKind a.0 r)
+  pub word_attributes_pointer_attributes_pointer_kind : Tie word_attributes_pointer_attributes_pointer_kind_source.ended (λ M 𝓤. word_attributes_pointer_attributes_pointer_kind_source.clauses) word_attributes_pointer_attributes_pointer_kind_code.name word_attributes_pointer_attributes_pointer_kind_code.code (λ κs a r e. contract.WordAttributesPointerAttributesPointerKind a.0 r ∷ [])
   -- word_attributes::PointerAttributes::pointer_mode
-  pub word_attributes_pointer_attributes_pointer_mode : Tie word_attributes_pointer_attributes_pointer_mode_source.ended (λ M 𝓤. word_attributes_pointer_attributes_pointer_mode_source.clauses) word_attributes_pointer_attributes_pointer_mode_code.name word_attributes_pointer_attributes_pointer_mode_code.code (λ κs a r e. contract.WordAttributesPointerAttributesPointerMode a.0 r)
+  pub word_attributes_pointer_attributes_pointer_mode : Tie word_attributes_pointer_attributes_pointer_mode_source.ended (λ M 𝓤. word_attributes_pointer_attributes_pointer_mode_source.clauses) word_attributes_pointer_attributes_pointer_mode_code.name word_attributes_pointer_attributes_pointer_mode_code.code (λ κs a r e. contract.WordAttributesPointerAttributesPointerMode a.0 r ∷ [])
   -- word_attributes::PointerAttributes::pointer_to_member
-  pub word_attributes_pointer_attributes_pointer_to_member : Tie word_attributes_pointer_attributes_pointer_to_member_source.ended (λ M 𝓤. word_attributes_pointer_attributes_pointer_to_member_source.clauses) word_attributes_pointer_attributes_pointer_to_member_code.name word_attributes_pointer_attributes_pointer_to_member_code.code (λ κs a r e. contract.WordAttributesPointerAttributesPointerToMember a.0 r)
+  pub word_attributes_pointer_attributes_pointer_to_member : Tie word_attributes_pointer_attributes_pointer_to_member_source.ended (λ M 𝓤. word_attributes_pointer_attributes_pointer_to_member_source.clauses) word_attributes_pointer_attributes_pointer_to_member_code.name word_attributes_pointer_attributes_pointer_to_member_code.code (λ κs a r e. contract.WordAttributesPointerAttributesPointerToMember a.0 r ∷ [])
   -- word_attributes::PointerAttributes::is_flat_32
-  pub word_attributes_pointer_attributes_is_flat_32 : Tie word_attributes_pointer_attributes_is_flat_32_source.ended (λ M 𝓤. word_attributes_pointer_attributes_is_flat_32_source.clauses) word_attributes_pointer_attributes_is_flat_32_code.name word_attributes_pointer_attributes_is_flat_32_code.code (λ κs a r e. contract.WordAttributesPointerAttributesIsFlat32 a.0 r)
+  pub word_attributes_pointer_attributes_is_flat_32 : Tie word_attributes_pointer_attributes_is_flat_32_source.ended (λ M 𝓤. word_attributes_pointer_attributes_is_flat_32_source.clauses) word_attributes_pointer_attributes_is_flat_32_code.name word_attributes_pointer_attributes_is_flat_32_code.code (λ κs a r e. contract.WordAttributesPointerAttributesIsFlat32 a.0 r ∷ [])
   -- word_attributes::PointerAttributes::is_volatile
-  pub word_attributes_pointer_attributes_is_volatile : Tie word_attributes_pointer_attributes_is_volatile_source.ended (λ M 𝓤. word_attributes_pointer_attributes_is_volatile_source.clauses) word_attributes_pointer_attributes_is_volatile_code.name word_attributes_pointer_attributes_is_volatile_code.code (λ κs a r e. contract.WordAttributesPointerAttributesIsVolatile a.0 r)
+  pub word_attributes_pointer_attributes_is_volatile : Tie word_attributes_pointer_attributes_is_volatile_source.ended (λ M 𝓤. word_attributes_pointer_attributes_is_volatile_source.clauses) word_attributes_pointer_attributes_is_volatile_code.name word_attributes_pointer_attributes_is_volatile_code.code (λ κs a r e. contract.WordAttributesPointerAttributesIsVolatile a.0 r ∷ [])
   -- word_attributes::PointerAttributes::is_const
-  pub word_attributes_pointer_attributes_is_const : Tie word_attributes_pointer_attributes_is_const_source.ended (λ M 𝓤. word_attributes_pointer_attributes_is_const_source.clauses) word_attributes_pointer_attributes_is_const_code.name word_attributes_pointer_attributes_is_const_code.code (λ κs a r e. contract.WordAttributesPointerAttributesIsConst a.0 r)
+  pub word_attributes_pointer_attributes_is_const : Tie word_attributes_pointer_attributes_is_const_source.ended (λ M 𝓤. word_attributes_pointer_attributes_is_const_source.clauses) word_attributes_pointer_attributes_is_const_code.name word_attributes_pointer_attributes_is_const_code.code (λ κs a r e. contract.WordAttributesPointerAttributesIsConst a.0 r ∷ [])
   -- word_attributes::PointerAttributes::is_unaligned
-  pub word_attributes_pointer_attributes_is_unaligned : Tie word_attributes_pointer_attributes_is_unaligned_source.ended (λ M 𝓤. word_attributes_pointer_attributes_is_unaligned_source.clauses) word_attributes_pointer_attributes_is_unaligned_code.name word_attributes_pointer_attributes_is_unaligned_code.code (λ κs a r e. contract.WordAttributesPointerAttributesIsUnaligned a.0 r)
+  pub word_attributes_pointer_attributes_is_unaligned : Tie word_attributes_pointer_attributes_is_unaligned_source.ended (λ M 𝓤. word_attributes_pointer_attributes_is_unaligned_source.clauses) word_attributes_pointer_attributes_is_unaligned_code.name word_attributes_pointer_attributes_is_unaligned_code.code (λ κs a r e. contract.WordAttributesPointerAttributesIsUnaligned a.0 r ∷ [])
   -- word_attributes::PointerAttributes::is_restrict
-  pub word_attributes_pointer_attributes_is_restrict : Tie word_attributes_pointer_attributes_is_restrict_source.ended (λ M 𝓤. word_attributes_pointer_attributes_is_restrict_source.clauses) word_attributes_pointer_attributes_is_restrict_code.name word_attributes_pointer_attributes_is_restrict_code.code (λ κs a r e. contract.WordAttributesPointerAttributesIsRestrict a.0 r)
+  pub word_attributes_pointer_attributes_is_restrict : Tie word_attributes_pointer_attributes_is_restrict_source.ended (λ M 𝓤. word_attributes_pointer_attributes_is_restrict_source.clauses) word_attributes_pointer_attributes_is_restrict_code.name word_attributes_pointer_attributes_is_restrict_code.code (λ κs a r e. contract.WordAttributesPointerAttributesIsRestrict a.0 r ∷ [])
   -- word_attributes::PointerAttributes::is_reference
-  pub word_attributes_pointer_attributes_is_reference : Tie word_attributes_pointer_attributes_is_reference_source.ended (λ M 𝓤. word_attributes_pointer_attributes_is_reference_source.clauses) word_attributes_pointer_attributes_is_reference_code.name word_attributes_pointer_attributes_is_reference_code.code (λ κs a r e. contract.WordAttributesPointerAttributesIsReference a.0 r)
+  pub word_attributes_pointer_attributes_is_reference : Tie word_attributes_pointer_attributes_is_reference_source.ended (λ M 𝓤. word_attributes_pointer_attributes_is_reference_source.clauses) word_attributes_pointer_attributes_is_reference_code.name word_attributes_pointer_attributes_is_reference_code.code (λ κs a r e. contract.WordAttributesPointerAttributesIsReference a.0 r ∷ [])
   -- word_attributes::PointerAttributes::size
-  pub word_attributes_pointer_attributes_size : Tie word_attributes_pointer_attributes_size_source.ended (λ M 𝓤. word_attributes_pointer_attributes_size_source.clauses) word_attributes_pointer_attributes_size_code.name word_attributes_pointer_attributes_size_code.code (λ κs a r e. contract.WordAttributesPointerAttributesSize a.0 r)
+  pub word_attributes_pointer_attributes_size : Tie word_attributes_pointer_attributes_size_source.ended (λ M 𝓤. word_attributes_pointer_attributes_size_source.clauses) word_attributes_pointer_attributes_size_code.name word_attributes_pointer_attributes_size_code.code (λ κs a r e. contract.WordAttributesPointerAttributesSize a.0 r ∷ [])
   -- word_attributes::PointerAttributes::is_mocom
-  pub word_attributes_pointer_attributes_is_mocom : Tie word_attributes_pointer_attributes_is_mocom_source.ended (λ M 𝓤. word_attributes_pointer_attributes_is_mocom_source.clauses) word_attributes_pointer_attributes_is_mocom_code.name word_attributes_pointer_attributes_is_mocom_code.code (λ κs a r e. contract.WordAttributesPointerAttributesIsMocom a.0 r)
+  pub word_attributes_pointer_attributes_is_mocom : Tie word_attributes_pointer_attributes_is_mocom_source.ended (λ M 𝓤. word_attributes_pointer_attributes_is_mocom_source.clauses) word_attributes_pointer_attributes_is_mocom_code.name word_attributes_pointer_attributes_is_mocom_code.code (λ κs a r e. contract.WordAttributesPointerAttributesIsMocom a.0 r ∷ [])
   -- word_primitive::primitive
-  pub word_primitive_primitive : Tie word_primitive_primitive_source.ended (λ M 𝓤. word_primitive_primitive_source.clauses) word_primitive_primitive_code.name word_primitive_primitive_code.code (λ κs a r e. contract.WordPrimitivePrimitive a.0 r)
+  pub word_primitive_primitive : Tie word_primitive_primitive_source.ended (λ M 𝓤. word_primitive_primitive_source.clauses) word_primitive_primitive_code.name word_primitive_primitive_code.code (λ κs a r e. contract.WordPrimitivePrimitive a.0 r ∷ [])
   -- write_cells::write_type
-  pub write_cells_write_type : Tie write_cells_write_type_source.ended (λ M 𝓤. write_cells_write_type_source.clauses) write_cells_write_type_code.name write_cells_write_type_code.code (λ κs a r e. contract.WriteCellsWriteType a.0.now a.1.0 a.1.1.0 a.1.1.1.0.now a.1.1.1.1.0 r e.1.1.1.0.now)
+  pub write_cells_write_type : Tie write_cells_write_type_source.ended (λ M 𝓤. write_cells_write_type_source.clauses) write_cells_write_type_code.name write_cells_write_type_code.code (λ κs a r e. contract.WriteCellsWriteType a.0.now a.1.0 a.1.1.0 a.1.1.1.0.now a.1.1.1.1.0 r e.1.1.1.0.now ∷ [])
   -- write_cells::write_id
-  pub write_cells_write_id : Tie write_cells_write_id_source.ended (λ M 𝓤. write_cells_write_id_source.clauses) write_cells_write_id_code.name write_cells_write_id_code.code (λ κs a r e. contract.WriteCellsWriteId a.0.now a.1.0 a.1.1.0 a.1.1.1.0.now a.1.1.1.1.0 r e.1.1.1.0.now)
+  pub write_cells_write_id : Tie write_cells_write_id_source.ended (λ M 𝓤. write_cells_write_id_source.clauses) write_cells_write_id_code.name write_cells_write_id_code.code (λ κs a r e. contract.WriteCellsWriteId a.0.now a.1.0 a.1.1.0 a.1.1.1.0.now a.1.1.1.1.0 r e.1.1.1.0.now ∷ [])
   -- write_header::write_header
-  pub write_header_write_header : Tie write_header_write_header_source.ended (λ M 𝓤. write_header_write_header_source.clauses) write_header_write_header_code.name write_header_write_header_code.code (λ κs a r e. contract.WriteHeaderWriteHeader a.0 a.1.0.now a.1.1.0 r e.1.0.now)
+  pub write_header_write_header : Tie write_header_write_header_source.ended (λ M 𝓤. write_header_write_header_source.clauses) write_header_write_header_code.name write_header_write_header_code.code (λ κs a r e. contract.WriteHeaderWriteHeader a.0 a.1.0.now a.1.1.0 r e.1.0.now ∷ [])
   -- write_list::write_field_list
-  pub write_list_write_field_list : Tie write_list_write_field_list_source.ended (λ M 𝓤. write_list_write_field_list_source.clauses) write_list_write_field_list_code.name write_list_write_field_list_code.code (λ κs a r e. contract.WriteListWriteFieldList a.0.now a.1.0.now a.1.1.0.now a.1.1.1.0 r e.1.1.0.now)
+  pub write_list_write_field_list : Tie write_list_write_field_list_source.ended (λ M 𝓤. write_list_write_field_list_source.clauses) write_list_write_field_list_code.name write_list_write_field_list_code.code (λ κs a r e. contract.WriteListWriteFieldList a.0.now a.1.0.now a.1.1.0.now a.1.1.1.0 r e.1.1.0.now ∷ [])
   -- write_list::write_method_list
-  pub write_list_write_method_list : Tie write_list_write_method_list_source.ended (λ M 𝓤. write_list_write_method_list_source.clauses) write_list_write_method_list_code.name write_list_write_method_list_code.code (λ κs a r e. contract.WriteListWriteMethodList a.0.now a.1.0.now a.1.1.0.now a.1.1.1.0 r e.1.1.0.now)
+  pub write_list_write_method_list : Tie write_list_write_method_list_source.ended (λ M 𝓤. write_list_write_method_list_source.clauses) write_list_write_method_list_code.name write_list_write_method_list_code.code (λ κs a r e. contract.WriteListWriteMethodList a.0.now a.1.0.now a.1.1.0.now a.1.1.1.0 r e.1.1.0.now ∷ [])
   -- write_list::rows::of_member
-  pub write_list_rows_of_member : Tie write_list_rows_of_member_source.ended (λ M 𝓤. write_list_rows_of_member_source.clauses) write_list_rows_of_member_code.name write_list_rows_of_member_code.code (λ κs a r e. contract.WriteListRowsOfMember a.0 r)
+  pub write_list_rows_of_member : Tie write_list_rows_of_member_source.ended (λ M 𝓤. write_list_rows_of_member_source.clauses) write_list_rows_of_member_code.name write_list_rows_of_member_code.code (λ κs a r e. contract.WriteListRowsOfMember a.0 r ∷ [])
   -- write_list::rows::of_method
-  pub write_list_rows_of_method : Tie write_list_rows_of_method_source.ended (λ M 𝓤. write_list_rows_of_method_source.clauses) write_list_rows_of_method_code.name write_list_rows_of_method_code.code (λ κs a r e. contract.WriteListRowsOfMethod a.0 r)
+  pub write_list_rows_of_method : Tie write_list_rows_of_method_source.ended (λ M 𝓤. write_list_rows_of_method_source.clauses) write_list_rows_of_method_code.name write_list_rows_of_method_code.code (λ κs a r e. contract.WriteListRowsOfMethod a.0 r ∷ [])
   -- write_pieces::capped_sum
-  pub write_pieces_capped_sum : Tie write_pieces_capped_sum_source.ended (λ M 𝓤. write_pieces_capped_sum_source.clauses) write_pieces_capped_sum_code.name write_pieces_capped_sum_code.code (λ κs a r e. contract.WritePiecesCappedSum a.0 a.1.0 r)
+  pub write_pieces_capped_sum : Tie write_pieces_capped_sum_source.ended (λ M 𝓤. write_pieces_capped_sum_source.clauses) write_pieces_capped_sum_code.name write_pieces_capped_sum_code.code (λ κs a r e. contract.WritePiecesCappedSum a.0 a.1.0 r ∷ [])
   -- write_pieces::measured
-  pub write_pieces_measured : Tie write_pieces_measured_source.ended (λ M 𝓤. write_pieces_measured_source.clauses) write_pieces_measured_code.name write_pieces_measured_code.code (λ κs a r e. contract.WritePiecesMeasured a.0.now a.1.0 r)
+  pub write_pieces_measured : Tie write_pieces_measured_source.ended (λ M 𝓤. write_pieces_measured_source.clauses) write_pieces_measured_code.name write_pieces_measured_code.code (λ κs a r e. contract.WritePiecesMeasured a.0.now a.1.0 r ∷ [])
   -- write_pieces::write_plain
-  pub write_pieces_write_plain : Tie write_pieces_write_plain_source.ended (λ M 𝓤. write_pieces_write_plain_source.clauses) write_pieces_write_plain_code.name write_pieces_write_plain_code.code (λ κs a r e. contract.WritePiecesWritePlain a.0.now a.1.0 a.1.1.0.now a.1.1.1.0 r e.1.1.0.now)
+  pub write_pieces_write_plain : Tie write_pieces_write_plain_source.ended (λ M 𝓤. write_pieces_write_plain_source.clauses) write_pieces_write_plain_code.name write_pieces_write_plain_code.code (λ κs a r e. contract.WritePiecesWritePlain a.0.now a.1.0 a.1.1.0.now a.1.1.1.0 r e.1.1.0.now ∷ [])
   -- write_pieces::write_filled
-  pub write_pieces_write_filled : Tie write_pieces_write_filled_source.ended (λ M 𝓤. write_pieces_write_filled_source.clauses) write_pieces_write_filled_code.name write_pieces_write_filled_code.code (λ κs a r e. contract.WritePiecesWriteFilled a.0.now a.1.0 a.1.1.0.now a.1.1.1.0 r e.1.1.0.now)
+  pub write_pieces_write_filled : Tie write_pieces_write_filled_source.ended (λ M 𝓤. write_pieces_write_filled_source.clauses) write_pieces_write_filled_code.name write_pieces_write_filled_code.code (λ κs a r e. contract.WritePiecesWriteFilled a.0.now a.1.0 a.1.1.0.now a.1.1.1.0 r e.1.1.0.now ∷ [])
   -- write_pieces::fields::two_bytes
-  pub write_pieces_fields_two_bytes : Tie write_pieces_fields_two_bytes_source.ended (λ M 𝓤. write_pieces_fields_two_bytes_source.clauses) write_pieces_fields_two_bytes_code.name write_pieces_fields_two_bytes_code.code (λ κs a r e. contract.WritePiecesFieldsTwoBytes a.0 r)
+  pub write_pieces_fields_two_bytes : Tie write_pieces_fields_two_bytes_source.ended (λ M 𝓤. write_pieces_fields_two_bytes_source.clauses) write_pieces_fields_two_bytes_code.name write_pieces_fields_two_bytes_code.code (λ κs a r e. contract.WritePiecesFieldsTwoBytes a.0 r ∷ [])
   -- write_pieces::fields::natural
-  pub write_pieces_fields_natural : Tie write_pieces_fields_natural_source.ended (λ M 𝓤. write_pieces_fields_natural_source.clauses) write_pieces_fields_natural_code.name write_pieces_fields_natural_code.code (λ κs a r e. contract.WritePiecesFieldsNatural a.0 r)
+  pub write_pieces_fields_natural : Tie write_pieces_fields_natural_source.ended (λ M 𝓤. write_pieces_fields_natural_source.clauses) write_pieces_fields_natural_code.name write_pieces_fields_natural_code.code (λ κs a r e. contract.WritePiecesFieldsNatural a.0 r ∷ [])
   -- write_pieces::fields::unnamed
-  pub write_pieces_fields_unnamed : Tie write_pieces_fields_unnamed_source.ended (λ M 𝓤. write_pieces_fields_unnamed_source.clauses) write_pieces_fields_unnamed_code.name write_pieces_fields_unnamed_code.code (λ κs a r e. contract.WritePiecesFieldsUnnamed r)
+  pub write_pieces_fields_unnamed : Tie write_pieces_fields_unnamed_source.ended (λ M 𝓤. write_pieces_fields_unnamed_source.clauses) write_pieces_fields_unnamed_code.name write_pieces_fields_unnamed_code.code (λ κs a r e. contract.WritePiecesFieldsUnnamed r ∷ [])

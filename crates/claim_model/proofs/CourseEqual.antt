@@ -1,9 +1,9 @@
 -- Any use of a stream is equal: each iterator that goes stands where it can, the same ones go in the crate and in the port, the finder's places
 -- stay few enough, and each action keeps all that. Assumes nothing.
+use Rattle.std.specs.Prelude.{Option, None, Some}
 use Prim.Native.Nat.{ℕ, zero, suc, ◌+◌, ◌-◌, ◌*◌, ◌≤◌, ◌<◌}
 use mathlib.Core.Path.{◌≡◌, refl, ap, subst}
 use mathlib.Core.List.{List, [], ◌∷◌, map}
-use mathlib.Core.Option.{Option, none, some}
 use native.Mathlib.Omega.{arith}
 use lib.ListN.{length, length-set, get_or, set, get_or-map}
 use Rattle.answer.specs.Answer.{Answer, answered, refused, then}
@@ -33,8 +33,8 @@ use Rattle.claim_model.specs.Course.{Action, begins, steps, updates, crate_behin
 
 -- ---- lists of iterators, none for one that has stopped
 abbrev shown_some : {A B : Type 0} → (A → B) → Option A → Option B
-shown_some f none = none
-shown_some f (some a) = some (f a)
+shown_some f None = None
+shown_some f (Some a) = Some (f a)
 
 set-map : {A B : Type 0} (f : A → B) (l : List A) (k : ℕ) (a : A) → set (map f l) k (f a) ≡ map f (set l k a)
 set-map f [] k a = refl
@@ -43,14 +43,14 @@ set-map f (x ∷ l) (suc k) a = ap (λ m. f x ∷ m) (set-map f l k a)
 
 -- P of one that goes
 abbrev If : {A : Type 0} → (A → Type 0) → Option A → Type 0
-If P none = Unit
-If P (some a) = P a
+If P None = Unit
+If P (Some a) = P a
 
 data All {A : Type 0} (P : A → Type 0) : List (Option A) → Type 0 where
   no_one : All P []
   also : {o : Option A} {l : List (Option A)} → If P o → All P l → All P (o ∷ l)
 
-all-get : {A : Type 0} {P : A → Type 0} {l : List (Option A)} → All P l → (k : ℕ) (a : A) → get_or l k none ≡ some a → P a
+all-get : {A : Type 0} {P : A → Type 0} {l : List (Option A)} → All P l → (k : ℕ) (a : A) → get_or l k None ≡ Some a → P a
 all-get no_one k a e = let z : ◌≡◌ {A = ℕ} 0 1 = cc in absurd (omega arith)
 all-get {P = P} (also p ps) zero a e = subst (λ o. If P o) e p
 all-get (also p ps) (suc k) a e = all-get ps k a e
@@ -129,22 +129,22 @@ module _ (tag : Stream) (s : List ℕ) (h : Header) (ok : Lent s) (e : header_of
       subst (λ (x : ℕ). Equal (finder_find (finder_shown s σ) x) (unlinked s (find_of s σ (index_in tag i)))) (number_in tag i)
       (find-equal s σ (record { short = ok.short; shift = omega (arith, k.shift); held = k.held }) (omega (arith, eightfold σ k.shift, k.few)) (index_in tag i))
   uses (begins ∷ acts) cs σ n k roomy =
-      let r = subst (λ (x : Answer ItemIter). Roomy (then x λ c. port_uses tag s i acts (some c ∷ cs) σ)) (iter-is tag s h e) roomy in
+      let r = subst (λ (x : Answer ItemIter). Roomy (then x λ c. port_uses tag s i acts (Some c ∷ cs) σ)) (iter-is tag s h e) roomy in
       rw (iter-is tag s h e)
-      (bind-equal (iter (information s h)) (answered (first tag h)) (iter_shown s) (λ it. crate_uses (information s h) i acts (some it ∷ map shown cs) (finder_shown s σ))
-      (λ c. port_uses tag s i acts (some c ∷ cs) σ) (unlinked s) (unlinked-numbered s) (iter-equal tag s h ok.short)
+      (bind-equal (iter (information s h)) (answered (first tag h)) (iter_shown s) (λ it. crate_uses (information s h) i acts (Some it ∷ map shown cs) (finder_shown s σ))
+      (λ c. port_uses tag s i acts (Some c ∷ cs) σ) (unlinked s) (unlinked-numbered s) (iter-equal tag s h ok.short)
       λ c q.
       let w : first tag h ≡ c = cc in
-      subst (λ (x : ItemIter). Uses acts (some x ∷ cs) σ) w (uses acts (some (first tag h) ∷ cs) σ (also sound-first n) k r))
-  uses (steps j ∷ acts) cs σ n k roomy = rw (get_or-map shown cs j none) (go (get_or cs j none) refl roomy (λ ds l r. uses acts ds σ l k r))
+      subst (λ (x : ItemIter). Uses acts (Some x ∷ cs) σ) w (uses acts (Some (first tag h) ∷ cs) σ (also sound-first n) k r))
+  uses (steps j ∷ acts) cs σ n k roomy = rw (get_or-map shown cs j None) (go (get_or cs j None) refl roomy (λ ds l r. uses acts ds σ l k r))
     where
-      go : (o : Option ItemIter) → get_or cs j none ≡ o
+      go : (o : Option ItemIter) → get_or cs j None ≡ o
           → Roomy (if_some o (λ c. port_uses tag s i acts (set cs j (port_behind c (next_of s c))) σ) (port_uses tag s i acts cs σ))
           → ((ds : List (Option ItemIter)) → All (Sound s h.minimum_index) ds → Roomy (port_uses tag s i acts ds σ) → Uses acts ds σ)
           → Equal (if_some (shown o) (λ it. ◌>>=◌ (crate_behind (next it)) λ b. crate_uses (information s h) i acts (set (map shown cs) j b) (finder_shown s σ)) (crate_uses (information s h) i acts (map shown cs) (finder_shown s σ)))
           (unlinked s (if_some o (λ c. port_uses tag s i acts (set cs j (port_behind c (next_of s c))) σ) (port_uses tag s i acts cs σ)))
-      go none q r ih = ih cs n r
-      go (some c) q r ih =
+      go None q r ih = ih cs n r
+      go (Some c) q r ih =
           let f : Sound s h.minimum_index c = all-get n j c q in
           bind-equal (crate_behind (next (iter_shown s c))) (answered (port_behind c (next_of s c))) shown (λ b. crate_uses (information s h) i acts (set (map shown cs) j b) (finder_shown s σ))
           (λ b. port_uses tag s i acts (set cs j b) σ) (unlinked s) (unlinked-numbered s) (step-equal c f.stands)
@@ -153,15 +153,15 @@ module _ (tag : Stream) (s : List ℕ) (h : Header) (ok : Lent s) (e : header_of
           rw (set-map shown cs j b)
           (ih (set cs j b) (all_set n j b (subst (λ (o : Option ItemIter). If (Sound s h.minimum_index) o) w (sound-next c f (next_of s c) refl)))
           (subst (λ (o : Option ItemIter). Roomy (port_uses tag s i acts (set cs j o) σ)) w r))
-  uses (updates j ∷ acts) cs σ n k roomy = rw (get_or-map shown cs j none) (go (get_or cs j none) refl roomy (λ τ l r. uses acts cs τ n l r))
+  uses (updates j ∷ acts) cs σ n k roomy = rw (get_or-map shown cs j None) (go (get_or cs j None) refl roomy (λ τ l r. uses acts cs τ n l r))
     where
-      go : (o : Option ItemIter) → get_or cs j none ≡ o
+      go : (o : Option ItemIter) → get_or cs j None ≡ o
           → Roomy (if_some o (λ c. then (update_of σ c) λ τ. port_uses tag s i acts cs τ) (port_uses tag s i acts cs σ))
           → ((τ : State) → Kept h.minimum_index τ → Roomy (port_uses tag s i acts cs τ) → Uses acts cs τ)
           → Equal (if_some (shown o) (λ it. ◌>>=◌ (update (finder_shown s σ) it) λ f. crate_uses (information s h) i acts (map shown cs) f) (crate_uses (information s h) i acts (map shown cs) (finder_shown s σ)))
           (unlinked s (if_some o (λ c. then (update_of σ c) λ τ. port_uses tag s i acts cs τ) (port_uses tag s i acts cs σ)))
-      go none q r ih = ih σ k r
-      go (some c) q r ih =
+      go None q r ih = ih σ k r
+      go (Some c) q r ih =
           let f : Sound s h.minimum_index c = all-get n j c q in
           bind-equal (update (finder_shown s σ) (iter_shown s c)) (update_of σ c) (finder_shown s) (λ f. crate_uses (information s h) i acts (map shown cs) f)
           (λ τ. port_uses tag s i acts cs τ) (unlinked s) (unlinked-numbered s)

@@ -1,8 +1,8 @@
 -- The model runs: stream E of 01 and the smallest inputs around it, in the crate's words and in the port's, each as one statement over its list.
+use Rattle.std.specs.Prelude.{None, Some}
 use Prim.Native.Nat.{ℕ}
 use mathlib.Core.Path.{◌≡◌, refl}
 use mathlib.Core.List.{List, [], ◌∷◌, ◌++◌, map}
-use mathlib.Core.Option.{none, some}
 use lib.ListN.{replicate}
 use Rattle.answer.specs.Answer.{answered, refused}
 use Rattle.field.specs.Fields.{little_at}
@@ -22,8 +22,7 @@ use Rattle.claim_model.specs.ParseBuffer.{at, len, is_empty, parse, peek, take, 
 use Rattle.claim_model.specs.TpiHeader.{fields, parse_header, parse_information}
 use Rattle.claim_model.specs.TpiItems.{Item, iter, new, resolve, max_index, update, skipped, hit, miss, finder_find, next, tour, raw_kind, primitive_type}
 use Rattle.claim_model.specs.TpiPrimitive.{indirection_arms, primitive_kind_arms, type_data_for_primitive}
-use Rattle.claim_model.specs.TpiWords.{pointer_kind, pointer_size}
-use Rattle.claim_model.specs.TpiWords.{pointer_kind_arms as pointer_arms}
+use Rattle.claim_model.specs.TpiWords.{pointer_kind, pointer_size, pointer_kind_arms as pointer_arms}
 use Rattle.claim_model.specs.TpiHelpers.{parse_optional_id_index, parse_string, pad_byte, padding_loop, parse_padding}
 use Rattle.claim_model.specs.TpiId.{function, member_function, build_info, string_list, string, user_defined_type_source, local, remote, function_id, member_function_id, pushed, build_info_id, string_list_id, string_id, source_line, id_by_leaf, try_from_ctx, parse_id}
 use Rattle.claim_model.specs.Turns.{crate_turns, turns, port_turns}
@@ -130,8 +129,8 @@ port-stops = refl
 
 -- "0x0674 is I32 by Near64; 0x0874 and 0x0004 give 8"; 0x1000 is outside the domain
 pub primitives : map type_data_for_primitive (0x0674 ∷ 0x0003 ∷ 0x0874 ∷ 0x0004 ∷ 0x1000 ∷ [])
-    ≡ gives (record { kind = kind.I32; indirection = some indirection.Near64 })
-    ∷ gives (record { kind = kind.Void; indirection = none })
+    ≡ gives (record { kind = kind.I32; indirection = Some indirection.Near64 })
+    ∷ gives (record { kind = kind.Void; indirection = None })
     ∷ errs (type_not_found 0x0874)
     ∷ errs (type_not_found 0x0004)
     ∷ panics
@@ -173,11 +172,11 @@ pub ids : map parse_id
     ∷ (0x08 ∷ 0x16 ∷ [])
     ∷ (0x01 ∷ [])
     ∷ [])
-    ≡ gives (function (record { scope = none; function_type = 4098; name = 0x66 ∷ [] }))
+    ≡ gives (function (record { scope = None; function_type = 4098; name = 0x66 ∷ [] }))
     ∷ gives (member_function (record { parent = 4097; function_type = 4098; name = 0x66 ∷ [] }))
     ∷ gives (build_info (1 ∷ 2 ∷ []))
     ∷ gives (string_list (3 ∷ []))
-    ∷ gives (string (record { substrings = some 0xffff; name = 0x66 ∷ [] }))
+    ∷ gives (string (record { substrings = Some 0xffff; name = 0x66 ∷ [] }))
     ∷ gives (user_defined_type_source (record { udt = 4097; source_file = local 4098; line = 9 }))
     ∷ gives (user_defined_type_source (record { udt = 4097; source_file = remote 4 5; line = 9 }))
     ∷ errs unexpected_eof

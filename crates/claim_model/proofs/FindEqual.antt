@@ -1,12 +1,12 @@
 -- A lookup, and the highest index, for any shift from 0 to 6 that both have. The places held fit a u32 when multiplied by the
 -- block, as they do in every finder that can be reached (TurnsEqual.antt). Assumes nothing.
+use Rattle.std.specs.Prelude.{None, Some, slice_get}
 use Prim.Native.Nat.{ℕ, zero, suc, ◌+◌, ◌-◌, ◌*◌, ◌/◌, ◌%◌, ◌≤◌, ◌<◌}
 use mathlib.Core.Path.{◌≡◌, refl, sym, ap, ◌∙◌, subst}
 use mathlib.Core.List.{List, [], ◌∷◌}
-use mathlib.Core.Option.{none, some}
 use native.Mathlib.Nat.{mul_comm, mul-le-mul, zero-add, mod-eq_of_lt}
 use native.Mathlib.Omega.{arith}
-use lib.ListN.{length, get_or, get_elem?, take as front}
+use lib.ListN.{length, get_or, take as front}
 use lib.Seq.{length-take-le, get_or-take}
 use lib.Pow.{pow_pos}
 use borrow.Author.Tests.{le-leb, le-ltb, lt-ltb, eq-eqb, ne_eqb}
@@ -31,12 +31,12 @@ use Rattle.claim_model.proofs.UpdateEqual.{resolve-in}
 use Rattle.claim_model.proofs.LinkEqual.{read_whole, read-broken, skipped-chain}
 
 -- ---- a place of the `Vec`
-get_in : (l : List ℕ) (i : ℕ) → i < length l → get_elem? l i ≡ some (get_or l i 0)
+get_in : (l : List ℕ) (i : ℕ) → i < length l → slice_get l i ≡ Some (get_or l i 0)
 get_in [] i h = absurd (omega arith)
 get_in (x ∷ l) zero h = refl
 get_in (x ∷ l) (suc i) h = get_in l i (omega arith)
 
-get-out : (l : List ℕ) (i : ℕ) → length l ≤ i → get_elem? l i ≡ none
+get-out : (l : List ℕ) (i : ℕ) → length l ≤ i → slice_get l i ≡ None
 get-out [] i h = refl
 get-out (x ∷ l) zero h = absurd (omega arith)
 get-out (x ∷ l) (suc i) h = get-out l i (omega arith)
@@ -123,7 +123,7 @@ module _ (s : List ℕ) (σ : State) (ok : Ready s σ) (few : σ.finder.held * b
       abbrev r : ℕ
       r = (n - σ.finder.minimum_index) % block_of σ.finder
 
-      to : finder_find f n ≡ if_some (get_elem? (front σ.finder.held σ.table) q) (hit f n r) (miss f n)
+      to : finder_find f n ≡ if_some (slice_get (front σ.finder.held σ.table) q) (hit f n r) (miss f n)
       unfolding finder_find
       to = simp (le-ltb _ _ a, le-ltb _ _ u, resolve-in f n a)
 
@@ -149,10 +149,10 @@ module _ (s : List ℕ) (σ : State) (ok : Ready s σ) (few : σ.finder.held * b
         abbrev p : ℕ
         p = get_or σ.table q 0
 
-        place : get_elem? (front σ.finder.held σ.table) q ≡ some p
+        place : slice_get (front σ.finder.held σ.table) q ≡ Some p
         place =
             get_in (front σ.finder.held σ.table) q (rw held-places h)
-            ∙ ap some (get_or-take σ.finder.held σ.table q 0 h)
+            ∙ ap Some (get_or-take σ.finder.held σ.table q 0 h)
 
         goes : finder_find f n ≡ hit f n r p
         goes = to ∙ ap (λ o. if_some o (hit f n r) (miss f n)) place

@@ -13,8 +13,7 @@ use mir.Val.{to_z}
 use borrow.Author.Tests.{le-leb, le-ltb, lt-ltb, leb-true, eq-eqb, ne_eqb}
 use Rattle.answer.specs.Answer.{pick}
 use Rattle.field.specs.Fields.{little_at, twos}
-use Rattle.stream_header.specs.Header.{longest, fields_of, header_of}
-use Rattle.stream_header.specs.Header.{zero_header as none}
+use Rattle.stream_header.specs.Header.{longest, fields_of, header_of, zero_header as none}
 use Rattle.claim_model.specs.Rust.{Rust, gives, errs, ◌>>=◌, if, unexpected_eof, invalid_type_information_header, impossibly_small, unreasonably_large, minimum_low, maximum_low}
 use Rattle.claim_model.specs.ParseBuffer.{ParseBuffer, at, parse, take}
 use Rattle.claim_model.specs.TpiHeader.{fields, parse_header, parse_information}

@@ -1,10 +1,10 @@
 -- The helpers at any place within the bytes: optional indices, strings by leaf, padding. And the cross-module test of an index.
 -- Assumes nothing.
+use Rattle.std.specs.Prelude.{Option, None, Some}
 use Prim.Native.Nat.{ℕ, zero, suc, ◌+◌, ◌-◌, ◌/◌, ◌%◌, ◌≤◌, ◌<◌}
 use mathlib.Core.Path.{◌≡◌, refl, sym, ap, ◌∙◌}
 use mathlib.Core.List.{List, [], ◌∷◌}
 use mathlib.Core.Bool.{Bool, true, false}
-use mathlib.Core.Option.{Option, none, some}
 use native.Mathlib.Omega.{arith}
 use lib.ListN.{length, get_or, take as front, drop, length-drop}
 use lib.Dec.{leb, eqb}
@@ -32,7 +32,7 @@ module _ (s : List ℕ) where
     unfolding parse_optional_type_index optional_of among
     type-in h = rw (parse-in s p 4 h) (go (little_at 4 s p) (eqb (little_at 4 s p) 0) (eqb (little_at 4 s p) 0xffff))
       where
-        go : (n : ℕ) (a b : Bool) → if {A = Rust (Option ℕ × ParseBuffer)} (either_true a b) (gives (none, at s (p + 4))) (gives (some n, at s (p + 4))) ≡ gives (pick (pick a true (pick b true false)) none (some n), at s (p + 4))
+        go : (n : ℕ) (a b : Bool) → if {A = Rust (Option ℕ × ParseBuffer)} (either_true a b) (gives (None, at s (p + 4))) (gives (Some n, at s (p + 4))) ≡ gives (pick (pick a true (pick b true false)) None (Some n), at s (p + 4))
         go n true b = refl
         go n false true = refl
         go n false false = refl
@@ -41,7 +41,7 @@ module _ (s : List ℕ) where
     unfolding parse_optional_id_index optional_of among
     id-in h = rw (parse-in s p 4 h) (go (little_at 4 s p) (eqb (little_at 4 s p) 0))
       where
-        go : (n : ℕ) (a : Bool) → if {A = Rust (Option ℕ × ParseBuffer)} a (gives (none, at s (p + 4))) (gives (some n, at s (p + 4))) ≡ gives (pick (pick a true false) none (some n), at s (p + 4))
+        go : (n : ℕ) (a : Bool) → if {A = Rust (Option ℕ × ParseBuffer)} a (gives (None, at s (p + 4))) (gives (Some n, at s (p + 4))) ≡ gives (pick (pick a true false) None (Some n), at s (p + 4))
         go n true = refl
         go n false = refl
 
@@ -73,34 +73,34 @@ module _ (s : List ℕ) where
 -- ---- strings
 -- the search for a zero byte, counting from n
 abbrev counted : ℕ → Option ℕ → Option ℕ
-counted n none = none
-counted n (some i) = some (n + i)
+counted n None = None
+counted n (Some i) = Some (n + i)
 
 to-zero : (bs : List ℕ) (n : ℕ) → to_zero bs n ≡ counted n (position bs)
 unfolding to_zero position
 to-zero [] n = refl
-to-zero (zero ∷ bs) n = ap some (omega arith)
+to-zero (zero ∷ bs) n = ap Some (omega arith)
 to-zero (suc b ∷ bs) n =
     let z : eqb (suc b) 0 ≡ false = ne_eqb (suc b) 0 (λ (e : suc b ≡ 0). omega arith) in
     rw z (to-zero bs (suc n) ∙ go (position bs))
   where
     go : (o : Option ℕ) → counted (suc n) o ≡ counted n (beyond o)
-    go none = refl
-    go (some i) = ap some (omega arith)
+    go None = refl
+    go (Some i) = ap Some (omega arith)
 
 -- the zero byte is among the bytes
-position-within : (bs : List ℕ) (i : ℕ) → position bs ≡ some i → i < length bs
+position-within : (bs : List ℕ) (i : ℕ) → position bs ≡ Some i → i < length bs
 unfolding position
 position-within [] i e = let z : ◌≡◌ {A = ℕ} 0 1 = cc in absurd (omega arith)
 position-within (b ∷ bs) i e = go (eqb b 0) (position bs) (position-within bs) e
   where
-    go : (t : Bool) (o : Option ℕ) → ((j : ℕ) → o ≡ some j → j < length bs) → if t (some 0) (beyond o) ≡ some i → i < length (b ∷ bs)
+    go : (t : Bool) (o : Option ℕ) → ((j : ℕ) → o ≡ Some j → j < length bs) → if t (Some 0) (beyond o) ≡ Some i → i < length (b ∷ bs)
     go true o f q = let z : 0 ≡ i = cc in omega arith
-    go false none f q = let z : ◌≡◌ {A = ℕ} 0 1 = cc in absurd (omega arith)
-    go false (some j) f q = let z : suc j ≡ i = cc in omega (arith, f j refl)
+    go false None f q = let z : ◌≡◌ {A = ℕ} 0 1 = cc in absurd (omega arith)
+    go false (Some j) f q = let z : suc j ≡ i = cc in omega (arith, f j refl)
 
 module _ (s : List ℕ) (l : length s < usize_top) (p : ℕ) (inside : p ≤ length s) where
-  there : (n : ℕ) → position (drop p s) ≡ some n → parse_cstring (at s p) ≡ gives (front n (drop p s), at s (p + n + 1))
+  there : (n : ℕ) → position (drop p s) ≡ Some n → parse_cstring (at s p) ≡ gives (front n (drop p s), at s (p + n + 1))
   unfolding parse_cstring
   there n e =
       let a : n < length (drop p s) = position-within (drop p s) n e in
@@ -109,17 +109,17 @@ module _ (s : List ℕ) (l : length s < usize_top) (p : ℕ) (inside : p ≤ len
       let f : p + (n + 1) ≡ p + n + 1 = omega arith in
       rw (le-leb _ _ inside, e, lt-ltb _ _ c, f)
 
-  shown : (n : ℕ) → position (drop p s) ≡ some n → string_at s p ≡ got (record { place = p; length = n }) (p + n + 1)
+  shown : (n : ℕ) → position (drop p s) ≡ Some n → string_at s p ≡ got (record { place = p; length = n }) (p + n + 1)
   unfolding string_at
   shown n e =
       let d : 0 + n ≡ n = omega arith in
       rw (to-zero (drop p s) 0, e, d)
 
-  lost : position (drop p s) ≡ none → parse_cstring (at s p) ≡ errs unexpected_eof
+  lost : position (drop p s) ≡ None → parse_cstring (at s p) ≡ errs unexpected_eof
   unfolding parse_cstring
   lost e = rw (le-leb _ _ inside, e)
 
-  unshown : position (drop p s) ≡ none → string_at s p ≡ ended
+  unshown : position (drop p s) ≡ None → string_at s p ≡ ended
   unfolding string_at
   unshown e = rw (to-zero (drop p s) 0, e)
 
@@ -131,8 +131,8 @@ module _ (s : List ℕ) (l : length s < usize_top) (p : ℕ) (inside : p ≤ len
   by-text {X = X} f g = go (position (drop p s)) refl
     where
       go : (o : Option ℕ) → position (drop p s) ≡ o → X
-      go none e = g (lost e) (unshown e)
-      go (some n) e = f n (there n e) (shown n e)
+      go None e = g (lost e) (unshown e)
+      go (Some n) e = f n (there n e) (shown n e)
 
   pub cstring : Same (parse_cstring (at s p)) (shown_by (text_shown s) (string_at s p))
   cstring = by-text (λ n e f. rw (e, f) (same _)) (λ e f. rw (e, f) same_end)
@@ -169,7 +169,7 @@ module _ (s : List ℕ) (ok : Bytes s) where
 
     pad-in : p + all ≤ length s → pad_byte (at s p) ≡ gives (at s (p + all))
     unfolding pad_byte
-    pad-in f = by_order (get_or s p 0) 0xf0 one some
+    pad-in f = by_order (get_or s p 0) 0xf0 one Some
       where
         read : parse 1 (at s p) ≡ gives (get_or s p 0, at s (p + 1))
         read = parse-in s p 1 (omega arith) ∙ ap (λ (n : ℕ). gives (n, at s (p + 1))) (byte p)
@@ -179,8 +179,8 @@ module _ (s : List ℕ) (ok : Bytes s) where
             let e : all ≡ 1 = omega arith in
             rw (read, le-ltb _ _ g, e)
 
-        some : 0xf0 < get_or s p 0 → pad_byte (at s p) ≡ gives (at s (p + all))
-        some g =
+        Some : 0xf0 < get_or s p 0 → pad_byte (at s p) ≡ gives (at s (p + all))
+        Some g =
             let w = ok.bytes p in
             let m : bit_and (get_or s p 0) 15 ≡ get_or s p 0 % 16 = and_mask (get_or s p 0) 4 in
             let o : 1 ≤ get_or s p 0 % 16 = omega arith in

@@ -1,5 +1,7 @@
 -- Ids: for all bytes of an id record the crate neither panics nor wraps, and its data is the port's, all seven leaves and every other.
 -- Each read of the crate stands beside the port's, and both are there or both are not. Assumes nothing.
+use Rattle.std.specs.Prelude.{Result, Ok, Err}
+use Rattle.answer.specs.declared.Refusal.{Refusal}
 use Prim.Native.Nat.{ℕ, zero, suc, ◌+◌, ◌*◌, ◌≤◌, ◌<◌}
 use mathlib.Core.Path.{◌≡◌, refl, sym, ap, ◌∙◌, subst}
 use mathlib.Core.List.{List, [], ◌∷◌, ◌++◌, append-nil, append_assoc}
@@ -16,13 +18,11 @@ use Rattle.field.specs.Runs.{bytes_after}
 use Rattle.record_layout.specs.Fields.{read_field_by, read_fields_by}
 use Rattle.record_layout.specs.Layouts.{id_leaves, read_leaf, leaf_of, record_of}
 use Rattle.record_layout.proofs.OneOutcome.{option_back}
-use Rattle.record_id.specs.Said.{source_values, id_values, said_id_data}
+use Rattle.record_id.specs.Said.{source_values, id_values}
 use Rattle.record_id.specs.declared.UserDefinedTypeSourceFileRef.{UserDefinedTypeSourceFileRef}
 use Rattle.record_id.specs.declared.UserDefinedTypeSourceFileRef.TheVariants as file
 use Rattle.record_id.specs.declared.IdData.{IdData}
 use Rattle.record_id.specs.declared.IdData.TheVariants as id
-use Rattle.record_id.specs.declared.IdAnswer.{IdAnswer}
-use Rattle.record_id.specs.declared.IdAnswer.TheVariants as answer
 use Rattle.claim_model.specs.Rust.{gives, errs, ◌>>=◌, match, unexpected_eof, usize_top}
 use Rattle.claim_model.specs.ParseBuffer.{at}
 use Rattle.claim_model.specs.TpiHelpers.{parse_string}
@@ -31,6 +31,7 @@ use Rattle.claim_model.specs.Equal.{Same, shown_by}
 use Rattle.claim_model.specs.Shown.{elements, id_shown, file_shown, id_data_shown, id_answer_shown}
 use Rattle.claim_model.proofs.BufferLaws.{parse-in, parse-out, fixed_in, fixed_out, same, same_end, by_order}
 use Rattle.claim_model.proofs.HelpersEqual.{id-in, id-out, optional-in, optional-out, by-text}
+use Rattle.answer.specs.Refusals.{said}
 
 -- ---- "A counted list is 1 unless four bytes per element are there": n reads of four bytes fail exactly where 4 n bytes are not left
 module _ (s : List ℕ) where
@@ -179,9 +180,9 @@ module _ (s : List ℕ) where
   data_is (id.String r) = rw (option_back (id_option r.substrings))
   data_is (id.UserDefinedTypeSource r) = source_is r.udt.0 r.source_file r.line
 
-  answer-is : (r : IdAnswer) → shown_by (id_shown s) (said_id_data r) ≡ id_answer_shown s r
-  answer-is (answer.Answered d) = ap answered (data_is d)
-  answer-is (answer.Refused e) = refl
+  answer-is : (r : Result IdData Refusal) → shown_by (id_shown s) (said id_values r) ≡ id_answer_shown s r
+  answer-is (Ok d) = ap answered (data_is d)
+  answer-is (Err e) = refl
 
-  pub id-answers : length s < usize_top → (r : IdAnswer) → said_id_data r ≡ record_of id_leaves s → Same (parse_id s) (id_answer_shown s r)
+  pub id-answers : length s < usize_top → (r : Result IdData Refusal) → said id_values r ≡ record_of id_leaves s → Same (parse_id s) (id_answer_shown s r)
   id-answers l r e = subst (λ a. Same (parse_id s) a) (ap (shown_by (id_shown s)) (sym e) ∙ answer-is r) (id_same s l)

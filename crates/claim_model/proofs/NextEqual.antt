@@ -1,8 +1,8 @@
 -- The iterator: where the crate gives an item, the end or an error, the port gives the same; where it wraps, the port gives 7. Assumes nothing.
+use Rattle.std.specs.Prelude.{None}
 use Prim.Native.Nat.{ℕ, ◌+◌, ◌≤◌, ◌<◌}
 use mathlib.Core.Path.{◌≡◌, refl}
 use mathlib.Core.List.{List}
-use mathlib.Core.Option.{none}
 use native.Mathlib.Omega.{arith}
 use lib.ListN.{length}
 use borrow.Author.Tests.{le-ltb, lt-ltb}
@@ -41,7 +41,7 @@ module _ (s : List ℕ) (c : ItemIter) (ok : CanStand s c) where
   over : c.at ≡ length s → Fine
   unfolding next
   over h =
-      same_gives (next (iter_shown s c)) (none, iter_shown s c) _
+      same_gives (next (iter_shown s c)) (None, iter_shown s c) _
       (simp (none_left s c.at h))
       (simp (next-done s c ok.short ok.inside (omega arith)))
 

@@ -1,8 +1,8 @@
 -- Primitives: for every index below 0x1000 the crate neither panics nor wraps, and its answer is the port's; from 0x1000 up the crate panics.
 -- That the two lists say the same of each byte is computed, once for all bytes. Assumes nothing.
+use Rattle.std.specs.Prelude.{Option, None, Some}
 use Prim.Native.Nat.{ℕ, ◌*◌, ◌/◌, ◌%◌, ◌<◌}
 use mathlib.Core.Path.{◌≡◌, refl}
-use mathlib.Core.Option.{Option, none, some}
 use native.Mathlib.Nat.{mod-lt}
 use native.Mathlib.Omega.{arith}
 use lib.Bits.{bit_and, and_mask, and_high}
@@ -22,8 +22,8 @@ use Rattle.claim_model.proofs.Agree.{agree}
 
 -- what the port's lists have, in the crate's words
 abbrev found : {A B : Type 0} → (A → B) → Rust B → Option A → Rust B
-found f other none = other
-found f other (some a) = gives (f a)
+found f other None = other
+found f other (Some a) = gives (f a)
 
 module _ (other : Rust PrimitiveKind) where
   kinds-agree : (b : ℕ) → b < 256 → match b primitive_kind_arms other ≡ found (λ k. k) other (find b kinds)
@@ -38,9 +38,9 @@ module _ (other : Rust (Option Indirection)) where
 joined : (i : ℕ) (d : Option Indirection) (k : Option PrimitiveKind)
     → Same (◌>>=◌ (found pointed (errs (type_not_found i)) d) λ p. ◌>>=◌ (found (λ x. x) (errs (type_not_found i)) k) λ q. gives (record { kind = q; indirection = p }))
     (shown_by primitive_shown (known i d λ d. known i k λ k. answered (record { kind = k; indirection = d })))
-joined i (some d) (some k) = record { stays = tt; equal = refl }
-joined i (some d) none = record { stays = tt; equal = refl }
-joined i none k = record { stays = tt; equal = refl }
+joined i (Some d) (Some k) = record { stays = tt; equal = refl }
+joined i (Some d) None = record { stays = tt; equal = refl }
+joined i None k = record { stays = tt; equal = refl }
 
 pub primitive-same : (i : ℕ) → i < 0x1000 → Same (type_data_for_primitive i) (shown_by primitive_shown (primitive_of i))
 unfolding type_data_for_primitive primitive_of

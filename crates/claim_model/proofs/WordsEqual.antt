@@ -1,10 +1,10 @@
 -- Attribute words: every method of the four words, for every word. `self.0 & mask != 0` is a bit and `(self.0 & mask) >> k` a field of bits, each
 -- law once over the mask. Where R-2 excepts an answer, the crate's bits are shown, and where they part from the port's. Assumes nothing.
+use Rattle.std.specs.Prelude.{Option, None, Some}
 use Prim.Native.Nat.{ℕ, zero, suc, ◌+◌, ◌-◌, ◌*◌, ◌/◌, ◌%◌, ◌^◌, ◌≤◌, ◌<◌}
 use mathlib.Core.Path.{◌≡◌, refl, sym, ap, ◌∙◌}
 use mathlib.Core.List.{[], ◌∷◌, map}
 use mathlib.Core.Bool.{Bool, true, false}
-use mathlib.Core.Option.{Option, none, some}
 use native.Mathlib.Nat.{zero-mul, mod-lt, mod-eq_of_lt, div-one}
 use native.Mathlib.Numerals.{one-add}
 use native.Mathlib.Omega.{arith}
@@ -146,12 +146,12 @@ is-mocom-is = excepted is_mocom (bit 18) (bit 19) 0x40000 (flag 18) below true-o
 
 -- what the port's lists have, in the crate's words
 abbrev found : {A : Type 0} → Option A → Rust A
-found none = panics
-found (some a) = gives a
+found None = panics
+found (Some a) = gives a
 
 good-is : {A : Type 0} (o : Option A) → Replaced (found o) (good_or_12 o)
-good-is none = refl
-good-is (some a) = refl
+good-is None = refl
+good-is (Some a) = refl
 
 kinds-agree : (b : ℕ) → b < 32 → match b pointer_kind_arms panics ≡ found (find b pointer_kinds)
 unfolding match find pointer_kind_arms pointer_kinds

@@ -1,8 +1,7 @@
 -- Any use of one stream, in the crate and in the port: a finder, and as many iterators as one likes, that step and update the finder in any
 -- order; then one lookup. A lookup changes nothing, so that every lookup in the middle of a use is the last one of a shorter use. An iterator
 -- stops at its first refusal, and it alone: the finder and the other iterators go on.
-use Rattle.std.specs.Prelude.{ℕ, List, [], ◌∷◌, get_or, set}
-use Rattle.std.proofs.Math.Option.{Option, none, some}
+use Rattle.std.specs.Prelude.{Option, None, Some, ℕ, List, [], ◌∷◌, get_or, set}
 use Rattle.answer.specs.Answer.{Answer, answered, refused, then}
 use Rattle.field.specs.Indices.{index_in}
 use Rattle.stream_item.specs.Iterator.{iter_of, Next, done, yielded, next_of}
@@ -26,8 +25,8 @@ pub data Action : Type 0 where
 
 -- the crate's iterator behind a step: none where it has stopped, since it is compared no further
 abbrev pub crate_behind : Rust (Option Item × CrateIter) → Rust (Option CrateIter)
-crate_behind (gives (_, it)) = gives (some it)
-crate_behind (errs e) = gives none
+crate_behind (gives (_, it)) = gives (Some it)
+crate_behind (errs e) = gives None
 crate_behind panics = panics
 crate_behind wraps = wraps
 
@@ -35,13 +34,13 @@ unfoldable pub crate_uses : ItemInformation → ℕ → List Action → List (Op
 crate_uses info i [] its f = finder_find f i
 crate_uses info i (begins ∷ acts) its f = do
   it ← iter info
-  crate_uses info i acts (some it ∷ its) f
+  crate_uses info i acts (Some it ∷ its) f
 crate_uses info i (steps k ∷ acts) its f =
-    if_some (get_or its k none) (λ it. do
+    if_some (get_or its k None) (λ it. do
       behind ← crate_behind (next it)
       crate_uses info i acts (set its k behind) f) (crate_uses info i acts its f)
 crate_uses info i (updates k ∷ acts) its f =
-    if_some (get_or its k none) (λ it. do
+    if_some (get_or its k None) (λ it. do
       f ← update f it
       crate_uses info i acts its f) (crate_uses info i acts its f)
 
@@ -53,17 +52,17 @@ crate_course s acts i = do
 
 -- the port's cursor behind a step from c, in the same way
 abbrev pub port_behind : ItemIter → Answer Next → Option ItemIter
-port_behind c (answered done) = some c
-port_behind c (answered (yielded i d)) = some d
-port_behind c (refused n d) = none
+port_behind c (answered done) = Some c
+port_behind c (answered (yielded i d)) = Some d
+port_behind c (refused n d) = None
 
 unfoldable pub port_uses : Stream → List ℕ → ℕ → List Action → List (Option ItemIter) → State → Answer Found
 port_uses tag s i [] cs σ = find_of s σ (index_in tag i)
-port_uses tag s i (begins ∷ acts) cs σ = then (iter_of tag s) λ c. port_uses tag s i acts (some c ∷ cs) σ
+port_uses tag s i (begins ∷ acts) cs σ = then (iter_of tag s) λ c. port_uses tag s i acts (Some c ∷ cs) σ
 port_uses tag s i (steps k ∷ acts) cs σ =
-    if_some (get_or cs k none) (λ c. port_uses tag s i acts (set cs k (port_behind c (next_of s c))) σ) (port_uses tag s i acts cs σ)
+    if_some (get_or cs k None) (λ c. port_uses tag s i acts (set cs k (port_behind c (next_of s c))) σ) (port_uses tag s i acts cs σ)
 port_uses tag s i (updates k ∷ acts) cs σ =
-    if_some (get_or cs k none) (λ c. then (update_of σ c) λ τ. port_uses tag s i acts cs τ) (port_uses tag s i acts cs σ)
+    if_some (get_or cs k None) (λ c. then (update_of σ c) λ τ. port_uses tag s i acts cs τ) (port_uses tag s i acts cs σ)
 
 unfoldable pub port_course : Stream → List ℕ → List ℕ → List Action → ℕ → Answer Found
 port_course tag s t acts i = then (create_of s t) λ σ. port_uses tag s i acts [] σ

@@ -3,8 +3,9 @@
 -- statement stands the crate's function (Tpi*.antt), on the right the definition that the port's contracts cite, its values shown as the
 -- crate's (Shown.antt, EntryShown.antt). `Same`: the crate neither panics nor wraps, and the answers are equal. `Equal`: they are equal wherever it
 -- does not.
-use Rattle.std.specs.Prelude.{ℕ, ◌*◌, ◌≤◌, ◌<◌, Bool, List, [], ◌∷◌, map, ◌≡◌, length, leb, eqb}
-use Rattle.std.proofs.Math.ListN.{get_elem?}
+use Rattle.std.specs.Prelude.{Result, ℕ, ◌*◌, ◌≤◌, ◌<◌, Bool, List, [], ◌∷◌, map, ◌≡◌, length, slice_get, leb, eqb}
+use Rattle.record_id.specs.declared.IdData.{IdData}
+use Rattle.answer.specs.declared.Refusal.{Refusal}
 use Rattle.answer.specs.Answer.{answered}
 use Rattle.field.specs.declared.index.TypeIndex.{TypeIndex}
 use Rattle.field.specs.declared.index.IdIndex.{IdIndex}
@@ -29,10 +30,8 @@ use Rattle.stream_item.specs.declared.iter.ItemIter.{ItemIter}
 use Rattle.stream_finder.specs.Finder.{State, block_of, create_of, update_of, max_index_of, find_of}
 use Rattle.stream_finder.specs.Places.{Ready}
 use Rattle.record_layout.specs.Layouts.{id_leaves, record_of}
-use Rattle.record_id.specs.Said.{said_id_data}
 use Rattle.record_parse.specs.Record.{parse_of}
 use Rattle.record_list.specs.Lists.{element_of}
-use Rattle.record_id.specs.declared.IdAnswer.{IdAnswer}
 use Rattle.claim_model.specs.Rust.{gives, ◌>>=◌, usize_top}
 use Rattle.claim_model.specs.ParseBuffer.{at, Bytes}
 use Rattle.claim_model.specs.TpiHeader.{parse_information}
@@ -46,6 +45,8 @@ use Rattle.claim_model.specs.Shown.{information, iter_shown, next_shown, finder_
 use Rattle.claim_model.specs.EntryShown.{vec_of, as_element, as_id, primitive_parsed}
 use Rattle.claim_model.specs.Turns.{Lent, TurnsEqual, TurnsSame}
 use Rattle.claim_model.specs.Course.{CoursesEqual}
+use Rattle.answer.specs.Refusals.{said}
+use Rattle.record_id.specs.Said.{id_values}
 
 -- these methods of a word give these bits of it, for every word
 abbrev Flags : List (ℕ → Bool) → List ℕ → Type 0
@@ -115,12 +116,12 @@ pub record Demand2 : Type 0 where
   pub paddings : (s : List ℕ) → Bytes s → (p : ℕ) → p ≤ length s → Same (parse_padding (at s p)) (shown_by (at s) (padding_after s p))
   -- "Ids": all bytes of an id record, all seven leaves, and 10 with the leaf for every other; and what the port's `id_data` answers by its contract
   pub ids : (s : List ℕ) → length s < usize_top → Same (parse_id s) (shown_by (id_shown s) (record_of id_leaves s))
-  pub id_data : (s : List ℕ) → length s < usize_top → (r : IdAnswer) → said_id_data r ≡ record_of id_leaves s → Same (parse_id s) (id_answer_shown s r)
+  pub id_data : (s : List ℕ) → length s < usize_top → (r : Result IdData Refusal) → said id_values r ≡ record_of id_leaves s → Same (parse_id s) (id_answer_shown s r)
   -- "A type item below 0x1000 is read as a primitive; .. every id item by its bytes, the marker's giving 10 with 0xffff"
   pub type_items : (t p : List ℕ) → Lent t → Lent p → (e : Entry) (j : TypeIndex) → index_of e ≡ index.Types j → j.0 < 0x1000
       → Same (type_data_for_primitive j.0) (primitive_parsed (parse_of t p e))
   pub id_items : (t p : List ℕ) → Lent t → Lent p → (e : Entry) (j : IdIndex) → index_of e ≡ index.Ids j → LiesIn p e
       → Same (parse_id (entry_shown p e).bytes) (as_id (entry_shown p e).bytes (parse_of t p e))
   -- "`Vec` lists become a place and a count, or the reader": element k of the two counted id lists is the crate's, 15 where its `Vec` has none
-  pub build_arguments : (s : List ℕ) → little_at 2 s 0 ≡ 0x1603 → (k : ℕ) → Same (◌>>=◌ (parse_id s) λ d. gives (get_elem? (vec_of d) k)) (as_element (element_of stream.Ids s k))
-  pub substrings : (s : List ℕ) → little_at 2 s 0 ≡ 0x1604 → (k : ℕ) → Same (◌>>=◌ (parse_id s) λ d. gives (get_elem? (vec_of d) k)) (as_element (element_of stream.Ids s k))
+  pub build_arguments : (s : List ℕ) → little_at 2 s 0 ≡ 0x1603 → (k : ℕ) → Same (◌>>=◌ (parse_id s) λ d. gives (slice_get (vec_of d) k)) (as_element (element_of stream.Ids s k))
+  pub substrings : (s : List ℕ) → little_at 2 s 0 ≡ 0x1604 → (k : ℕ) → Same (◌>>=◌ (parse_id s) λ d. gives (slice_get (vec_of d) k)) (as_element (element_of stream.Ids s k))

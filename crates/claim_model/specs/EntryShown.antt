@@ -1,6 +1,5 @@
 -- What the port's reader of entries says, and an element of its list reader, as the crate's data.
-use Rattle.std.specs.Prelude.{ℕ, List, [], eqb}
-use Rattle.std.proofs.Math.Option.{Option, none, some}
+use Rattle.std.specs.Prelude.{Option, None, Some, ℕ, List, [], eqb}
 use Rattle.answer.specs.Answer.{Answer, answered, refused, pick}
 use Rattle.record_layout.specs.Values.{nth, number_in}
 use Rattle.record_list.specs.Lists.{ElementValues, type_element, id_element, method_element, member_element}
@@ -39,5 +38,5 @@ element_number (method_element vs) = number_in (nth 0 vs)
 element_number (member_element vs) = number_in (nth 0 vs)
 
 abbrev pub as_element : Answer ElementValues → Answer (Option ℕ)
-as_element (answered x) = answered (some (element_number x))
-as_element (refused n d) = pick (eqb n 15) (answered none) (refused n d)
+as_element (answered x) = answered (Some (element_number x))
+as_element (refused n d) = pick (eqb n 15) (answered None) (refused n d)

@@ -1,6 +1,5 @@
 -- common.rs 685 to 822: `ParseBuffer`, bytes and a position. The number behind a line is the Rust's.
-use Rattle.std.specs.Prelude.{ℕ, suc, ◌+◌, ◌<◌, List, [], ◌∷◌, Bool, length, get_or, take as front, drop, leb, eqb}
-use Rattle.std.proofs.Math.Option.{Option, none, some}
+use Rattle.std.specs.Prelude.{Option, None, Some, ℕ, suc, ◌+◌, ◌<◌, List, [], ◌∷◌, Bool, length, get_or, take as front, drop, leb, eqb}
 use Rattle.field.specs.Fields.{little_at}
 use Rattle.claim_model.specs.Rust.{Rust, gives, errs, if, assert, fits_below, lessens, unexpected_eof, usize_top, ◌>>=◌, ◌>>◌}
 
@@ -53,18 +52,18 @@ take buf n = do
 
 -- one place further on
 abbrev pub beyond : Option ℕ → Option ℕ
-beyond none = none
-beyond (some n) = some (suc n)
+beyond None = None
+beyond (Some n) = Some (suc n)
 
 -- .iter().position(|ch| *ch == 0)
 unfoldable pub position : List ℕ → Option ℕ
-position [] = none
-position (b ∷ bs) = if (eqb b 0) (some 0) (beyond (position bs))
+position [] = None
+position (b ∷ bs) = if (eqb b 0) (Some 0) (beyond (position bs))
 
 -- `if let Some(..)`
 abbrev pub if_some : {A B : Type 0} → Option A → (A → B) → B → B
-if_some (some a) f b = f a
-if_some none f b = b
+if_some (Some a) f b = f a
+if_some None f b = b
 
 -- 792
 unfoldable pub parse_cstring : ParseBuffer → Rust (List ℕ × ParseBuffer)

@@ -1,6 +1,6 @@
 -- The port's values as the crate's: where the port gives a place and a length, the crate gives the bytes there.
-use Rattle.std.specs.Prelude.{ℕ, zero, suc, ◌+◌, ◌≤◌, List, [], ◌∷◌, ◌≡◌, length, take as front, drop, eqb}
-use Rattle.std.proofs.Math.Option.{Option, none, some}
+use Rattle.std.specs.Prelude.{Result, Ok, Err, Option, None, Some, ℕ, zero, suc, ◌+◌, ◌≤◌, List, [], ◌∷◌, ◌≡◌, length, take as front, drop, eqb}
+use Rattle.answer.specs.declared.Refusal.{Refusal}
 use Rattle.answer.specs.Answer.{Answer, answered, refused, Got, pick}
 use Rattle.field.specs.Fields.{little_at}
 use Rattle.field_text.specs.Texts.{Part}
@@ -22,8 +22,6 @@ use Rattle.record_id.specs.declared.UserDefinedTypeSourceFileRef.{UserDefinedTyp
 use Rattle.record_id.specs.declared.UserDefinedTypeSourceFileRef.TheVariants as file
 use Rattle.record_id.specs.declared.IdData.{IdData as PortId}
 use Rattle.record_id.specs.declared.IdData.TheVariants as id
-use Rattle.record_id.specs.declared.IdAnswer.{IdAnswer}
-use Rattle.record_id.specs.declared.IdAnswer.TheVariants as answer
 use Rattle.word_primitive.specs.declared.PrimitiveType.{PrimitiveType as PortPrimitive}
 use Rattle.word_primitive.specs.declared.Indirection.{Indirection}
 use Rattle.word_primitive.specs.declared.Indirection.TheVariants.{Direct, Near16, Far16, Huge16, Near32, Far32, Near64, Near128}
@@ -77,8 +75,8 @@ abbrev pub iter_shown : List ℕ → PortIter → ItemIter
 iter_shown s c = record { buf = at s c.at; index = c.index }
 
 abbrev pub next_shown : List ℕ → PortIter → Next → Option Item × ItemIter
-next_shown s c done = (none, iter_shown s c)
-next_shown s c (yielded i d) = (some (item_shown s i), iter_shown s d)
+next_shown s c done = (None, iter_shown s c)
+next_shown s c (yielded i d) = (Some (item_shown s i), iter_shown s d)
 
 -- where the port lends a table and says how many of its places are held, the crate has a `Vec` of them; both have a shift of their own
 abbrev pub finder_shown : List ℕ → State → ItemFinder
@@ -113,14 +111,14 @@ LiesIn s (Marker i) = Unit
 -- ---- primitives
 -- the port's Direct is the crate's None
 abbrev pub pointed : Indirection → Option Indirection
-pointed Direct = none
-pointed Near16 = some Near16
-pointed Far16 = some Far16
-pointed Huge16 = some Huge16
-pointed Near32 = some Near32
-pointed Far32 = some Far32
-pointed Near64 = some Near64
-pointed Near128 = some Near128
+pointed Direct = None
+pointed Near16 = Some Near16
+pointed Far16 = Some Far16
+pointed Huge16 = Some Huge16
+pointed Near32 = Some Near32
+pointed Far32 = Some Far32
+pointed Near64 = Some Near64
+pointed Near128 = Some Near128
 
 abbrev pub primitive_shown : PortPrimitive → PrimitiveType
 primitive_shown p = record { kind = p.kind; indirection = pointed p.indirection }
@@ -168,6 +166,6 @@ id_data_shown s (id.StringList r) = string_list (elements r.count s r.place)
 id_data_shown s (id.String r) = string (record { substrings = id_option r.substrings; name = name_shown s r.name })
 id_data_shown s (id.UserDefinedTypeSource r) = user_defined_type_source (record { udt = r.udt.0; source_file = file_shown r.source_file; line = r.line })
 
-abbrev pub id_answer_shown : List ℕ → IdAnswer → Answer IdData
-id_answer_shown s (answer.Answered d) = answered (id_data_shown s d)
-id_answer_shown s (answer.Refused e) = no e
+abbrev pub id_answer_shown : List ℕ → Result PortId Refusal → Answer IdData
+id_answer_shown s (Ok d) = answered (id_data_shown s d)
+id_answer_shown s (Err e) = no e

@@ -1,6 +1,5 @@
 -- Helpers of tpi/data.rs and tpi/id.rs: optional indices, strings by leaf, padding; and common.rs 590. The number behind a line is the Rust's.
-use Rattle.std.specs.Prelude.{ℕ, zero, suc, Bool, List, length, ltb, leb, eqb}
-use Rattle.std.proofs.Math.Option.{Option, none, some}
+use Rattle.std.specs.Prelude.{Option, None, Some, ℕ, zero, suc, Bool, List, length, ltb, leb, eqb}
 use Rattle.std.specs.Int.Bits.{bit_and}
 use Rattle.claim_model.specs.Rust.{Rust, gives, panics, if, not, either_true, lessens, ◌>>=◌}
 use Rattle.claim_model.specs.ParseBuffer.{ParseBuffer, is_empty, parse, peek, take, parse_cstring, parse_u8_pascal_string}
@@ -9,13 +8,13 @@ use Rattle.claim_model.specs.ParseBuffer.{ParseBuffer, is_empty, parse, peek, ta
 unfoldable pub parse_optional_type_index : ParseBuffer → Rust (Option ℕ × ParseBuffer)
 parse_optional_type_index buf = do
   (index, buf) ← parse 4 buf  -- 440
-  if (either_true (eqb index 0) (eqb index 0xffff)) (gives (none, buf)) (gives (some index, buf))  -- 441, 442, 444
+  if (either_true (eqb index 0) (eqb index 0xffff)) (gives (None, buf)) (gives (Some index, buf))  -- 441, 442, 444
 
 -- id.rs 7
 unfoldable pub parse_optional_id_index : ParseBuffer → Rust (Option ℕ × ParseBuffer)
 parse_optional_id_index buf = do
   (index, buf) ← parse 4 buf  -- 8
-  if (eqb index 0) (gives (none, buf)) (gives (some index, buf))  -- 9, 10
+  if (eqb index 0) (gives (None, buf)) (gives (Some index, buf))  -- 9, 10
 
 -- data.rs 449 and id.rs 15
 unfoldable pub parse_string : ℕ → ParseBuffer → Rust (List ℕ × ParseBuffer)

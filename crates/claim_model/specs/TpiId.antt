@@ -1,6 +1,5 @@
 -- tpi/id.rs: `IdData` and its reader, all seven leaves. An index is its number: which stream it counts in is a matter of types. The number behind a line is the Rust's; the leaves are those of tpi/constants.rs 165 to 174.
-use Rattle.std.specs.Prelude.{ℕ, zero, suc, List, [], ◌∷◌, ◌++◌, eqb}
-use Rattle.std.proofs.Math.Option.{Option}
+use Rattle.std.specs.Prelude.{Option, ℕ, zero, suc, List, [], ◌∷◌, ◌++◌, eqb}
 use Rattle.answer.specs.Tables.{◌is◌}
 use Rattle.claim_model.specs.Rust.{Rust, gives, errs, if, match, unimplemented_type_kind, ◌>>=◌}
 use Rattle.claim_model.specs.ParseBuffer.{ParseBuffer, from, parse}

@@ -1,8 +1,6 @@
 -- tpi/mod.rs: `ItemInformation`, `Item`, `ItemFinder` and `ItemIter`. The number behind a line is the Rust's. An index is its number: which stream
 -- it counts in is a matter of types.
-use Rattle.std.specs.Prelude.{ℕ, zero, suc, ◌+◌, ◌-◌, ◌*◌, ◌/◌, ◌%◌, ◌^◌, Bool, List, [], ◌∷◌, ◌++◌, length, get_or, leb, ltb, eqb}
-use Rattle.std.proofs.Math.Option.{Option, none, some}
-use Rattle.std.proofs.Math.ListN.{get_elem?}
+use Rattle.std.specs.Prelude.{Option, None, Some, ℕ, zero, suc, ◌+◌, ◌-◌, ◌*◌, ◌/◌, ◌%◌, ◌^◌, Bool, List, [], ◌∷◌, ◌++◌, length, get_or, slice_get, leb, ltb, eqb}
 use Rattle.std.specs.Int.Bits.{bit_and, bit_or}
 use Rattle.claim_model.specs.Rust.{Rust, gives, errs, if, and, assert, err_if, expect, fits_below, lessens, as_u32, u32_top, type_too_short, type_not_found, type_not_indexed, ◌>>=◌, ◌>>◌}
 use Rattle.claim_model.specs.ParseBuffer.{ParseBuffer, from, is_empty, parse, take, if_some}
@@ -140,19 +138,19 @@ finder_find self index =
     if (ltb index self.minimum_index) (gives (record { index = index; bytes = primitive_type })) (do  -- 398, 399
       err_if (ltb self.maximum_index index) (type_not_found index)  -- 403, 404
       (vec_index, iteration_count) ← resolve self index  -- 408
-      if_some (get_elem? self.positions vec_index) (hit self index iteration_count) (miss self index))  -- 410
+      if_some (slice_get self.positions vec_index) (hit self index iteration_count) (miss self index))  -- 410
 
 -- ---- 450: ItemIter
 -- 457
 unfoldable pub next : ItemIter → Rust (Option Item × ItemIter)
 next self = do
   over ← is_empty self.buf  -- 459
-  if over (gives (none, self)) (do  -- 460
+  if over (gives (None, self)) (do  -- 460
     (length, buf) ← parse 2 self.buf  -- 464
     err_if (ltb length 2) type_too_short  -- 467, 469
     (type_buf, buf) ← take buf length  -- 473
     index ← fits_below u32_top (self.index + 1)  -- 476
-    gives (some (record { index = self.index; bytes = type_buf }), record { buf = buf; index = index }))  -- 474, 479
+    gives (Some (record { index = self.index; bytes = type_buf }), record { buf = buf; index = index }))  -- 474, 479
 
 -- 73 to 76, the use that the page shows, for at most n records: while let Some(typ) = iter.next()? { type_finder.update(&iter); .. }
 unfoldable pub tour : ℕ → ItemIter → ItemFinder → Rust (ItemIter × ItemFinder)

@@ -1,7 +1,6 @@
 -- tpi/primitive.rs: `type_data_for_primitive`. The number behind a line is the Rust's. The kinds and the indirections go by the port's names, which
 -- are the crate's.
-use Rattle.std.specs.Prelude.{ℕ, List, [], ◌∷◌, ltb}
-use Rattle.std.proofs.Math.Option.{Option, none, some}
+use Rattle.std.specs.Prelude.{Option, None, Some, ℕ, List, [], ◌∷◌, ltb}
 use Rattle.std.specs.Int.Bits.{bit_and}
 use Rattle.answer.specs.Tables.{Line, ◌is◌}
 use Rattle.word_primitive.specs.declared.PrimitiveKind.{PrimitiveKind}
@@ -18,14 +17,14 @@ pub record PrimitiveType : Type 0 where
 -- 199 to 206
 unfoldable pub indirection_arms : List (Line (Rust (Option Indirection)))
 indirection_arms =
-    (0x000 is gives none)  -- 199
-    ∷ (0x100 is gives (some Near16))  -- 200
-    ∷ (0x200 is gives (some Far16))  -- 201
-    ∷ (0x300 is gives (some Huge16))  -- 202
-    ∷ (0x400 is gives (some Near32))  -- 203
-    ∷ (0x500 is gives (some Far32))  -- 204
-    ∷ (0x600 is gives (some Near64))  -- 205
-    ∷ (0x700 is gives (some Near128))  -- 206
+    (0x000 is gives None)  -- 199
+    ∷ (0x100 is gives (Some Near16))  -- 200
+    ∷ (0x200 is gives (Some Far16))  -- 201
+    ∷ (0x300 is gives (Some Huge16))  -- 202
+    ∷ (0x400 is gives (Some Near32))  -- 203
+    ∷ (0x500 is gives (Some Far32))  -- 204
+    ∷ (0x600 is gives (Some Near64))  -- 205
+    ∷ (0x700 is gives (Some Near128))  -- 206
     ∷ []
 
 -- 214 to 265

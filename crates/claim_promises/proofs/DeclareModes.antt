@@ -1,10 +1,10 @@
 -- A pointer that is declared has one of the five modes: its reader refuses another by 12. Assumes nothing.
+use Rattle.std.specs.Prelude.{Option, None, Some}
 use Prim.Native.Nat.{ℕ, ◌+◌, ◌≤◌, ◌<◌}
 use native.Mathlib.Omega.{arith}
 use mathlib.Core.Bool.{Bool, true, false, false≢true}
 use mathlib.Core.Path.{◌≡◌, refl, sym, ◌∙◌}
 use mathlib.Core.List.{List, [], ◌∷◌}
-use mathlib.Core.Option.{Option, none, some}
 use lib.ListN.{length, take, drop}
 use lib.Dec.{ltb, leb, eqb}
 use borrow.Author.Tests.{leb-true, leb-false, eqb-true, eqb-false}
@@ -41,8 +41,8 @@ LeafFirst leaf (answered vs) = leaf_in vs ≡ leaf
 LeafFirst leaf (refused n d) = Unit
 
 pub layout-first : (o : Option Layout) (leaf : ℕ) (b : List ℕ) (p : ℕ) → LeafFirst leaf (and_then (by_layout o leaf b p) (λ vs e. answered vs))
-layout-first none leaf b p = tt
-layout-first (some fs) leaf b p = go (read_fields fs 0 b p) where
+layout-first None leaf b p = tt
+layout-first (Some fs) leaf b p = go (read_fields fs 0 b p) where
   go : (r : Read (List Shown)) → LeafFirst leaf (and_then (and_then r (λ vs e. got (number leaf ∷ vs) e)) (λ vs e. answered vs))
   go (answered g) = refl
   go (refused n d) = tt
@@ -94,7 +94,7 @@ behind-it : (v : Shown) (r : Read (List Shown)) → WordFirst r
 behind-it v (answered g) h = λ e. h
 behind-it v (refused n d) h = tt
 
-pointer_ok : (b : List ℕ) (p : ℕ) → AnswerOk (and_then (by_layout (some (type_index ∷ pointer ∷ member_class ∷ [])) 0x1002 b p) (λ vs e. answered vs))
+pointer_ok : (b : List ℕ) (p : ℕ) → AnswerOk (and_then (by_layout (Some (type_index ∷ pointer ∷ member_class ∷ [])) 0x1002 b p) (λ vs e. answered vs))
 unfolding read_fields_by read_field_by
 pointer_ok b p = go (fixed_at 4 b p) (λ q. word_first b q) where
   go : (r : Read ℕ) → ((q : ℕ) → WordFirst (read_fields_by form_of (pointer ∷ member_class ∷ []) 0 b q))
@@ -108,7 +108,7 @@ other-ok : (leaf : ℕ) (a : Answer (List Shown)) → eqb leaf 0x1002 ≡ false 
 other-ok leaf (answered vs) e f = λ k. absurd (eqb-false leaf 0x1002 e (sym f ∙ k))
 other-ok leaf (refused n d) e f = tt
 
-table-has : find 0x1002 type_leaves ≡ some (type_index ∷ pointer ∷ member_class ∷ [])
+table-has : find 0x1002 type_leaves ≡ Some (type_index ∷ pointer ∷ member_class ∷ [])
 unfolding find type_leaves
 table-has = refl
 

@@ -1,9 +1,9 @@
 -- A declaration and its parts are never refused by 10: a leaf that is asked for is one that the reader takes. Assumes nothing.
+use Rattle.std.specs.Prelude.{Result, Ok, Err, Option, None, Some}
 use Prim.Native.Nat.{ℕ, ◌+◌, ◌*◌}
 use mathlib.Core.Bool.{Bool, true, false, false≢true}
 use mathlib.Core.Path.{◌≡◌, refl, ap, sym, subst, ◌∙◌}
 use mathlib.Core.List.{List, [], ◌∷◌, ◌++◌}
-use mathlib.Core.Option.{Option, none, some}
 use lib.ListN.{length, take, drop}
 use lib.Dec.{ltb, leb, eqb}
 use borrow.Author.Tests.{eqb-true}
@@ -26,15 +26,11 @@ use Rattle.declare_type.specs.Looked.{Seen, numbered, held, nothing, or_ended, d
 use Rattle.declare_type.specs.Nodes.{leaf_in, num, classes, name_in, node_in, node_by, node_of, list_in, list_by, list_of}
 use Rattle.declare_type.specs.declared.node.Node.{Node}
 use Rattle.declare_type.specs.declared.node.Node.TheVariants as node
-use Rattle.declare_type.specs.declared.node.Arguments.{Arguments}
-use Rattle.declare_type.specs.declared.node.Arguments.TheVariants as arguments
 use Rattle.declare_type.specs.Steps.{step_by, inward_step, around_first}
 use Rattle.declare_type.specs.declared.step.Around.{Around}
 use Rattle.declare_type.specs.declared.step.Step.{Step}
 use Rattle.declare_type.specs.declared.step.Step.TheVariants as step
 use Rattle.declare_type.specs.Walk.{Spelled, printed, stopped, walk, capped, declaration_of}
-use Rattle.declare_type.specs.declared.walk.Measured.{Measured}
-use Rattle.declare_type.specs.declared.walk.Measured.TheVariants as measured
 use Rattle.declare_type.specs.Declares.{text_in, declare_of}
 use Rattle.stream_header.specs.Header.{longest}
 use Rattle.claim_promises.specs.Given.{by}
@@ -58,14 +54,14 @@ not-leaf = record { other = refl }
 not_named : (n : ℕ) (d : List ℕ) → eqb n 10 ≡ false → Not10 (or_ended (in_table refusals n d))
 not_named n d h = go (in_table refusals n d) refl where
   go : (o : Option Refusal) → in_table refusals n d ≡ o → Not10 (or_ended o)
-  go none f = not-ended
-  go (some e) f = record { other = rw (named-right refusals all_right n d e f) h }
+  go None f = not-ended
+  go (Some e) f = record { other = rw (named-right refusals all_right n d e f) h }
 
 -- ---- the leaves that the reader takes
 
 abbrev there : {A : Type 0} → Option A → Bool
-there none = false
-there (some x) = true
+there None = false
+there (Some x) = true
 
 unfoldable takes : List ℕ → Bool
 takes [] = true
@@ -184,16 +180,16 @@ node-by-not s σ (held p n vs) h =
     (node-pick (among (leaf_in vs) classes) _ _ (name-not p n (nth 7 vs)) not-leaf)))))))
 node-by-not s σ (nothing e) h = h
 
-abbrev ListNot : Arguments → Type 0
-ListNot (arguments.At p n) = Unit
-ListNot (arguments.Refused e) = Not10 e
+abbrev ListNot : Result (ℕ × ℕ) Refusal → Type 0
+ListNot (Ok (p, n)) = Unit
+ListNot (Err e) = Not10 e
 
-list-pick : (b : Bool) (x y : Arguments) → ListNot x → ListNot y → ListNot (pick b x y)
+list-pick : (b : Bool) (x y : Result (ℕ × ℕ) Refusal) → ListNot x → ListNot y → ListNot (pick b x y)
 list-pick true x y p q = p
 list-pick false x y p q = q
 
 list-in-not : (p n k : ℕ) (v : Shown) → ListNot (list_in p n k v)
-list-in-not p n k (many x) = list-pick (leb (x.place + 4 * k) n) (arguments.At (p + x.place) k) (arguments.Refused refusal.Ended) tt not-ended
+list-in-not p n k (many x) = list-pick (leb (x.place + 4 * k) n) (Ok (p + x.place, k)) (Err refusal.Ended) tt not-ended
 list-in-not p n k (number j) = not-ended
 list-in-not p n k (numeral z f) = not-ended
 list-in-not p n k absent = not-ended
@@ -214,8 +210,8 @@ list-of-not s σ i = list-by-not (list_seen s σ i) (list-seen s σ i)
 node-not : (s : List ℕ) (σ : State) (i : ℕ) (e : Refusal) → node_of s σ i ≡ node.Refused e → Not10 e
 node-not s σ i e h = subst (λ (n : Node). NodeNot n) h (node-of-not s σ i)
 
-list-not : (s : List ℕ) (σ : State) (i : ℕ) (e : Refusal) → list_of s σ i ≡ arguments.Refused e → Not10 e
-list-not s σ i e h = subst (λ (l : Arguments). ListNot l) h (list-of-not s σ i)
+list-not : (s : List ℕ) (σ : State) (i : ℕ) (e : Refusal) → list_of s σ i ≡ Err e → Not10 e
+list-not s σ i e h = subst (λ (l : Result (ℕ × ℕ) Refusal). ListNot l) h (list-of-not s σ i)
 
 -- ---- steps and walks
 
@@ -273,7 +269,7 @@ walk-but-10 n h p = rw h at p
 pub node-says : (s : List ℕ) (σ : State) (i : ℕ) (e : Refusal) → node_of s σ i ≡ node.Refused e → among (number_of e) of_nodes ≡ true
 node-says s σ i e h = but-10 e (node-not s σ i e h) (node-within s σ i e h)
 
-pub list-says : (s : List ℕ) (σ : State) (i : ℕ) (e : Refusal) → list_of s σ i ≡ arguments.Refused e → among (number_of e) of_nodes ≡ true
+pub list-says : (s : List ℕ) (σ : State) (i : ℕ) (e : Refusal) → list_of s σ i ≡ Err e → among (number_of e) of_nodes ≡ true
 list-says s σ i e h = but-10 e (list-not s σ i e h) (list-within s σ i e h)
 
 pub step-says : (s : List ℕ) (σ : State) (i : ℕ) (a : Around) (e : Refusal) → inward_step s σ i a ≡ step.Refused e → among (number_of e) of_nodes ≡ true
@@ -294,24 +290,24 @@ walk_of-not s σ d i a = go (walk s σ d i a) refl where
   go (printed l r) h = tt
   go (stopped k e) h = walk-not s σ d i a k e h
 
-abbrev MeasuredNot : Measured → Type 0
-MeasuredNot (measured.Fits l r) = Unit
-MeasuredNot (measured.Refused e) = Not10 e
+abbrev MeasuredNot : Result (ℕ × ℕ) Refusal → Type 0
+MeasuredNot (Ok (l, r)) = Unit
+MeasuredNot (Err e) = Not10 e
 
-measured-pick : (b : Bool) (x y : Measured) → MeasuredNot x → MeasuredNot y → MeasuredNot (pick b x y)
+measured-pick : (b : Bool) (x y : Result (ℕ × ℕ) Refusal) → MeasuredNot x → MeasuredNot y → MeasuredNot (pick b x y)
 measured-pick true x y p q = p
 measured-pick false x y p q = q
 
 capped-not : (room : ℕ) (w : Spelled) → WalkNot w → MeasuredNot (capped room w)
 unfolding capped
 capped-not room (printed l r) g =
-    measured-pick (ltb room (length l + length r)) (measured.Refused refusal.NoRoom) (measured.Fits (length l) (length r)) (record { other = refl }) tt
-capped-not room (stopped k e) g = measured-pick (ltb room k) (measured.Refused refusal.NoRoom) (measured.Refused e) (record { other = refl }) g
+    measured-pick (ltb room (length l + length r)) (Err refusal.NoRoom) (Ok (length l, length r)) (record { other = refl }) tt
+capped-not room (stopped k e) g = measured-pick (ltb room k) (Err refusal.NoRoom) (Err e) (record { other = refl }) g
 
-pub capped-says : (room : ℕ) (s : List ℕ) (σ : State) (d i : ℕ) (a : Around) (e : Refusal) → capped room (walk s σ d i a) ≡ measured.Refused e
+pub capped-says : (room : ℕ) (s : List ℕ) (σ : State) (d i : ℕ) (a : Around) (e : Refusal) → capped room (walk s σ d i a) ≡ Err e
     → among (number_of e) (19 ∷ of_walks) ≡ true
 capped-says room s σ d i a e h =
-    let g : Not10 e = subst (λ (m : Measured). MeasuredNot m) h (capped-not room (walk s σ d i a) (walk_of-not s σ d i a)) in
+    let g : Not10 e = subst (λ (m : Result (ℕ × ℕ) Refusal). MeasuredNot m) h (capped-not room (walk s σ d i a) (walk_of-not s σ d i a)) in
     walk-but-10 (number_of e) g.other (capped-within room s σ d i a e h)
 
 text-not : (room : ℕ) (w : Spelled) → WalkNot w → by 10 (text_in room w) ≡ false

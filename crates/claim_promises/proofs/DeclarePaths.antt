@@ -1,4 +1,5 @@
 -- A walk is printed exactly if the type has a declaration, and stops exactly by what a visited type is refused by. Assumes nothing.
+use Rattle.std.specs.Prelude.{Result, Ok, Err}
 use Prim.Native.Nat.{ℕ, zero, suc, ◌+◌, ◌*◌, ◌<◌}
 use native.Mathlib.Omega.{arith}
 use mathlib.Core.Logic.{◌⊎◌, inl, inr}
@@ -10,8 +11,6 @@ use Rattle.stream_finder.specs.Finder.{State}
 use Rattle.declare_type.specs.Nodes.{node_of, list_of, index_at}
 use Rattle.declare_type.specs.declared.node.Node.{Node}
 use Rattle.declare_type.specs.declared.node.Node.TheVariants as node
-use Rattle.declare_type.specs.declared.node.Arguments.{Arguments}
-use Rattle.declare_type.specs.declared.node.Arguments.TheVariants as arguments
 use Rattle.declare_type.specs.Tokens.{text_of}
 use Rattle.declare_type.specs.declared.token.Token.TheVariants as token
 use Rattle.declare_type.specs.Steps.{step_by, inward_step, around_first}
@@ -219,12 +218,12 @@ module _ (s : List ℕ) (σ : State) where
   -- ---- and back
 
   module _ (d i : ℕ) (has : (j : ℕ) (b : Around) → IsPrinted (walk s σ d j b) → Prints s σ d j) where
-    lists-have : (j l : TypeIndex) (b : Around) (x : Arguments)
+    lists-have : (j l : TypeIndex) (b : Around) (x : Result (ℕ × ℕ) Refusal)
         → node_of s σ i ≡ node.Procedure j l → list_of s σ l.0 ≡ x → IsPrinted (over_arguments (λ k. walk s σ d k around_first) s x) → IsPrinted (walk s σ d j.0 b) → Prints s σ (suc d) i
     unfolding over_arguments
-    lists-have j l b (arguments.At p n) u v y z =
+    lists-have j l b (Ok (p, n)) u v y z =
         call (of_procedure u v) (λ o c. has (argument_at s p o) around_first (list-printed (λ k. walk s σ d k around_first) s p n y o c)) (has j.0 b z)
-    lists-have j l b (arguments.Refused e) u v y z = absurd y
+    lists-have j l b (Err e) u v y z = absurd y
 
     node-has : (n : Node) (a : Around) → node_of s σ i ≡ n → IsPrinted (stepped (λ j b. walk s σ d j b) s σ (step_by n a)) → Prints s σ (suc d) i
     unfolding stepped
@@ -265,16 +264,16 @@ module _ (s : List ℕ) (σ : State) where
       fault = m.fault;
     }
 
-    lists-meet : (j l : TypeIndex) (b : Around) (r : List ℕ) (x : Arguments)
+    lists-meet : (j l : TypeIndex) (b : Around) (r : List ℕ) (x : Result (ℕ × ℕ) Refusal)
         → node_of s σ i ≡ node.Procedure j l → list_of s σ l.0 ≡ x
         → StopsBy e (over_arguments (λ k. walk s σ d k around_first) s x) ⊎ (IsPrinted (over_arguments (λ k. walk s σ d k around_first) s x) × StopsBy e (onto [] r (walk s σ d j.0 b)))
         → Meets s σ (suc d) i e
     unfolding over_arguments
-    lists-meet j l b r (arguments.At p n) u v (inl y) = arguments-meet j.0 p n (of_procedure u v) (list-stopped (λ k. walk s σ d k around_first) s e p n y)
-    lists-meet j l b r (arguments.At p n) u v (inr y) =
+    lists-meet j l b r (Ok (p, n)) u v (inl y) = arguments-meet j.0 p n (of_procedure u v) (list-stopped (λ k. walk s σ d k around_first) s e p n y)
+    lists-meet j l b r (Ok (p, n)) u v (inr y) =
         return-meets j.0 p n (of_procedure u v) y.0 (meets j.0 b (onto-stopped e [] r (walk s σ d j.0 b) y.1))
-    lists-meet j l b r (arguments.Refused x) u v (inl y) = record { left = suc d; at = i; path = here; fault = its_lists u (v ∙ ap arguments.Refused y) }
-    lists-meet j l b r (arguments.Refused x) u v (inr y) = absurd y.0
+    lists-meet j l b r (Err x) u v (inl y) = record { left = suc d; at = i; path = here; fault = its_lists u (v ∙ ap Err y) }
+    lists-meet j l b r (Err x) u v (inr y) = absurd y.0
 
     node-meets : (n : Node) (a : Around) → node_of s σ i ≡ n → StopsBy e (stepped (λ j b. walk s σ d j b) s σ (step_by n a)) → Meets s σ (suc d) i e
     unfolding stepped

@@ -1,17 +1,17 @@
 -- The numbers that a declaration is refused by, and when 16, 19, 23 and 24 are given. Assumes nothing.
+use Rattle.std.specs.Prelude.{Result, Ok, Err, Option, None, Some}
 use Prim.Native.Nat.{ℕ, zero, suc, ◌+◌, ◌*◌, ◌≤◌, ◌<◌}
 use native.Mathlib.Omega.{arith}
 use mathlib.Core.Bool.{Bool, true, false, false≢true}
 use mathlib.Core.Logic.{◌⊎◌, inl, inr}
 use mathlib.Core.Path.{◌≡◌, refl, ap, sym, subst, ◌∙◌}
 use mathlib.Core.List.{List, [], ◌∷◌, ◌++◌}
-use mathlib.Core.Option.{Option, none, some}
 use lib.ListN.{length, take, drop}
 use lib.Dec.{ltb, leb, eqb}
 use borrow.Author.Tests.{lt-ltb, le-ltb, le-leb, ltb-true, ltb-false, leb-true, eqb-true}
 use Rattle.answer.specs.Answer.{Answer, answered, refused, Read, Got, got, pick, stop, both}
 use Rattle.answer.specs.Tables.{Line, ◌is◌, find, among}
-use Rattle.answer.specs.Refusals.{number_of, details_of, no, Named, plain, one, two, refusals, with_details, in_table, listed}
+use Rattle.answer.specs.Refusals.{number_of, details_of, no, Named, plain, one, two, refusals, with_details, in_table, listed, itself, said}
 use Rattle.answer.proofs.OneOutcome.{in-table}
 use Rattle.answer.specs.declared.Refusal.{Refusal}
 use Rattle.answer.specs.declared.Refusal.TheVariants as refusal
@@ -33,8 +33,6 @@ use Rattle.declare_type.specs.Inside.{ListInside}
 use Rattle.declare_type.proofs.NodeLaws.{list_inside}
 use Rattle.declare_type.specs.declared.node.Node.{Node}
 use Rattle.declare_type.specs.declared.node.Node.TheVariants as node
-use Rattle.declare_type.specs.declared.node.Arguments.{Arguments}
-use Rattle.declare_type.specs.declared.node.Arguments.TheVariants as arguments
 use Rattle.declare_type.specs.Tokens.{text_of}
 use Rattle.declare_type.specs.declared.token.Token.TheVariants as token
 use Rattle.declare_type.specs.Steps.{step_by, inward_step, around_first}
@@ -42,10 +40,7 @@ use Rattle.declare_type.specs.declared.step.Around.{Around}
 use Rattle.declare_type.specs.declared.step.Step.{Step}
 use Rattle.declare_type.specs.declared.step.Step.TheVariants as step
 use Rattle.declare_type.specs.Walk.{Spelled, printed, stopped, onto, fixed_then, rest_of, arguments_of, over_arguments as listed_arguments, stepped, walk, capped, declaration_of}
-use Rattle.declare_type.specs.declared.walk.Measured.{Measured}
-use Rattle.declare_type.specs.declared.walk.Measured.TheVariants as measured
-use Rattle.declare_type.specs.declared.DeclareAnswer.{DeclareAnswer}
-use Rattle.declare_type.specs.Declares.{text_in, declare_of, said_declare, text_length, text_buffer_after, Declares}
+use Rattle.declare_type.specs.Declares.{text_in, declare_of, text_length, text_buffer_after, Declares}
 use Rattle.claim_promises.specs.ByTable.{Links, fits, links_fit, By, refuses}
 use Rattle.claim_promises.specs.Given.{by, Given}
 use Rattle.claim_promises.specs.DeclareWhen.{fixed_by, unlimited, TypeVisits, Fault, too_deep, its_own, its_lists, Meets, StopsBy, TooDeep, EntryOther, FoundOther, OtherLeaf, NotPrinted, other_leaf, no_list, other_list, OtherMet, HasRoom, DeclareWhen, Declined, long, full, met}
@@ -65,13 +60,13 @@ abbrev AllRight : List (Line Named) → Type 0
 AllRight [] = Unit
 AllRight ((m is w) ∷ ls) = Right m w × AllRight ls
 
-same : (x e : Refusal) → some x ≡ some e → x ≡ e
+same : (x e : Refusal) → Some x ≡ Some e → x ≡ e
 same x e h = cc
 
-never : {A : Type 0} (e : Refusal) → none ≡ some e → A
+never : {A : Type 0} (e : Refusal) → None ≡ Some e → A
 never e h = absurd (let z : ◌≡◌ {A = ℕ} 0 1 = cc in omega arith)
 
-filled-right : (m : ℕ) (w : Named) (d : List ℕ) (e : Refusal) → Right m w → with_details w d ≡ some e → number_of e ≡ m
+filled-right : (m : ℕ) (w : Named) (d : List ℕ) (e : Refusal) → Right m w → with_details w d ≡ Some e → number_of e ≡ m
 filled-right m (plain x) [] e r h = rw (sym (same x e h)) r
 filled-right m (plain x) (a ∷ d) e r h = never e h
 filled-right m (one f) [] e r h = never e h
@@ -82,15 +77,15 @@ filled-right m (two f) (a ∷ []) e r h = never e h
 filled-right m (two f) (a ∷ b ∷ []) e r h = rw (sym (same (f a b) e h)) (r a b)
 filled-right m (two f) (a ∷ b ∷ c ∷ d) e r h = never e h
 
-pub named-right : (ls : List (Line Named)) → AllRight ls → (n : ℕ) (d : List ℕ) (e : Refusal) → in_table ls n d ≡ some e → number_of e ≡ n
+pub named-right : (ls : List (Line Named)) → AllRight ls → (n : ℕ) (d : List ℕ) (e : Refusal) → in_table ls n d ≡ Some e → number_of e ≡ n
 unfolding in_table
 named-right [] r n d e h = never e h
 named-right ((m is w) ∷ ls) r n d e h = go (eqb n m) refl (with_details w d) refl (λ k. named-right ls r.1 n d e k) where
-  go : (b : Bool) → eqb n m ≡ b → (o : Option Refusal) → with_details w d ≡ o → (in_table ls n d ≡ some e → number_of e ≡ n) → number_of e ≡ n
-  go true f (some x) g later =
-      let k : some x ≡ some e = rw (f, g) at h in
+  go : (b : Bool) → eqb n m ≡ b → (o : Option Refusal) → with_details w d ≡ o → (in_table ls n d ≡ Some e → number_of e ≡ n) → number_of e ≡ n
+  go true f (Some x) g later =
+      let k : Some x ≡ Some e = rw (f, g) at h in
       rw (sym (same x e k)) (filled-right m w d x r.0 g ∙ sym (eqb-true n m f))
-  go true f none g later = later (rw (f, g) at h)
+  go true f None g later = later (rw (f, g) at h)
   go false f o g later = later (rw f at h)
 
 pub all_right : AllRight refusals
@@ -116,8 +111,8 @@ low-named : (n : ℕ) (d : List ℕ) → listed n d ≡ true → among n of_look
 unfolding listed
 low-named n d l a = go (in_table refusals n d) refl where
   go : (o : Option Refusal) → in_table refusals n d ≡ o → Low (or_ended (in_table refusals n d))
-  go none f = absurd (false≢true (rw f at l))
-  go (some e) f = rw f (record { low = rw (named-right refusals all_right n d e f) a })
+  go None f = absurd (false≢true (rw f at l))
+  go (Some e) f = rw f (record { low = rw (named-right refusals all_right n d e f) a })
 
 low_by : (l : Links) (n : ℕ) (d : List ℕ) → fits l of_lookups n d ≡ true → Low (or_ended (in_table refusals n d))
 unfolding fits
@@ -280,16 +275,16 @@ node-right O s σ (held p n vs) h =
     (λ g. node-pick O (among (leaf_in vs) classes) _ _ (name-right O p n (nth 7 vs)) (λ k. absurd (no_other (leaf_in vs) h a b c d e f g k)))))))))
 node-right O s σ (nothing e) h = h
 
-abbrev ListRight : Type 0 → Arguments → Type 0
-ListRight O (arguments.At p n) = Unit
-ListRight O (arguments.Refused e) = Reason O e
+abbrev ListRight : Type 0 → Result (ℕ × ℕ) Refusal → Type 0
+ListRight O (Ok (p, n)) = Unit
+ListRight O (Err e) = Reason O e
 
-list-pick : (O : Type 0) (b : Bool) (x y : Arguments) → ListRight O x → (b ≡ false → ListRight O y) → ListRight O (pick b x y)
+list-pick : (O : Type 0) (b : Bool) (x y : Result (ℕ × ℕ) Refusal) → ListRight O x → (b ≡ false → ListRight O y) → ListRight O (pick b x y)
 list-pick O true x y p q = p
 list-pick O false x y p q = q refl
 
 list-in-right : (O : Type 0) (p n k : ℕ) (v : Shown) → ListRight O (list_in p n k v)
-list-in-right O p n k (many x) = list-pick O (leb (x.place + 4 * k) n) (arguments.At (p + x.place) k) (arguments.Refused refusal.Ended) tt (λ e. inl low-ended)
+list-in-right O p n k (many x) = list-pick O (leb (x.place + 4 * k) n) (Ok (p + x.place, k)) (Err refusal.Ended) tt (λ e. inl low-ended)
 list-in-right O p n k (number j) = inl low-ended
 list-in-right O p n k (numeral z f) = inl low-ended
 list-in-right O p n k absent = inl low-ended
@@ -340,7 +335,7 @@ list-there : (s : List ℕ) (σ : State) (i : ℕ) → ListInside s (list_of s �
 unfolding list_of
 list-there s σ i = list-kept s (list_seen s σ i) (kept-list s σ i)
 
-there-is : (s : List ℕ) (σ : State) (i p n : ℕ) → list_of s σ i ≡ arguments.At p n → p + 4 * n ≤ length s
+there-is : (s : List ℕ) (σ : State) (i p n : ℕ) → list_of s σ i ≡ Ok (p, n) → p + 4 * n ≤ length s
 there-is s σ i p n h = rw h at (list-there s σ i)
 
 list_right : (O : Type 0) (s : List ℕ) (v : Seen) → Kept s v → SeenRight O list_leaves v → ListRight O (list_by v)
@@ -380,11 +375,11 @@ rest-good f s p zero g = tt
 rest-good f s p (suc n) g =
     onto-good [] (text_of s token.Comma) (fixed_then (f (index_at s p).0) (rest_of f s (p + 4) n)) (joined-good (f (index_at s p).0) (rest_of f s (p + 4) n) (g _) (rest-good f s (p + 4) n g))
 
-arguments-good : (f : ℕ → Spelled) (s : List ℕ) (O : Type 0) (l : Arguments) → ListRight O l → ((j : ℕ) → GoodWalk (f j)) → GoodWalk (listed_arguments f s l)
+arguments-good : (f : ℕ → Spelled) (s : List ℕ) (O : Type 0) (l : Result (ℕ × ℕ) Refusal) → ListRight O l → ((j : ℕ) → GoodWalk (f j)) → GoodWalk (listed_arguments f s l)
 unfolding listed_arguments arguments_of
-arguments-good f s O (arguments.At p zero) h g = tt
-arguments-good f s O (arguments.At p (suc n)) h g = joined-good (f (index_at s p).0) (rest_of f s (p + 4) n) (g _) (rest-good f s (p + 4) n g)
-arguments-good f s O (arguments.Refused e) h g = reason-good O e h
+arguments-good f s O (Ok (p, zero)) h g = tt
+arguments-good f s O (Ok (p, suc n)) h g = joined-good (f (index_at s p).0) (rest_of f s (p + 4) n) (g _) (rest-good f s (p + 4) n g)
+arguments-good f s O (Err e) h g = reason-good O e h
 
 abbrev GoodStep : Step → Type 0
 GoodStep (step.Last p) = Unit
@@ -475,11 +470,11 @@ other-node : (s : List ℕ) (σ : State) (i : ℕ) → 0x1000 ≤ i → OtherLea
 unfolding node_of type_seen record_seen
 other-node s σ i h o = rw (le-ltb i 0x1000 h, found-other declared_leaves s (find_of s σ (index.Types (record { 0 = i }))) o)
 
-no-list-is : (s : List ℕ) (σ : State) (i : ℕ) → i < 0x1000 → list_of s σ i ≡ arguments.Refused refusal.LeafNotPrinted
+no-list-is : (s : List ℕ) (σ : State) (i : ℕ) → i < 0x1000 → list_of s σ i ≡ Err refusal.LeafNotPrinted
 unfolding list_of list_seen
 no-list-is s σ i h = rw (lt-ltb i 0x1000 h)
 
-other-list-is : (s : List ℕ) (σ : State) (i : ℕ) → 0x1000 ≤ i → OtherLeaf list_leaves s σ i → list_of s σ i ≡ arguments.Refused refusal.LeafNotPrinted
+other-list-is : (s : List ℕ) (σ : State) (i : ℕ) → 0x1000 ≤ i → OtherLeaf list_leaves s σ i → list_of s σ i ≡ Err refusal.LeafNotPrinted
 unfolding list_of list_seen record_seen
 other-list-is s σ i h o = rw (le-ltb i 0x1000 h, found-other list_leaves s (find_of s σ (index.Types (record { 0 = i }))) o)
 
@@ -622,7 +617,7 @@ buffer-of : (o : List ℕ) (a : Answer (List ℕ)) (n : ℕ) (d : List ℕ) → 
 buffer-of o (answered bs) n d e = let z : ◌≡◌ {A = ℕ} 0 1 = cc in absurd (omega arith)
 buffer-of o (refused m x) n d e = refl
 
-pub declares-nothing : (o : List ℕ) (a : Answer (List ℕ)) (r : DeclareAnswer) (o' : List ℕ) (n : ℕ) (d : List ℕ) → Declares a o r o' → said_declare r ≡ refused n d → o' ≡ o
+pub declares-nothing : (o : List ℕ) (a : Answer (List ℕ)) (r : Result ℕ Refusal) (o' : List ℕ) (n : ℕ) (d : List ℕ) → Declares a o r o' → said itself r ≡ refused n d → o' ≡ o
 declares-nothing o a r o' n d l e = l.buffer ∙ buffer-of o a n d (sym l.answer ∙ e)
 
 one_more : (n : ℕ) → among n of_walks ≡ true → among n (19 ∷ of_walks) ≡ true
@@ -678,7 +673,7 @@ reason-says O e (inr h) = rw h.0 refl
 pub node-says : (s : List ℕ) (σ : State) (i : ℕ) (e : Refusal) → node_of s σ i ≡ node.Refused e → among (number_of e) of_nodes ≡ true
 node-says s σ i e h = reason-says _ e (rw h at (node-is s σ i))
 
-pub list-says : (s : List ℕ) (σ : State) (i : ℕ) (e : Refusal) → list_of s σ i ≡ arguments.Refused e → among (number_of e) of_nodes ≡ true
+pub list-says : (s : List ℕ) (σ : State) (i : ℕ) (e : Refusal) → list_of s σ i ≡ Err e → among (number_of e) of_nodes ≡ true
 list-says s σ i e h = reason-says _ e (rw h at (list-is s σ i))
 
 abbrev StepRight : Type 0 → Step → Type 0
@@ -707,18 +702,18 @@ pub walk-says : (s : List ℕ) (σ : State) (d i : ℕ) (a : Around) (k : ℕ) (
 walk-says s σ d i a k e h = let g : Good e = subst (λ (w : Spelled). GoodWalk w) h (walk-good s σ d i a) in g.good
 
 -- in a room
-abbrev GoodMeasured : Measured → Type 0
-GoodMeasured (measured.Fits l r) = Unit
-GoodMeasured (measured.Refused e) = Said (number_of e) (details_of e)
+abbrev GoodMeasured : Result (ℕ × ℕ) Refusal → Type 0
+GoodMeasured (Ok (l, r)) = Unit
+GoodMeasured (Err e) = Said (number_of e) (details_of e)
 
-measured-pick : (b : Bool) (x y : Measured) → GoodMeasured x → GoodMeasured y → GoodMeasured (pick b x y)
+measured-pick : (b : Bool) (x y : Result (ℕ × ℕ) Refusal) → GoodMeasured x → GoodMeasured y → GoodMeasured (pick b x y)
 measured-pick true x y p q = p
 measured-pick false x y p q = q
 
 capped-good : (room : ℕ) (w : Spelled) → GoodWalk w → GoodMeasured (capped room w)
 unfolding capped
-capped-good room (printed l r) g = measured-pick (ltb room (length l + length r)) (measured.Refused refusal.NoRoom) (measured.Fits (length l) (length r)) said-19 tt
-capped-good room (stopped k e) g = measured-pick (ltb room k) (measured.Refused refusal.NoRoom) (measured.Refused e) said-19 (one_more (number_of e) g.good, in-table e)
+capped-good room (printed l r) g = measured-pick (ltb room (length l + length r)) (Err refusal.NoRoom) (Ok (length l, length r)) said-19 tt
+capped-good room (stopped k e) g = measured-pick (ltb room k) (Err refusal.NoRoom) (Err e) said-19 (one_more (number_of e) g.good, in-table e)
 
-pub capped-says : (room : ℕ) (s : List ℕ) (σ : State) (d i : ℕ) (a : Around) (e : Refusal) → capped room (walk s σ d i a) ≡ measured.Refused e → among (number_of e) (19 ∷ of_walks) ≡ true
-capped-says room s σ d i a e h = let g : Said (number_of e) (details_of e) = subst (λ (m : Measured). GoodMeasured m) h (capped-good room (walk s σ d i a) (walk-good s σ d i a)) in g.0
+pub capped-says : (room : ℕ) (s : List ℕ) (σ : State) (d i : ℕ) (a : Around) (e : Refusal) → capped room (walk s σ d i a) ≡ Err e → among (number_of e) (19 ∷ of_walks) ≡ true
+capped-says room s σ d i a e h = let g : Said (number_of e) (details_of e) = subst (λ (m : Result (ℕ × ℕ) Refusal). GoodMeasured m) h (capped-good room (walk s σ d i a) (walk-good s σ d i a)) in g.0

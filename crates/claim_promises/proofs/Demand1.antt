@@ -19,9 +19,9 @@ use Rattle.stream_drop.specs.Drop.{drop_of}
 use Rattle.claim_promises.proofs.DropRefuses.{drop-refuses, drops-no-bytes, drops-no-entry}
 use Rattle.claim_promises.proofs.DropLeaves.{drop-leaves}
 use Rattle.claim_promises.proofs.PlacesRefuse.{trailer-refuses, load-refuses, save-refuses}
-use Rattle.write_pieces.specs.Pieces.{said_write}
 use Rattle.claim_promises.proofs.WritersRefuse.{header-laid-refuses, record-laid-refuses, field-list-laid-refuses, method-list-laid-refuses, pieces-refuse, plain-laid-refuses, filled-laid-refuses, pieces-laid-refuses, writes_nothing}
 use Rattle.claim_promises.specs.Demand1.{Demand1}
+use Rattle.answer.specs.Refusals.{itself, said}
 
 pub demand1 : Demand1
 demand1 = record {
@@ -96,7 +96,7 @@ demand1 = record {
   wide_load_keeps = λ s f t. leaves-alone t (load_wide_of s f t);
   wide_save_keeps = λ s σ o. saves-nothing o (save_wide_of s σ (length o));
   add_keeps = λ ρ s t. reports-nothing t (add_of ρ s);
-  write_keeps = λ o w r. writes_nothing o w (said_write r);
+  write_keeps = λ o w r. writes_nothing o w (said itself r);
   declare_keeps = λ s σ i o. declares-nothing o (declare_of s σ i (length o));
   turn_keeps = λ s f t c. leads-nowhere t (turn_of s (state f t) c);
   index_all_keeps = λ shift tag s t e t' h. h.1;

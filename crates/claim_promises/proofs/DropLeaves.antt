@@ -1,4 +1,6 @@
 -- After 30 and 19 the table of `drop` holds old to new: its entries are those of R-13's sentences, which have one outcome for an input. Assumes nothing.
+use Rattle.std.specs.Prelude.{Result}
+use Rattle.answer.specs.declared.Refusal.{Refusal}
 use Prim.Native.Nat.{ℕ, suc, ◌≤◌, ◌<◌}
 use native.Mathlib.Omega.{arith}
 use mathlib.Core.Bool.{Bool, true, false, false≢true}
@@ -19,12 +21,12 @@ use Rattle.stream_item.specs.declared.iter.ItemIter.{ItemIter}
 use Rattle.stream_fit.specs.Fit.{Verdict, fit, unfit, judged, fit_of}
 use Rattle.stream_prune.specs.Links.{ComesPast}
 use Rattle.stream_prune.specs.Dropped.{IsIn}
-use Rattle.stream_drop.specs.Drop.{stays, numbers_only, written, drop_of, said_drop, Drops}
+use Rattle.stream_drop.specs.Drop.{stays, numbers_only, written, drop_of, Drops}
 use Rattle.stream_drop.specs.Sentences.{OldToNew, ReadsAsNone, FirstAbove, here, later, When}
-use Rattle.stream_drop.specs.declared.DropAnswer.{DropAnswer}
 use Rattle.stream_drop.proofs.SentenceLaws.{sentences}
 use Rattle.claim_promises.specs.Demand1.{HoldsOldToNew}
 use Rattle.claim_promises.proofs.DropRefuses.{drops-numbers}
+use Rattle.answer.specs.Refusals.{itself, said}
 
 -- ---- outcomes of different kinds differ
 
@@ -111,8 +113,8 @@ module _ (s roots : List ℕ) (places room n : ℕ) (entries : List ℕ) (o : dr
   holds : (h : Header) (c : ItemIter) (ps : List (List ℕ)) → Octets s → header_of s ≡ answered h → iter_of stream.Types s ≡ answered c → ComesPast s c ps → OldToNew roots h ps entries
   holds h c ps b e i w = old-to-new h c ps (sentences.when s roots h c ps b e i (is-fit h c e i) w)
 
-pub drop-leaves : (s roots t b : List ℕ) (r : DropAnswer) (t' b' : List ℕ) (n : ℕ) (d : List ℕ)
-    → Drops t b (drop_of s roots (length t) (length b)) r t' b' → said_drop r ≡ refused n d → among n (30 ∷ 19 ∷ []) ≡ true → HoldsOldToNew s roots t t'
+pub drop-leaves : (s roots t b : List ℕ) (r : Result ℕ Refusal) (t' b' : List ℕ) (n : ℕ) (d : List ℕ)
+    → Drops t b (drop_of s roots (length t) (length b)) r t' b' → said itself r ≡ refused n d → among n (30 ∷ 19 ∷ []) ≡ true → HoldsOldToNew s roots t t'
 drop-leaves s roots t b r t' b' n d l e k =
     let x = drops-numbers s roots t b r t' b' n d l e k in
     record { entries = x.entries; table = x.table; old_to_new = holds s roots (length t) (length b) x.number x.entries x.outcome }

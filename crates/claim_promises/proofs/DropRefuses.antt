@@ -1,16 +1,17 @@
 -- The numbers that `drop` is refused by; that it then leaves the buffer, and the table but after 30 and 19. Assumes nothing.
+use Rattle.std.specs.Prelude.{Result, Option, None, Some}
+use Rattle.answer.specs.declared.Refusal.{Refusal}
 use Prim.Native.Nat.{ℕ, suc}
 use mathlib.Core.Bool.{Bool, true, false, false≢true}
 use mathlib.Core.Path.{◌≡◌, refl, sym, subst, ◌∙◌}
 use mathlib.Core.List.{List, [], ◌∷◌}
-use mathlib.Core.Option.{Option, none, some}
 use lib.ListN.{length}
 use lib.Dec.{ltb, eqb}
 use borrow.Author.Tests.{eqb-true}
 use native.Mathlib.Omega.{arith}
 use Rattle.answer.specs.Answer.{Answer, refused, pick}
 use Rattle.answer.specs.Tables.{find, among}
-use Rattle.answer.specs.Refusals.{listed, in_table, refusals}
+use Rattle.answer.specs.Refusals.{listed, in_table, refusals, itself, said}
 use Rattle.field.specs.declared.index.Stream.TheVariants as stream
 use Rattle.field_put.specs.Bytes.{put}
 use Rattle.stream_header.specs.declared.Header.{Header}
@@ -18,8 +19,7 @@ use Rattle.stream_fit.specs.Fit.{Verdict, fit, unfit}
 use Rattle.stream_prune.specs.Links.{payloads_from}
 use Rattle.stream_prune.specs.Pruned.{numbers, new_stream}
 use Rattle.stream_prune.specs.Dropped.{marks_of}
-use Rattle.stream_drop.specs.Drop.{Outcome, stays, numbers_only, written, unless, first_above, unless_above, some_read_as_none, settled, dropped_of, unless_unfit, drop_of, answer_of, drop_table_after, drop_buffer_after, said_drop, Drops}
-use Rattle.stream_drop.specs.declared.DropAnswer.{DropAnswer}
+use Rattle.stream_drop.specs.Drop.{Outcome, stays, numbers_only, written, unless, first_above, unless_above, some_read_as_none, settled, dropped_of, unless_unfit, drop_of, answer_of, drop_table_after, drop_buffer_after, Drops}
 use Rattle.claim_promises.specs.ByTable.{Refuses, elsewhere, fits, gives, refuses}
 use Rattle.claim_promises.proofs.ByTable.{within, wider, both_first}
 use Rattle.claim_promises.proofs.StreamRefuses.{header-refuses, iter-refuses, fit-refuses}
@@ -51,8 +51,8 @@ settled-drop entries false new room = go (ltb room (length new))
 
 above-drop : (root : Option ℕ) (o : Outcome) → Drop o → Drop (unless_above root o)
 unfolding fits among listed find in_table refusals
-above-drop none o h = h
-above-drop (some x) o h = stayed refl
+above-drop None o h = h
+above-drop (Some x) o h = stayed refl
 
 full-drop : (full : Bool) (o : Outcome) → Drop o → Drop (pick full (stays 13 []) o)
 unfolding fits among listed find in_table refusals
@@ -97,7 +97,7 @@ drop-refuses s roots places room = go (every_drop s roots places room)
 
 -- ---- what is lent
 
-pub drops-no-bytes : (t b : List ℕ) (o : Outcome) (r : DropAnswer) (t' b' : List ℕ) (n : ℕ) (d : List ℕ) → Drops t b o r t' b' → said_drop r ≡ refused n d → b' ≡ b
+pub drops-no-bytes : (t b : List ℕ) (o : Outcome) (r : Result ℕ Refusal) (t' b' : List ℕ) (n : ℕ) (d : List ℕ) → Drops t b o r t' b' → said itself r ≡ refused n d → b' ≡ b
 drops-no-bytes t b o r t' b' n d l e = go o (sym l.says ∙ e) l.buffer
   where
     go : (o : Outcome) → answer_of o ≡ refused n d → b' ≡ drop_buffer_after b o → b' ≡ b
@@ -118,8 +118,8 @@ two-apart n d p q = go (eqb n 30) refl (eqb n 19) refl q
     go false e true f h = false≢true (subst (λ (i : ℕ). among i of_stays ≡ true) (eqb-true n 19 f) (both_first (among n of_stays) _ p))
     go false e false f h = false≢true h
 
-pub drops-no-entry : (s roots t b : List ℕ) (r : DropAnswer) (t' b' : List ℕ) (n : ℕ) (d : List ℕ)
-    → Drops t b (drop_of s roots (length t) (length b)) r t' b' → said_drop r ≡ refused n d → among n of_numbers ≡ false → t' ≡ t
+pub drops-no-entry : (s roots t b : List ℕ) (r : Result ℕ Refusal) (t' b' : List ℕ) (n : ℕ) (d : List ℕ)
+    → Drops t b (drop_of s roots (length t) (length b)) r t' b' → said itself r ≡ refused n d → among n of_numbers ≡ false → t' ≡ t
 unfolding fits
 drops-no-entry s roots t b r t' b' n d l e k = go (every_drop s roots (length t) (length b)) (sym l.says ∙ e) l.table
   where
@@ -135,8 +135,8 @@ pub record Numbered (o : Outcome) (t t' : List ℕ) : Type 0 where
   pub outcome : o ≡ numbers_only number entries
   pub table : t' ≡ put t 0 entries
 
-pub drops-numbers : (s roots t b : List ℕ) (r : DropAnswer) (t' b' : List ℕ) (n : ℕ) (d : List ℕ)
-    → Drops t b (drop_of s roots (length t) (length b)) r t' b' → said_drop r ≡ refused n d → among n of_numbers ≡ true → Numbered (drop_of s roots (length t) (length b)) t t'
+pub drops-numbers : (s roots t b : List ℕ) (r : Result ℕ Refusal) (t' b' : List ℕ) (n : ℕ) (d : List ℕ)
+    → Drops t b (drop_of s roots (length t) (length b)) r t' b' → said itself r ≡ refused n d → among n of_numbers ≡ true → Numbered (drop_of s roots (length t) (length b)) t t'
 drops-numbers s roots t b r t' b' n d l e k = go (drop_of s roots (length t) (length b)) refl (every_drop s roots (length t) (length b)) (sym l.says ∙ e) l.table
   where
     go : (o : Outcome) → drop_of s roots (length t) (length b) ≡ o → Drop o → answer_of o ≡ refused n d → t' ≡ drop_table_after t o → Numbered (drop_of s roots (length t) (length b)) t t'

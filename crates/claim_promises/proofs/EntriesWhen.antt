@@ -1,10 +1,10 @@
 -- A stream's entries are refused by each number exactly when document 01 says. Assumes nothing.
+use Rattle.std.specs.Prelude.{None}
 use Prim.Native.Nat.{ℕ, ◌+◌, ◌≤◌, ◌<◌}
 use mathlib.Core.Bool.{Bool, true, false}
 use mathlib.Core.Path.{◌≡◌, refl, sym, ap, ◌∙◌}
 use mathlib.Core.Logic.{◌⊎◌, inl, inr}
 use mathlib.Core.List.{List, [], ◌∷◌}
-use mathlib.Core.Option.{none}
 use native.Mathlib.Omega.{arith}
 use lib.ListN.{length}
 use lib.Dec.{eqb, ltb}
@@ -149,7 +149,7 @@ module _ (t p : List ℕ) where
   items-1 i = short-given t p _ refl (item-1 i.index i.place i.length (records.records-1 (leaves_for i.index) (payload t p i)))
 
   items-10 : (i : Item) → Given 10 (little_at 2 (payload t p i) 0 ∷ []) (parse_of t p (entry.Record i))
-      (Short t p × (Whole t p i × ((2 ≤ length (payload t p i)) × (find (little_at 2 (payload t p i) 0) (leaves_for i.index) ≡ none))))
+      (Short t p × (Whole t p i × ((2 ≤ length (payload t p i)) × (find (little_at 2 (payload t p i) 0) (leaves_for i.index) ≡ None))))
   unfolding parse_of among
   items-10 i = short-given t p _ refl (item-given i.index i.place i.length refl refl (reading.records-10 (leaves_for i.index) (payload t p i)))
 

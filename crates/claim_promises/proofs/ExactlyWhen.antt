@@ -1,9 +1,9 @@
 -- Each number of document 01's table is given exactly when the table says. Assumes nothing.
+use Rattle.std.specs.Prelude.{Some}
 use Prim.Native.Nat.{ℕ, ◌≤◌, ◌<◌}
 use mathlib.Core.Path.{◌≡◌, refl, sym, ap, ◌∙◌}
 use mathlib.Core.Logic.{◌⊎◌}
 use mathlib.Core.List.{List, [], ◌∷◌}
-use mathlib.Core.Option.{some}
 use lib.ListN.{length}
 use Rattle.answer.specs.Answer.{answered, refused, then, got}
 use Rattle.answer.specs.Tables.{find, among}
@@ -41,7 +41,7 @@ turns_next : (s : List ℕ) (σ : State) (c : ItemIter) (n : ℕ) (d : List ℕ)
 unfolding turn_of
 turns_next s σ c n d e = ap (λ x. then x (updating σ)) e
 
-records-fields : (table : Table) (s : List ℕ) (fs : Layout) → 2 ≤ length s → find (little_at 2 s 0) table ≡ some fs → refusal_of (record_of table s) ≡ refusal_of (read_fields fs 0 s 2)
+records-fields : (table : Table) (s : List ℕ) (fs : Layout) → 2 ≤ length s → find (little_at 2 s 0) table ≡ Some fs → refusal_of (record_of table s) ≡ refusal_of (read_fields fs 0 s 2)
 unfolding record_of leaf_of read_leaf
 records-fields table s fs a e = rw (sym (field-there 2 s 0 (little_at 2 s 0) a refl), e) (carried _ (then (read_fields fs 0 s 2) _) ∙ carried _ (read_fields fs 0 s 2))
 

@@ -1,10 +1,10 @@
 -- When a list's start, a step and an element are refused by which number. Assumes nothing.
+use Rattle.std.specs.Prelude.{None}
 use Prim.Native.Nat.{ℕ, zero, suc, ◌+◌, ◌*◌, ◌≤◌, ◌<◌}
 use mathlib.Core.Bool.{Bool, true, false}
 use mathlib.Core.Path.{◌≡◌, refl, sym, ap, ◌∙◌}
 use mathlib.Core.Logic.{◌⊎◌, inl, inr}
 use mathlib.Core.List.{List, [], ◌∷◌}
-use mathlib.Core.Option.{none}
 use native.Mathlib.Omega.{arith}
 use lib.ListN.{length}
 use lib.Dec.{eqb, leb}
@@ -188,7 +188,7 @@ module _ (s : List ℕ) (c : ListCursor) where
   }
     where
       P : ℕ → Type 0
-      P q = (q + 2 ≤ length s) × (find (little_at 2 s q) member_leaves ≡ none)
+      P q = (q + 2 ≤ length s) × (find (little_at 2 s q) member_leaves ≡ None)
 
       member : (q : ℕ) → Given 10 (little_at 2 s q ∷ []) (member_step s q) ((q < length s) × P q)
       member q = member-step s q refl (reading.members-10 member_leaves s q)

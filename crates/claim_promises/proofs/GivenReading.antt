@@ -1,10 +1,10 @@
 -- When fields, strings, padding, numbers, words, records and lists are refused by which number. Assumes nothing.
+use Rattle.std.specs.Prelude.{Option, None, Some}
 use Prim.Native.Nat.{ℕ, zero, suc, ◌+◌, ◌-◌, ◌*◌, ◌/◌, ◌%◌, ◌^◌, ◌≤◌, ◌<◌}
 use mathlib.Core.Bool.{Bool, true, false}
 use mathlib.Core.Path.{◌≡◌, refl, sym, ap, ◌∙◌}
 use mathlib.Core.Logic.{◌⊎◌, inl, inr}
 use mathlib.Core.List.{List, [], ◌∷◌}
-use mathlib.Core.Option.{Option, none, some}
 use native.Mathlib.Omega.{arith}
 use lib.ListN.{length, length-drop, get_or, drop}
 use lib.Seq.{get_or-drop}
@@ -67,22 +67,22 @@ runs n s p = record {
 
 -- ---- strings
 
-no_zero : (bs : List ℕ) (n : ℕ) → ((k : ℕ) → k < length bs → get_or bs k 0 ≡ 0 → ⊥) → to_zero bs n ≡ none
+no_zero : (bs : List ℕ) (n : ℕ) → ((k : ℕ) → k < length bs → get_or bs k 0 ≡ 0 → ⊥) → to_zero bs n ≡ None
 unfolding to_zero
 no_zero [] n h = refl
 no_zero (zero ∷ bs) n h = absurd (h 0 (omega arith) refl)
 no_zero (suc b ∷ bs) n h = no_zero bs (suc n) (λ k l. h (suc k) (omega arith))
 
-none-zero : (bs : List ℕ) (n : ℕ) → to_zero bs n ≡ none → (k : ℕ) → k < length bs → get_or bs k 0 ≡ 0 → ⊥
+none-zero : (bs : List ℕ) (n : ℕ) → to_zero bs n ≡ None → (k : ℕ) → k < length bs → get_or bs k 0 ≡ 0 → ⊥
 unfolding to_zero
 none-zero [] n e k l z = omega arith
 none-zero (zero ∷ bs) n e k l z = let w : ◌≡◌ {A = ℕ} 0 1 = cc in omega arith
 none-zero (suc b ∷ bs) n e zero l z = omega arith
 none-zero (suc b ∷ bs) n e (suc k) l z = none-zero bs (suc n) e k (omega arith) z
 
-part_none : (o : Option ℕ) (p : ℕ) → by 1 (part_or o p) ≡ true → o ≡ none
-part_none none p e = refl
-part_none (some n) p e = off e
+part_none : (o : Option ℕ) (p : ℕ) → by 1 (part_or o p) ≡ true → o ≡ None
+part_none None p e = refl
+part_none (Some n) p e = off e
 
 pub strings : (s : List ℕ) (p : ℕ) → Given 1 [] (string_at s p) (NoZero s p)
 unfolding string_at
@@ -161,13 +161,13 @@ paddings s p = record {
 
 -- ---- numbers
 
-wide-none : (o : Option Wide) (s : List ℕ) (p : ℕ) → by 11 (wide_at o s p) ≡ true → o ≡ none
+wide-none : (o : Option Wide) (s : List ℕ) (p : ℕ) → by 11 (wide_at o s p) ≡ true → o ≡ None
 unfolding unsigned_at among
-wide-none none s p e = refl
-wide-none (some (signed k)) s p e = denied 11 refl (signed-refuses k s p) e
-wide-none (some (unsigned k)) s p e = at-then 11 (fixed_at k s p) _ (λ x. denied 11 refl (fixed-refuses k s p) x) (λ _ _. off) e
+wide-none None s p e = refl
+wide-none (Some (signed k)) s p e = denied 11 refl (signed-refuses k s p) e
+wide-none (Some (unsigned k)) s p e = at-then 11 (fixed_at k s p) _ (λ x. denied 11 refl (fixed-refuses k s p) x) (λ _ _. off) e
 
-pub number-11 : (s : List ℕ) (p : ℕ) → Given 11 [] (numeric_at s p) ((p + 2 ≤ length s) × (0x8000 ≤ little_at 2 s p) × (find (little_at 2 s p) prefixes ≡ none))
+pub number-11 : (s : List ℕ) (p : ℕ) → Given 11 [] (numeric_at s p) ((p + 2 ≤ length s) × (0x8000 ≤ little_at 2 s p) × (find (little_at 2 s p) prefixes ≡ None))
 unfolding numeric_at among
 number-11 s p = record {
   when = λ (a, b, c). rw (sym (field-there 2 s p (little_at 2 s p) a refl), le-ltb _ _ b, c) refl;
@@ -192,7 +192,7 @@ below (pos n) q e = off e
 below (negsuc n) q e = tt
 
 -- what is said of a number's form refuses nothing
-pub numbers-11 : (s : List ℕ) (p : ℕ) → Given 11 [] (numeral_at s p) ((p + 2 ≤ length s) × (0x8000 ≤ little_at 2 s p) × (find (little_at 2 s p) prefixes ≡ none))
+pub numbers-11 : (s : List ℕ) (p : ℕ) → Given 11 [] (numeral_at s p) ((p + 2 ≤ length s) × (0x8000 ≤ little_at 2 s p) × (find (little_at 2 s p) prefixes ≡ None))
 unfolding numeral_by
 numbers-11 s p = given-then _ (number-11 s p) (λ v. refl)
 
@@ -220,22 +220,22 @@ module _ {A : Type 0} where
   under m ((k is a) ∷ ls) = both (ltb k m) (under m ls)
 
   abbrev is_there : Option A → Bool
-  is_there none = false
-  is_there (some a) = true
+  is_there None = false
+  is_there (Some a) = true
 
   -- every number below m is a key
   unfoldable covers : ℕ → List (Line A) → Bool
   covers zero ls = true
   covers (suc m) ls = both (is_there (find m ls)) (covers m ls)
 
-  above : (m : ℕ) (ls : List (Line A)) → under m ls ≡ true → (n : ℕ) → m ≤ n → find n ls ≡ none
+  above : (m : ℕ) (ls : List (Line A)) → under m ls ≡ true → (n : ℕ) → m ≤ n → find n ls ≡ None
   unfolding find under
   above m [] u n l = refl
   above m ((k is a) ∷ ls) u n l =
       let b = ltb-true k m (both_first (ltb k m) (under m ls) u) in
       simp (ne_eqb n k (λ e. omega arith), above m ls (both-second (ltb k m) (under m ls) u) n l)
 
-  reaches : (m : ℕ) (ls : List (Line A)) → covers m ls ≡ true → (n : ℕ) → find n ls ≡ none → m ≤ n
+  reaches : (m : ℕ) (ls : List (Line A)) → covers m ls ≡ true → (n : ℕ) → find n ls ≡ None → m ≤ n
   unfolding covers
   reaches zero ls c n e = omega arith
   reaches (suc m) ls c n e =
@@ -250,20 +250,20 @@ module _ {A : Type 0} where
 
 module _ (i : ℕ) where
   abbrev Unknown : Type 0
-  Unknown = (0x1000 ≤ i) ⊎ (8 ≤ i / 2 ^ 8 % 2 ^ 4) ⊎ (find (i % 2 ^ 8) kinds ≡ none)
+  Unknown = (0x1000 ≤ i) ⊎ (8 ≤ i / 2 ^ 8 % 2 ^ 4) ⊎ (find (i % 2 ^ 8) kinds ≡ None)
 
   -- the three tests of a primitive
   abbrev primitive_by : Bool → Option Indirection → Option PrimitiveKind → Answer PrimitiveType
   primitive_by b o q = pick b (unknown i) (known i o (λ d. known i q (λ k. answered (record { kind = k; indirection = d }))))
 
-  first-unknown : (b : Bool) (o : Option Indirection) (q : Option PrimitiveKind) → o ≡ none → primitive_by b o q ≡ refused 8 (i ∷ [])
+  first-unknown : (b : Bool) (o : Option Indirection) (q : Option PrimitiveKind) → o ≡ None → primitive_by b o q ≡ refused 8 (i ∷ [])
   first-unknown true o q e = refl
   first-unknown false o q e = rw e refl
 
-  second-unknown : (b : Bool) (o : Option Indirection) (q : Option PrimitiveKind) → q ≡ none → primitive_by b o q ≡ refused 8 (i ∷ [])
+  second-unknown : (b : Bool) (o : Option Indirection) (q : Option PrimitiveKind) → q ≡ None → primitive_by b o q ≡ refused 8 (i ∷ [])
   second-unknown true o q e = refl
-  second-unknown false none q e = refl
-  second-unknown false (some d) q e = rw e refl
+  second-unknown false None q e = refl
+  second-unknown false (Some d) q e = rw e refl
 
   primitive-unknown : Unknown → primitive_of i ≡ refused 8 (i ∷ [])
   unfolding primitive_of under indirections
@@ -275,9 +275,9 @@ module _ (i : ℕ) where
       → by 8 (primitive_by b o q) ≡ true → Unknown
   unfolding covers find indirections
   unknown-primitive true o q x y z e = inl (leb-true _ _ x)
-  unknown-primitive false none q x y z e = inr (inl (reaches 8 indirections refl (i / 2 ^ 8 % 2 ^ 4) y))
-  unknown-primitive false (some d) none x y z e = inr (inr z)
-  unknown-primitive false (some d) (some k) x y z e = off e
+  unknown-primitive false None q x y z e = inr (inl (reaches 8 indirections refl (i / 2 ^ 8 % 2 ^ 4) y))
+  unknown-primitive false (Some d) None x y z e = inr (inr z)
+  unknown-primitive false (Some d) (Some k) x y z e = off e
 
   pub primitives-8 : Given 8 (i ∷ []) (primitive_of i) Unknown
   unfolding primitive_of
@@ -288,9 +288,9 @@ module _ (i : ℕ) where
 
 -- ---- pointer words
 
-good-12 : {A : Type 0} (o : Option A) → by 12 (good_or_12 o) ≡ true → o ≡ none
-good-12 none e = refl
-good-12 (some a) e = off e
+good-12 : {A : Type 0} (o : Option A) → by 12 (good_or_12 o) ≡ true → o ≡ None
+good-12 None e = refl
+good-12 (Some a) e = off e
 
 pub kinds-12 : (w : ℕ) → Given 12 [] (kind_of w) (13 ≤ bits 0 4 w)
 unfolding kind_of under covers find pointer_kinds
@@ -360,11 +360,11 @@ no-15 : {P : Type 0} (fs : List Field) (w : ℕ) (s : List ℕ) (p : ℕ) → by
 unfolding among
 no-15 fs w s p = denied 15 refl (fields-refuse (1 ∷ 11 ∷ 12 ∷ []) fs w s p (takes_all fs))
 
-leaf-none : (o : Option Layout) (leaf : ℕ) (s : List ℕ) (p : ℕ) → by 10 (by_layout o leaf s p) ≡ true → o ≡ none
-leaf-none none leaf s p e = refl
-leaf-none (some fs) leaf s p e = at-then 10 (read_fields fs 0 s p) _ (no-10 fs 0 s p) (λ _ _. off) e
+leaf-none : (o : Option Layout) (leaf : ℕ) (s : List ℕ) (p : ℕ) → by 10 (by_layout o leaf s p) ≡ true → o ≡ None
+leaf-none None leaf s p e = refl
+leaf-none (Some fs) leaf s p e = at-then 10 (read_fields fs 0 s p) _ (no-10 fs 0 s p) (λ _ _. off) e
 
-pub members-10 : (table : Table) (s : List ℕ) (p : ℕ) → Given 10 (little_at 2 s p ∷ []) (read_record table s p) ((p + 2 ≤ length s) × (find (little_at 2 s p) table ≡ none))
+pub members-10 : (table : Table) (s : List ℕ) (p : ℕ) → Given 10 (little_at 2 s p ∷ []) (read_record table s p) ((p + 2 ≤ length s) × (find (little_at 2 s p) table ≡ None))
 unfolding read_record read_leaf among
 members-10 table s p = record {
   when = λ (a, b). rw (sym (field-there 2 s p (little_at 2 s p) a refl), b) refl;
@@ -373,7 +373,7 @@ members-10 table s p = record {
       (v.room, ap (λ n. find n table) (sym v.value) ∙ leaf-none (find g.value table) g.value s g.next x));
 }
 
-pub records-10 : (table : Table) (s : List ℕ) → Given 10 (little_at 2 s 0 ∷ []) (record_of table s) ((2 ≤ length s) × (find (little_at 2 s 0) table ≡ none))
+pub records-10 : (table : Table) (s : List ℕ) → Given 10 (little_at 2 s 0 ∷ []) (record_of table s) ((2 ≤ length s) × (find (little_at 2 s 0) table ≡ None))
 unfolding record_of leaf_of read_leaf among
 records-10 table s = record {
   when = λ (a, b). rw (sym (field-there 2 s 0 (little_at 2 s 0) a refl), b) refl;
@@ -398,9 +398,9 @@ word-bad w = go (find (bits 0 4 w) pointer_kinds) (find (bits 5 7 w) pointer_mod
   where
     go : (k : Option PointerKind) (m : Option PointerMode) → find (bits 0 4 w) pointer_kinds ≡ k → find (bits 5 7 w) pointer_modes ≡ m
         → both (is_answered (good_or_12 k)) (is_answered (good_or_12 m)) ≡ false → (13 ≤ bits 0 4 w) ⊎ (5 ≤ bits 5 7 w)
-    go none m x y e = inl (reaches 13 pointer_kinds refl (bits 0 4 w) x)
-    go (some k) none x y e = inr (reaches 5 pointer_modes refl (bits 5 7 w) y)
-    go (some k) (some m) x y e = off (sym e)
+    go None m x y e = inl (reaches 13 pointer_kinds refl (bits 0 4 w) x)
+    go (Some k) None x y e = inr (reaches 5 pointer_modes refl (bits 5 7 w) y)
+    go (Some k) (Some m) x y e = off (sym e)
 
 abbrev pointer_layout : Layout
 pointer_layout = type_index ∷ pointer ∷ member_class ∷ []
@@ -436,7 +436,7 @@ module _ (s : List ℕ) where
   unfolding record_of leaf_of read_leaf type_leaves find
   leaf-12 leaf true a x =
       let two = field-there 2 s 0 (little_at 2 s 0) (leb-true _ _ a) refl in
-      at-then 12 (by_layout (some pointer_layout) 0x1002 s 2) _ (at-then 12 (read_fields pointer_layout 0 s 2) _ (type-12 (leb 6 (length s)) refl) (λ _ _. off)) (λ _ _. off)
+      at-then 12 (by_layout (Some pointer_layout) 0x1002 s 2) _ (at-then 12 (read_fields pointer_layout 0 s 2) _ (type-12 (leb 6 (length s)) refl) (λ _ _. off)) (λ _ _. off)
       (rw (sym two, leaf) at x)
   leaf-12 leaf false a x = off (rw ((fields 2 s 0).when (leb-false _ _ a)) at x)
 

@@ -1,10 +1,10 @@
 -- When numbers, fields, layouts and records are refused by which number. Assumes nothing.
+use Rattle.std.specs.Prelude.{Option, None, Some}
 use Prim.Native.Nat.{ℕ, ◌+◌, ◌≤◌, ◌<◌}
 use mathlib.Core.Bool.{Bool, true, false}
 use mathlib.Core.Path.{◌≡◌, refl, sym, ap, ◌∙◌}
 use mathlib.Core.Logic.{◌⊎◌, inl, inr}
 use mathlib.Core.List.{List, [], ◌∷◌}
-use mathlib.Core.Option.{Option, none, some}
 use native.Mathlib.Omega.{arith}
 use lib.ListN.{length}
 use lib.Dec.{eqb, ltb, leb}
@@ -50,9 +50,9 @@ plain-number n l =
 
 wide-1 : (o : Option Wide) (s : List ℕ) (p : ℕ) → p ≤ length s → Given 1 [] (wide_at o s p) (length s < p + wide_bytes o)
 unfolding unsigned_at
-wide-1 none s p h = record { when = λ l. absurd (omega arith); only = off }
-wide-1 (some (signed k)) s p h = reading.signed-fields k s p
-wide-1 (some (unsigned k)) s p h = given-then _ (reading.fields k s p) (λ v. refl)
+wide-1 None s p h = record { when = λ l. absurd (omega arith); only = off }
+wide-1 (Some (signed k)) s p h = reading.signed-fields k s p
+wide-1 (Some (unsigned k)) s p h = given-then _ (reading.fields k s p) (λ v. refl)
 
 number-ends : (s : List ℕ) (p : ℕ) → CutNumber s p → numeric_at s p ≡ refused 1 []
 unfolding numeric_at
@@ -235,8 +235,8 @@ module _ (n : ℕ) (P : Field → ℕ → List ℕ → ℕ → Type 0) (each : (
       at v.room (find (little_at 2 s p) table) refl (rw (v.value, v.next) at x)))
     where
       at : p + 2 ≤ length s → (o : Option Layout) → find (little_at 2 s p) table ≡ o → by n (by_layout o (little_at 2 s p) s (p + 2)) ≡ true → AtLeaf P table s p
-      at l none e x = off (sym ten ∙ x)
-      at l (some fs) e x = record { there = l; layout = fs; line = e; field = at-then n (read_fields fs 0 s (p + 2)) _ (layout-only fs 0 s (p + 2)) (λ _ _. off) x }
+      at l None e x = off (sym ten ∙ x)
+      at l (Some fs) e x = record { there = l; layout = fs; line = e; field = at-then n (read_fields fs 0 s (p + 2)) _ (layout-only fs 0 s (p + 2)) (λ _ _. off) x }
 
 -- the record that these bytes are is the one at 0, without the place behind it
 record-at : (table : Table) (s : List ℕ) → record_of table s ≡ then (read_record table s 0) (λ g. answered g.value)

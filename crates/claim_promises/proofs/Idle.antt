@@ -1,10 +1,10 @@
 -- What ExactlyWhen, RecordsWhen and ListsWhen deny: definitions that refuse everything, by numbers that the table has, as Demand1 would let them. Assumes
 -- nothing.
+use Rattle.std.specs.Prelude.{Option, None, Some}
 use Prim.Native.Nat.{ℕ, ◌/◌, ◌%◌, ◌^◌, ◌≤◌, ◌<◌}
 use mathlib.Core.Path.{◌≡◌, refl}
 use mathlib.Core.Logic.{◌⊎◌, inl, inr}
 use mathlib.Core.List.{List, [], ◌∷◌}
-use mathlib.Core.Option.{Option, none, some}
 use native.Mathlib.Omega.{arith}
 use lib.ListN.{length}
 use lib.IntN.{ℤ}
@@ -47,11 +47,11 @@ primitive-by-table i = refuses refl
 pub no-idle-header : ((s : List ℕ) → Given 16 [] (idle_header s) (longest < length s)) → ⊥
 no-idle-header g = let h = (g []).only refl in omega arith
 
-pub no-idle-primitive : ((i : ℕ) → Given 8 (i ∷ []) (idle_primitive i) ((0x1000 ≤ i) ⊎ (8 ≤ i / 2 ^ 8 % 2 ^ 4) ⊎ (find (i % 2 ^ 8) kinds ≡ none))) → ⊥
+pub no-idle-primitive : ((i : ℕ) → Given 8 (i ∷ []) (idle_primitive i) ((0x1000 ≤ i) ⊎ (8 ≤ i / 2 ^ 8 % 2 ^ 4) ⊎ (find (i % 2 ^ 8) kinds ≡ None))) → ⊥
 unfolding find kinds
 no-idle-primitive g = go ((g 3).only refl)
   where
-    go : (0x1000 ≤ 3) ⊎ (8 ≤ 3 / 2 ^ 8 % 2 ^ 4) ⊎ (find (3 % 2 ^ 8) kinds ≡ none) → ⊥
+    go : (0x1000 ≤ 3) ⊎ (8 ≤ 3 / 2 ^ 8 % 2 ^ 4) ⊎ (find (3 % 2 ^ 8) kinds ≡ None) → ⊥
     go (inl h) = omega arith
     go (inr (inl h)) = omega arith
     go (inr (inr h)) = let z : ◌≡◌ {A = ℕ} 0 1 = cc in omega arith
@@ -76,7 +76,7 @@ pub no-idle-record : ((table : Table) (s : List ℕ) → Given 1 [] (idle_record
 unfolding find
 no-idle-record g = go ((g [] (0 ∷ 0 ∷ [])).only refl)
   where
-    no_line : {A : Type 0} {x : A} → ◌≡◌ {A = Option A} none (some x) → ⊥
+    no_line : {A : Type 0} {x : A} → ◌≡◌ {A = Option A} None (Some x) → ⊥
     no_line e = let z : ◌≡◌ {A = ℕ} 0 1 = cc in omega arith
 
     go : (length {A = ℕ} (0 ∷ 0 ∷ []) < 2) ⊎ AtLeaf CutField [] (0 ∷ 0 ∷ []) 0 → ⊥

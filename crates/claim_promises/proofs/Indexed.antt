@@ -1,4 +1,5 @@
 -- A stream indexed whole: its walk is one of R-11's, and it meets the premises of demand 3. Assumes nothing.
+use Rattle.std.specs.Prelude.{Ok}
 use Prim.Native.Nat.{ℕ, zero, suc, ◌+◌, ◌/◌, ◌^◌, ◌≤◌, ◌<◌}
 use mathlib.Core.Path.{◌≡◌, refl, sym, ap, subst, ◌∙◌}
 use mathlib.Core.List.{List, [], ◌∷◌}
@@ -27,9 +28,7 @@ use Rattle.stream_finder.proofs.DemandProof.{created-in, fresh-iter, demand3-eve
 use Rattle.stream_finder.proofs.SharedProof.{shared}
 use Rattle.stream_finder.proofs.Examples.{finder_to}
 use Rattle.stream_index.specs.Walk.{turn_of, Turns, none, more, WholeBy, IndexesBy}
-use Rattle.stream_index.specs.declared.End.TheVariants as end
 use Rattle.stream_index.specs.declared.Tour.{Tour}
-use Rattle.stream_index.specs.declared.IndexAnswer.TheVariants as walk
 use Rattle.stream_index.proofs.WalkLaws.{Moves, turn-back}
 use Rattle.stream_index.proofs.WalkedWhole.{walk-holds, walk-premises}
 use Rattle.stream_places.specs.Places.{load_of, load_wide_of, save_of, save_wide_of, file_buffer_after}
@@ -111,9 +110,9 @@ streams-indexed shift tag s t h r t' e w = indexed shift tag s t h r t' e w
 
 -- ---- stream E meets the premise: two records are walked, and the finder holds one place
 abbrev tour_e : Tour
-tour_e = record { finder = finder_to 4098 1; cursor = cursor 78 4098; end = end.Done }
+tour_e = record { finder = finder_to 4098 1; cursor = cursor 78 4098; end = Ok tt }
 
-walked_e : IndexesBy 3 Types stream_e (0 ∷ []) (walk.Answered tour_e) (56 ∷ [])
+walked_e : IndexesBy 3 Types stream_e (0 ∷ []) (Ok tour_e) (56 ∷ [])
 unfolding create_by begun_by header_of iter_of turn_of next_of update_of little_at
 walked_e = record {
   fresh = state (finder_to 4098 1) (56 ∷ []);

@@ -1,29 +1,30 @@
 -- Lent memory after a refusal is what it was: from each contract over lent memory. Assumes nothing.
+use Rattle.std.specs.Prelude.{Result, Option}
+use Rattle.record_list.specs.declared.Element.{Element}
+use Rattle.stream_finder.specs.declared.ItemFinder.{ItemFinder}
+use Rattle.stream_item.specs.declared.iter.ItemIter.{ItemIter}
+use Rattle.answer.specs.declared.Refusal.{Refusal}
 use Prim.Native.Nat.{ℕ}
 use mathlib.Core.Path.{◌≡◌, refl, sym, ◌∙◌}
 use mathlib.Core.List.{List}
 use native.Mathlib.Omega.{arith}
 use Rattle.answer.specs.Answer.{Answer, answered, refused}
-use Rattle.stream_finder.specs.Finder.{State, said_finder, finder_of, table_after, Fills, after}
-use Rattle.stream_finder.specs.Lent.{said_update, outcome, Changes}
-use Rattle.stream_finder.specs.declared.FinderAnswer.{FinderAnswer}
-use Rattle.stream_finder.specs.declared.lent.UpdateAnswer.{UpdateAnswer}
+use Rattle.stream_finder.specs.Finder.{State, finder_of, table_after, Fills, after}
+use Rattle.stream_finder.specs.Lent.{outcome, Changes}
 use Rattle.stream_index.specs.Walk.{Turn, over, moved, said_turn, turn_table, Leads}
-use Rattle.stream_index.specs.declared.TurnAnswer.{TurnAnswer}
-use Rattle.stream_places.specs.Places.{file_size, file_buffer_after, said_save, Saves}
-use Rattle.stream_places.specs.declared.SaveAnswer.{SaveAnswer}
+use Rattle.stream_places.specs.Places.{file_size, file_buffer_after, Saves}
 use Rattle.record_list.specs.Lists.{Step}
-use Rattle.record_list.specs.Said.{said_element}
 use Rattle.record_list.specs.declared.ListCursor.{ListCursor}
-use Rattle.record_list.specs.declared.ElementAnswer.{ElementAnswer}
 use Rattle.record_reader.specs.Reader.{element_in, cursor_after, Steps}
+use Rattle.answer.specs.Refusals.{itself, said}
+use Rattle.record_list.specs.Said.{element_values}
 
 -- the table, after a function that is lent it and answers with a finder
 table_of : (t : List ℕ) (a : Answer State) (n : ℕ) (d : List ℕ) → finder_of a ≡ refused n d → table_after t a ≡ t
 table_of t (answered τ) n d e = let z : ◌≡◌ {A = ℕ} 0 1 = cc in absurd (omega arith)
 table_of t (refused m x) n d e = refl
 
-pub leaves-alone : (t : List ℕ) (a : Answer State) (r : FinderAnswer) (t' : List ℕ) (n : ℕ) (d : List ℕ) → Fills t a r t' → said_finder r ≡ refused n d → t' ≡ t
+pub leaves-alone : (t : List ℕ) (a : Answer State) (r : Result ItemFinder Refusal) (t' : List ℕ) (n : ℕ) (d : List ℕ) → Fills t a r t' → said itself r ≡ refused n d → t' ≡ t
 leaves-alone t a r t' n d l e = l.table ∙ table_of t a n d (sym l.answer ∙ e)
 
 -- finder and table, after an update in place
@@ -31,7 +32,7 @@ state-of : (σ : State) (a : Answer State) (n : ℕ) (d : List ℕ) → outcome 
 state-of σ (answered τ) n d e = let z : ◌≡◌ {A = ℕ} 0 1 = cc in absurd (omega arith)
 state-of σ (refused m x) n d e = refl
 
-pub changes-nothing : (σ : State) (a : Answer State) (r : UpdateAnswer) (τ : State) (n : ℕ) (d : List ℕ) → Changes σ a r τ → said_update r ≡ refused n d → τ ≡ σ
+pub changes-nothing : (σ : State) (a : Answer State) (r : Result Unit Refusal) (τ : State) (n : ℕ) (d : List ℕ) → Changes σ a r τ → said itself r ≡ refused n d → τ ≡ σ
 changes-nothing σ a r τ n d c e = c.left ∙ state-of σ a n d (sym c.answer ∙ e)
 
 -- the table, after a turn
@@ -40,7 +41,7 @@ turn-of t (answered over) n d e = refl
 turn-of t (answered (moved τ c)) n d e = let z : ◌≡◌ {A = ℕ} 0 1 = cc in absurd (omega arith)
 turn-of t (refused m x) n d e = refl
 
-pub leads-nowhere : (t : List ℕ) (a : Answer Turn) (r : TurnAnswer) (t' : List ℕ) (n : ℕ) (d : List ℕ) → Leads t a r t' → said_turn r t' ≡ refused n d → t' ≡ t
+pub leads-nowhere : (t : List ℕ) (a : Answer Turn) (r : Result (Option (ItemFinder × ItemIter)) Refusal) (t' : List ℕ) (n : ℕ) (d : List ℕ) → Leads t a r t' → said_turn r t' ≡ refused n d → t' ≡ t
 leads-nowhere t a r t' n d l e = l.table ∙ turn-of t a n d (sym l.answer ∙ e)
 
 -- the buffer, after a places file that was not written
@@ -48,7 +49,7 @@ buffer-of : (o : List ℕ) (a : Answer (List ℕ)) (n : ℕ) (d : List ℕ) → 
 buffer-of o (answered bs) n d e = let z : ◌≡◌ {A = ℕ} 0 1 = cc in absurd (omega arith)
 buffer-of o (refused m x) n d e = refl
 
-pub saves-nothing : (o : List ℕ) (a : Answer (List ℕ)) (r : SaveAnswer) (o' : List ℕ) (n : ℕ) (d : List ℕ) → Saves o a r o' → said_save r ≡ refused n d → o' ≡ o
+pub saves-nothing : (o : List ℕ) (a : Answer (List ℕ)) (r : Result ℕ Refusal) (o' : List ℕ) (n : ℕ) (d : List ℕ) → Saves o a r o' → said itself r ≡ refused n d → o' ≡ o
 saves-nothing o a r o' n d l e = l.buffer ∙ buffer-of o a n d (sym l.answer ∙ e)
 
 -- the cursor, after a step of a lent list reader
@@ -56,5 +57,5 @@ cursor-of : (c : ListCursor) (a : Answer Step) (n : ℕ) (d : List ℕ) → elem
 cursor-of c (answered x) n d e = let z : ◌≡◌ {A = ℕ} 0 1 = cc in absurd (omega arith)
 cursor-of c (refused m x) n d e = refl
 
-pub steps-nowhere : (c : ListCursor) (a : Answer Step) (r : ElementAnswer) (c' : ListCursor) (n : ℕ) (d : List ℕ) → Steps c a r c' → said_element r ≡ refused n d → c' ≡ c
+pub steps-nowhere : (c : ListCursor) (a : Answer Step) (r : Result Element Refusal) (c' : ListCursor) (n : ℕ) (d : List ℕ) → Steps c a r c' → said element_values r ≡ refused n d → c' ≡ c
 steps-nowhere c a r c' n d s e = s.cursor ∙ cursor-of c a n d (sym s.answer ∙ e)

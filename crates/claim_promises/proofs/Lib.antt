@@ -36,6 +36,7 @@ pub mod Paged
 pub mod Examples
 pub mod DeclareExamples
 pub mod ClassKinds
+pub mod ReaderOnce
 pub mod OneOutcome
 pub mod Answers
 pub mod RefusedBy

@@ -2,8 +2,16 @@
 -- `one-..` of its crate; those over lent memory, and that of `view`, whose answer holds a slice, by laws of theirs. Assumes nothing.
 use Prim.Native.Nat.{ℕ}
 use mathlib.Core.List.{List}
-use mathlib.Core.Path.{sym, ap, ◌∙◌}
-use Rattle.answer.proofs.OneOutcome.{one-details}
+use mathlib.Core.Path.{refl, sym, ap, ◌∙◌}
+use Rattle.std.specs.Prelude.{option_map}
+use Rattle.answer.specs.Refusals.{itself}
+use Rattle.field.specs.declared.index.IdIndex.{IdIndex}
+use Rattle.field.specs.declared.index.TypeIndex.{TypeIndex}
+use Rattle.field_number.specs.Forms.{size_told, variant_told}
+use Rattle.field_number.proofs.OneOutcome.{back-number, hear_number}
+use Rattle.field_text.specs.Texts.{part}
+use Rattle.claim_promises.proofs.ReaderOnce.{one_from, one_on, option-back}
+use Rattle.answer.proofs.OneOutcome.{one_of, one-details}
 use Rattle.field.proofs.OneOutcome.{one-u8, one-u16, one-u32, one-u64, one_type, one-id, one-string-ref, one-optional-type, one-optional-id, one-read-type, one-read-id}
 use Rattle.field_put.specs.Bytes.{bytes}
 use Rattle.field_put.proofs.OneOutcome.{one-lays}
@@ -56,8 +64,6 @@ use Rattle.section_stream.specs.Streams.{section_stream}
 use Rattle.write_list.specs.Rows.{member_rows, method_rows}
 use Rattle.declare_spelling.specs.Spellings.{kind_text, indirection_text, mode_text, quals_text}
 use Rattle.declare_spelling.proofs.OneOutcome.{one-spells}
-use Rattle.answer_name.specs.Names.{name_text}
-use Rattle.answer_name.proofs.OneOutcome.{one_holds}
 use Rattle.declare_type.specs.Declares.{declare_of}
 use Rattle.declare_type.proofs.OneOutcome.{one-declares}
 use Rattle.write_layout.specs.Types.{written_leaves}
@@ -78,6 +84,20 @@ one-reader-step x r q m k a b =
 
 pub one-outcome : OneOutcome
 one-outcome = record {
+  field_index_type_index_index_from_number = λ n r q a b. a ∙ sym b;
+  field_index_id_index_index_from_number = λ n r q a b. a ∙ sym b;
+  field_index_string_ref_index_from_number = λ n r q a b. a ∙ sym b;
+  field_index_type_index_optional_index_or_none = λ self r q a b. one_of (option_map (λ (i : TypeIndex). i.0)) (option_map (λ (n : ℕ). record { 0 = n })) (option-back (λ (i : TypeIndex). i.0) (λ (n : ℕ). record { 0 = n }) (λ i. refl)) r q (a ∙ sym b);
+  field_index_id_index_optional_index_or_none = λ self r q a b. one_of (option_map (λ (i : IdIndex). i.0)) (option_map (λ (n : ℕ). record { 0 = n })) (option-back (λ (i : IdIndex). i.0) (λ (n : ℕ). record { 0 = n }) (λ i. refl)) r q (a ∙ sym b);
+  field_reader_reader_u8 = λ self. one_from itself itself (λ a. refl) _ self;
+  field_reader_reader_u16 = λ self. one_from itself itself (λ a. refl) _ self;
+  field_reader_reader_u32 = λ self. one_from itself itself (λ a. refl) _ self;
+  field_reader_reader_skip = λ self n. one_on _ self;
+  field_reader_reader_index = λ {I} the_index self same told. one_from the_index.counts the_index.counted told _ self;
+  field_reader_reader_optional = λ {I} the_optional_index the_index self same told. one_from (option_map the_index.counts) (option_map the_index.counted) (option-back the_index.counts the_index.counted told) _ self;
+  field_number_read_number = λ r. one_from variant_told (λ x. record { value = hear_number x.value; width = x.form.width; shorter = x.form.shorter }) (λ v. rw (back-number v.value)) _ r;
+  field_number_read_size = λ r. one_from size_told (λ x. record { value = x.value; width = x.form.width; shorter = x.form.shorter }) (λ v. refl) _ r;
+  field_text_read_string = λ r. one_from part (λ x. record { place = x.place; length = x.length }) (λ t. refl) _ r;
   pane_row_member_row = λ at left padded m u q a b. a ∙ sym b;
   pane_row_entry_row = λ at left padded m u q a b. a ∙ sym b;
   pane_row_index_row = λ at left padded i u q a b. a ∙ sym b;
@@ -93,6 +113,10 @@ one-outcome = record {
   pane_index_pdb_load_short = λ s file table. one-out-table _;
   pane_index_pdb_save = λ s table minimum maximum held shift buffer. one-out-table _;
   pane_index_pdb_save_short = λ s table minimum maximum held shift buffer. one-out-table _;
+  pane_out_refused = λ e out. one_out _;
+  pane_state_cursor_given = λ at index r q a b. a ∙ sym b;
+  pane_state_finder_given = λ minimum maximum held shift r q a b. a ∙ sym b;
+  pane_state_finder_out = λ f r q a b. a ∙ sym b;
   pane_out_first = λ e r q a b. a ∙ sym b;
   pane_out_second = λ e r q a b. a ∙ sym b;
   pane_out_is_set = λ n r q a b. a ∙ sym b;
@@ -147,7 +171,7 @@ one-outcome = record {
   declare_spelling_indirection = λ y. one-spells (indirection_text y);
   declare_spelling_mode = λ m. one-spells (mode_text m);
   declare_spelling_qualifiers = λ q. one-spells (quals_text q);
-  answer_name_name_of = λ e. one_holds (name_text e);
+  answer_name_name_of = λ e r q a b. a ∙ sym b;
   answer_refusal_number = λ self r q a b. a ∙ sym b;
   answer_refusal_details = λ self r q a b. one-details r q (a ∙ sym b);
   field_fixed_u8_at = λ s p r q a b. one-u8 r q (a ∙ sym b);
@@ -218,6 +242,7 @@ one-outcome = record {
   stream_header_header_parse = λ s r q a b. one-header r q (a ∙ sym b);
   record_reference_record_references = λ d r q a b. one-references r q (a ∙ sym b);
   record_reference_element_references = λ e r q a b. one-element-references _ r q a b;
+  stream_fit_rule_number = λ self r q a b. a ∙ sym b;
   stream_fit_fit = λ s r q a b. one-fit r q (a ∙ sym b);
   stream_header_header_count = λ self r q a b. a ∙ sym b;
   stream_index_next_and_update = λ s f t c. one-leads t (turn_of s (state f t) c);

@@ -1,9 +1,9 @@
 -- The numbers that fields, strings, padding and numeric leaves are refused by; and a layout, by those of its fields. Assumes nothing.
+use Rattle.std.specs.Prelude.{Option, None, Some}
 use Prim.Native.Nat.{ℕ, zero, suc, ◌+◌}
 use mathlib.Core.Bool.{Bool, true, false}
 use mathlib.Core.Path.{◌≡◌, refl}
 use mathlib.Core.List.{List, [], ◌∷◌}
-use mathlib.Core.Option.{Option, none, some}
 use lib.ListN.{length, drop}
 use lib.Dec.{leb, ltb, eqb}
 use lib.IntN.{ℤ, pos, negsuc}
@@ -38,8 +38,8 @@ optional-refuses nones s p = by-then (fixed-refuses 4 s p) (λ g. gives)
 
 part-refuses : (o : Option ℕ) (p : ℕ) → Refuses (1 ∷ []) (part_or o p)
 unfolding fits among listed find in_table refusals
-part-refuses none p = refuses refl
-part-refuses (some n) p = gives
+part-refuses None p = refuses refl
+part-refuses (Some n) p = gives
 
 pub string-refuses : (s : List ℕ) (p : ℕ) → Refuses (1 ∷ []) (string_at s p)
 unfolding string_at
@@ -72,9 +72,9 @@ padding-refuses s p = by-stop (ltb (length s) p) 1 refl (pad-refuses (drop p s) 
 
 wide-refuses : (o : Option Wide) (s : List ℕ) (p : ℕ) → Refuses (1 ∷ 11 ∷ []) (wide_at o s p)
 unfolding fits among listed find in_table refusals unsigned_at within
-wide-refuses none s p = refuses refl
-wide-refuses (some (signed k)) s p = wider refl (signed-refuses k s p)
-wide-refuses (some (unsigned k)) s p = by-then (wider refl (fixed-refuses k s p)) (λ g. gives)
+wide-refuses None s p = refuses refl
+wide-refuses (Some (signed k)) s p = wider refl (signed-refuses k s p)
+wide-refuses (Some (unsigned k)) s p = by-then (wider refl (fixed-refuses k s p)) (λ g. gives)
 
 numeric-refuses : (s : List ℕ) (p : ℕ) → Refuses (1 ∷ 11 ∷ []) (numeric_at s p)
 unfolding numeric_at within among
@@ -156,22 +156,22 @@ pub data TakesTable (ns : List ℕ) : Table → Type 0 where
   ◌and◌ : {leaf : ℕ} {fs : Layout} {ls : Table} → TakesAll ns fs → TakesTable ns ls → TakesTable ns ((leaf is fs) ∷ ls)
 
 abbrev TakesFound : List ℕ → Option Layout → Type 0
-TakesFound ns none = Unit {0}
-TakesFound ns (some fs) = TakesAll ns fs
+TakesFound ns None = Unit {0}
+TakesFound ns (Some fs) = TakesAll ns fs
 
 found-takes : (ns : List ℕ) (leaf : ℕ) (table : Table) → TakesTable ns table → TakesFound ns (find leaf table)
 unfolding find
 found-takes ns leaf [] no_other = tt
 found-takes ns leaf ((n is fs) ∷ ls) (h and hs) = go (eqb leaf n) (found-takes ns leaf ls hs)
   where
-    go : (b : Bool) → TakesFound ns (find leaf ls) → TakesFound ns (pick b (some fs) (find leaf ls))
+    go : (b : Bool) → TakesFound ns (find leaf ls) → TakesFound ns (pick b (Some fs) (find leaf ls))
     go true later = h
     go false later = later
 
 layout-refuses : (ns : List ℕ) (o : Option Layout) (leaf : ℕ) (s : List ℕ) (p : ℕ) → within (10 ∷ []) ns ≡ true → TakesFound ns o → Refuses ns (by_layout o leaf s p)
 unfolding fits among listed find in_table refusals
-layout-refuses ns none leaf s p ten h = wider ten (refuses refl)
-layout-refuses ns (some fs) leaf s p ten h = by-then (fields-refuse ns fs 0 s p h) (λ g. gives)
+layout-refuses ns None leaf s p ten h = wider ten (refuses refl)
+layout-refuses ns (Some fs) leaf s p ten h = by-then (fields-refuse ns fs 0 s p h) (λ g. gives)
 
 leaf-refuses : (ns : List ℕ) (table : Table) (leaf : ℕ) (s : List ℕ) (p : ℕ) → within (10 ∷ []) ns ≡ true → TakesTable ns table → Refuses ns (read_leaf table leaf s p)
 unfolding read_leaf

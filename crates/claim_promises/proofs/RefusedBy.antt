@@ -3,7 +3,7 @@
 use Prim.Native.Nat.{ℕ}
 use mathlib.Core.List.{List, [], ◌∷◌}
 use Rattle.answer.specs.Answer.{Answer}
-use Rattle.stream_finder.specs.Finder.{State, finder_of}
+use Rattle.stream_finder.specs.Finder.{State, finder_of, state}
 use Rattle.stream_finder.specs.Lent.{outcome}
 use Rattle.stream_places.specs.Places.{file_size}
 use Rattle.stream_report.specs.Report.{Report, totals_in, report_in}
@@ -15,7 +15,6 @@ use Rattle.write_layout.specs.Types.{written_leaves}
 use Rattle.write_cells.specs.Cells.{cell_values}
 use Rattle.write_layout.specs.Buffer.{Written, place_after}
 use Rattle.field.specs.Indices.{no_id, no_type}
-use Rattle.stream_finder.specs.Finder.{state}
 use Rattle.write_list.specs.Rows.{member_rows, method_rows}
 use lib.ListN.{length}
 use Rattle.field.specs.declared.index.ItemIndex.TheVariants as item_index
@@ -99,6 +98,15 @@ each-refused-by = record {
   word_primitive_primitive = λ index. answers.word_primitive_primitive index (Refuses (8 ∷ [])) (demand1.primitives index.0);
   stream_finder_find_type = λ s f t i. answers.stream_finder_find_type s f t i (FindRefuses (16 ∷ 26 ∷ 13 ∷ 8 ∷ 9 ∷ 1 ∷ [])) (demand1.finds s (state f t) (item_index.Types i));
   stream_finder_find_id = λ s f t i. answers.stream_finder_find_id s f t i (FindRefuses (16 ∷ 26 ∷ 13 ∷ 8 ∷ 9 ∷ 1 ∷ [])) (demand1.finds s (state f t) (item_index.Ids i));
+  field_reader_reader_u8 = λ self r self' it. along (Refuses (1 ∷ [])) it.0 (demand1.fields 1 self.bytes.now self.at);
+  field_reader_reader_u16 = λ self r self' it. along (Refuses (1 ∷ [])) it.0 (demand1.fields 2 self.bytes.now self.at);
+  field_reader_reader_u32 = λ self r self' it. along (Refuses (1 ∷ [])) it.0 (demand1.fields 4 self.bytes.now self.at);
+  field_reader_reader_skip = λ self n r self' it. along (Refuses (1 ∷ [])) it.0 (demand1.runs n self.bytes.now self.at);
+  field_reader_reader_index = λ {I} the_index self r self' it. along (Refuses (1 ∷ [])) it.0 (demand1.fields 4 self.bytes.now self.at);
+  field_reader_reader_optional = λ {I} the_optional_index the_index self r self' it. along (Refuses (1 ∷ [])) it.0 (demand1.optional_indices the_optional_index.nones self.bytes.now self.at);
+  field_number_read_number = λ r a r' it. along (Refuses (1 ∷ 11 ∷ [])) it.0 (demand1.numbers r.bytes.now r.at);
+  field_number_read_size = λ r a r' it. along (Refuses (1 ∷ 11 ∷ [])) it.0 (demand1.sizes r.bytes.now r.at);
+  field_text_read_string = λ r a r' it. along (Refuses (1 ∷ [])) it.0 (demand1.strings r.bytes.now r.at);
   stream_finder_create = λ s t r t' it. along (Refuses (16 ∷ 1 ∷ 2 ∷ 3 ∷ 4 ∷ 5 ∷ 13 ∷ [])) it.answer (of-finder (demand1.creations s t));
   stream_finder_create_by = λ s t shift r t' it. along (Refuses (16 ∷ 1 ∷ 2 ∷ 3 ∷ 4 ∷ 5 ∷ 26 ∷ 13 ∷ [])) it.answer (of-finder (demand1.creations_by shift s t));
   stream_finder_begin = λ t records shift r t' it. along (Refuses (26 ∷ 13 ∷ [])) it.answer (of-finder (demand1.beginnings shift t records));

@@ -1,4 +1,6 @@
 -- The numbers of R-6. Assumes nothing.
+use Rattle.std.specs.Prelude.{Result}
+use Rattle.answer.specs.declared.Refusal.{Refusal}
 use Prim.Native.Nat.{ℕ, zero, suc, ◌+◌, ◌≤◌, ◌<◌}
 use native.Mathlib.Omega.{arith}
 use mathlib.Core.Bool.{true}
@@ -9,7 +11,7 @@ use lib.Dec.{ltb, eqb}
 use borrow.Author.Tests.{ltb-true, ltb-false, lt-ltb, eqb-false}
 use Rattle.answer.specs.Answer.{Answer, answered, refused, stop}
 use Rattle.answer.specs.Tables.{find, among}
-use Rattle.answer.specs.Refusals.{listed, in_table, refusals}
+use Rattle.answer.specs.Refusals.{listed, in_table, refusals, itself, said}
 use Rattle.field.specs.Fields.{little_at}
 use Rattle.stream_header.specs.Header.{longest}
 use Rattle.stream_item.specs.Iterator.{Next, done, yielded, next_of}
@@ -25,8 +27,6 @@ use Rattle.section_stream.specs.Streams.{stream_bytes, section_stream}
 use Rattle.section_stream.proofs.StreamLaws.{stream-length, stream-long, stream-is}
 use Rattle.field_put.specs.Bytes.{put}
 use Rattle.write_layout.specs.Buffer.{Written, lay, buffer_after, place_after, Writes}
-use Rattle.write_pieces.specs.Pieces.{said_write}
-use Rattle.write_pieces.specs.declared.WriteAnswer.{WriteAnswer}
 use Rattle.claim_promises.specs.ByTable.{Refuses, fits, gives, refuses}
 use Rattle.claim_promises.specs.Given.{by, Given, RefusedAs}
 use Rattle.claim_promises.specs.Sections.{SectionsRefuse, SectionsWhen}
@@ -81,7 +81,7 @@ buffer-of : (o : List ℕ) (a : Answer Written) (n : ℕ) (d : List ℕ) → pla
 buffer-of o (answered w) n d e = let z : ◌≡◌ {A = ℕ} 0 1 = cc in absurd (omega arith)
 buffer-of o (refused m x) n d e = refl
 
-writes_nothing : (o : List ℕ) (a : Answer Written) (r : WriteAnswer) (o' : List ℕ) (n : ℕ) (d : List ℕ) → Writes o a (said_write r) o' → said_write r ≡ refused n d → o' ≡ o
+writes_nothing : (o : List ℕ) (a : Answer Written) (r : Result ℕ Refusal) (o' : List ℕ) (n : ℕ) (d : List ℕ) → Writes o a (said itself r) o' → said itself r ≡ refused n d → o' ≡ o
 writes_nothing o a r o' n d w e = w.left ∙ buffer-of o a n d (sym w.answer ∙ e)
 
 pub sections-refuse : SectionsRefuse

@@ -1,9 +1,9 @@
 -- The numbers that headers, iterators, views, finders, walks, lists and entries are refused by. Assumes nothing.
+use Rattle.std.specs.Prelude.{Option, None, Some}
 use Prim.Native.Nat.{ℕ, zero, suc, ◌+◌, ◌-◌, ◌/◌, ◌%◌, ◌^◌}
 use mathlib.Core.Bool.{Bool, true, false}
 use mathlib.Core.Path.{◌≡◌, refl}
 use mathlib.Core.List.{List, [], ◌∷◌}
-use mathlib.Core.Option.{Option, none, some}
 use lib.ListN.{length, get_or}
 use lib.Dec.{leb, ltb, eqb}
 use Rattle.answer.specs.Answer.{Answer, answered, refused, pick, stop, Read, then, and_then}
@@ -48,8 +48,8 @@ use Rattle.claim_promises.proofs.ReadingRefuses.{fixed-refuses, padding-refuses,
 
 known-refuses : {A B : Type 0} (i : ℕ) (o : Option A) (f : A → Answer B) → ((a : A) → Refuses (8 ∷ []) (f a)) → Refuses (8 ∷ []) (known i o f)
 unfolding fits among listed find in_table refusals
-known-refuses i none f h = refuses refl
-known-refuses i (some a) f h = h a
+known-refuses i None f h = refuses refl
+known-refuses i (Some a) f h = h a
 
 pub primitive-refuses : (i : ℕ) → Refuses (8 ∷ []) (primitive_of i)
 unfolding primitive_of fits among listed find in_table refusals
@@ -60,8 +60,8 @@ primitive-refuses i =
 
 good-refuses : {A : Type 0} (o : Option A) → Refuses (12 ∷ []) (good_or_12 o)
 unfolding fits among listed find in_table refusals
-good-refuses none = refuses refl
-good-refuses (some a) = gives
+good-refuses None = refuses refl
+good-refuses (Some a) = gives
 
 pub kind-refuses : (w : ℕ) → Refuses (12 ∷ []) (kind_of w)
 unfolding kind_of

@@ -1,9 +1,9 @@
 -- The numbers that a writer is refused by: 17 for fields, then 18 and 19; and after a refusal the buffer is what it was. Assumes nothing.
+use Rattle.std.specs.Prelude.{Option, None, Some}
 use Prim.Native.Nat.{ℕ, ◌+◌, ◌^◌}
 use mathlib.Core.Bool.{Bool, true, false}
 use mathlib.Core.Path.{◌≡◌, refl, sym, ◌∙◌}
 use mathlib.Core.List.{List, [], ◌∷◌, ◌++◌}
-use mathlib.Core.Option.{Option, none, some}
 use native.Mathlib.Omega.{arith}
 use lib.ListN.{length}
 use lib.Dec.{ltb, eqb}
@@ -62,8 +62,8 @@ many-refuses : (v : ToWrite) (f : List ℕ → Encoded) → ((bs : List ℕ) →
 many-refuses (number n) f h = bad-refuses
 many-refuses (numeral z u) f h = bad-refuses
 many-refuses absent f h = bad-refuses
-many-refuses (many none) f h = bad-refuses
-many-refuses (many (some bs)) f h = h bs
+many-refuses (many None) f h = bad-refuses
+many-refuses (many (Some bs)) f h = h bs
 
 fixed-refuses : (k n : ℕ) → Refuses of17 (fixed_bytes k n)
 unfolding fixed_bytes
@@ -118,8 +118,8 @@ fields-refuse (f ∷ fs) w [] = bad-refuses
 fields-refuse (f ∷ fs) w (v ∷ vs) = also-refuses (write_field f w v) (write_fields fs (word_after f v w) vs) (field-refuses f w v) (fields-refuse fs (word_after f v w) vs)
 
 layout-refuses : (l : Option Layout) (vs : List ToWrite) → Refuses of17 (written_by l vs)
-layout-refuses none vs = bad-refuses
-layout-refuses (some fs) vs = fields-refuse fs 0 vs
+layout-refuses None vs = bad-refuses
+layout-refuses (Some fs) vs = fields-refuse fs 0 vs
 
 pub leaf-refuses : (table : Table) (vs : List ToWrite) → Refuses of17 (write_leaf table vs)
 unfolding write_leaf

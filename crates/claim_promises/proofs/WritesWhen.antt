@@ -1,10 +1,10 @@
 -- Each number of R-1 is given exactly when 02 says. Assumes nothing.
+use Rattle.std.specs.Prelude.{None, Some}
 use Prim.Native.Nat.{ℕ, zero, suc, ◌+◌, ◌≤◌, ◌<◌}
 use native.Mathlib.Omega.{arith}
 use mathlib.Core.Bool.{Bool, true, false}
 use mathlib.Core.Path.{◌≡◌, refl, sym, ap, subst, ◌∙◌}
 use mathlib.Core.List.{List, [], ◌∷◌}
-use mathlib.Core.Option.{none, some}
 use lib.ListN.{length, take, drop}
 use lib.Seq.{get_or-drop}
 use lib.Dec.{leb, ltb, eqb}
@@ -173,7 +173,7 @@ given-small t f (numeral z w ∷ vs) = (tt, given-small t f vs)
 given-small t f (absent ∷ vs) = (tt, given-small t f vs)
 given-small t f (many x ∷ vs) = (go (leb (x.place + x.length) (length t)), given-small t f vs)
   where
-    go : (b : Bool) → InBytes (many (pick b (some (part_at t x.place x.length)) none))
+    go : (b : Bool) → InBytes (many (pick b (Some (part_at t x.place x.length)) None))
     go true = part_small t x.place x.length f
     go false = tt
 

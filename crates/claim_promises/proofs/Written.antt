@@ -1,9 +1,9 @@
 -- The premises of `StreamWalks` are met: a header, the two records of document 01's stream E and a field list, written, walk to done. So are those of
 -- `OneBuffer`, by the same written into one buffer, and those of `fields-again`, by the members that the list reads as. Assumes nothing.
+use Rattle.std.specs.Prelude.{Some}
 use Prim.Native.Nat.{ℕ}
 use mathlib.Core.Path.{◌≡◌, refl}
 use mathlib.Core.List.{List, [], ◌∷◌, ◌++◌, map}
-use mathlib.Core.Option.{some}
 use native.Mathlib.Omega.{arith}
 use mathlib.Core.Bool.{false}
 use lib.ListN.{replicate, take}
@@ -67,7 +67,7 @@ pointer_e = 10 ∷ 0 ∷ 0x02 ∷ 0x10 ∷ 0 ∷ 0x10 ∷ 0 ∷ 0 ∷ 0x0c ∷ 0
 
 -- a field list of an enumerator, -1, and a continuation
 abbrev elements_e : List (List ToWrite)
-elements_e = (number 0x1502 ∷ number 3 ∷ numeral (negsuc 0) tt ∷ many (some (0x61 ∷ [])) ∷ []) ∷ (number 0x1404 ∷ absent ∷ number 4096 ∷ []) ∷ []
+elements_e = (number 0x1502 ∷ number 3 ∷ numeral (negsuc 0) tt ∷ many (Some (0x61 ∷ [])) ∷ []) ∷ (number 0x1404 ∷ absent ∷ number 4096 ∷ []) ∷ []
 
 abbrev fields_e : List ℕ
 fields_e = 22 ∷ 0 ∷ 0x03 ∷ 0x12 ∷ 0x02 ∷ 0x15 ∷ 3 ∷ 0 ∷ 0x00 ∷ 0x80 ∷ 0xff ∷ 0x61 ∷ 0 ∷ 0xf3 ∷ 0xf2 ∷ 0xf1 ∷ 0x04 ∷ 0x14 ∷ 0 ∷ 0 ∷ 0 ∷ 0x10 ∷ 0 ∷ 0 ∷ []

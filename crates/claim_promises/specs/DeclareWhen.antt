@@ -1,6 +1,6 @@
 -- R-5 of document 02: when each refusal of a declaration is given. A second reading of the definition `declare_of`, by inequalities and by the path
 -- of types that the walk visits.
-use Rattle.std.specs.Prelude.{ℕ, zero, suc, ◌+◌, ◌*◌, ◌≤◌, ◌<◌, ◌≡◌, false, List, [], ◌++◌, length, take, drop}
+use Rattle.std.specs.Prelude.{Ok, Err, Option, ℕ, zero, suc, ◌+◌, ◌*◌, ◌≤◌, ◌<◌, ◌≡◌, false, List, [], ◌++◌, length, take, drop}
 use Rattle.answer.specs.Answer.{Answer, answered, refused}
 use Rattle.answer.specs.Tables.{among}
 use Rattle.answer.specs.Refusals.{no, number_of, details_of}
@@ -14,12 +14,10 @@ use Rattle.stream_item.specs.declared.Entry.{Entry}
 use Rattle.stream_item.specs.declared.Entry.TheVariants as entry
 use Rattle.stream_finder.specs.Finder.{State, Found, find_of}
 use Rattle.declare_spelling.specs.declared.Quals.{Quals}
-use Rattle.declare_spelling.specs.declared.Extent.{Extent}
 use Rattle.declare_type.specs.Looked.{declared_leaves, list_leaves}
 use Rattle.declare_type.specs.Nodes.{node_of, list_of, index_at}
 use Rattle.declare_type.specs.declared.node.Node.{Node}
 use Rattle.declare_type.specs.declared.node.Node.TheVariants as node
-use Rattle.declare_type.specs.declared.node.Arguments.TheVariants as arguments
 use Rattle.declare_type.specs.Walk.{Spelled, printed, stopped, declaration_of}
 use Rattle.declare_type.specs.Declares.{declare_of}
 use Rattle.claim_promises.specs.Given.{Given}
@@ -40,11 +38,11 @@ unlimited (stopped k e) = no e
 pub data Inside (s : List ℕ) (σ : State) (i : ℕ) : ℕ → Type 0 where
   of_pointer : {j : TypeIndex} {m : ℕ} {q : Quals} → node_of s σ i ≡ node.Pointer j m q → Inside s σ i j.0
   of_modifier : {j : TypeIndex} {q : Quals} → node_of s σ i ≡ node.Modifier j q → Inside s σ i j.0
-  of_array : {j : TypeIndex} {x : Extent} → node_of s σ i ≡ node.Array j x → Inside s σ i j.0
+  of_array : {j : TypeIndex} {x : Option ℕ} → node_of s σ i ≡ node.Array j x → Inside s σ i j.0
 
 -- type i is a procedure that returns type j, and the indices of its n arguments start at place p
 pub data Calls (s : List ℕ) (σ : State) (i : ℕ) : ℕ → ℕ → ℕ → Type 0 where
-  of_procedure : {j l : TypeIndex} {p n : ℕ} → node_of s σ i ≡ node.Procedure j l → list_of s σ l.0 ≡ arguments.At p n → Calls s σ i p n j.0
+  of_procedure : {j l : TypeIndex} {p n : ℕ} → node_of s σ i ≡ node.Procedure j l → list_of s σ l.0 ≡ Ok (p, n) → Calls s σ i p n j.0
 
 abbrev pub argument_at : List ℕ → ℕ → ℕ → ℕ
 argument_at s p k = (index_at s (p + 4 * k)).0
@@ -81,7 +79,7 @@ pub data TypeVisits (s : List ℕ) (σ : State) : ℕ → ℕ → ℕ → ℕ �
 pub data Fault (s : List ℕ) (σ : State) : ℕ → ℕ → Refusal → Type 0 where
   too_deep : {i : ℕ} → Fault s σ zero i refusal.TooDeep
   its_own : {d i : ℕ} {e : Refusal} → node_of s σ i ≡ node.Refused e → Fault s σ (suc d) i e
-  its_lists : {d i : ℕ} {j l : TypeIndex} {e : Refusal} → node_of s σ i ≡ node.Procedure j l → list_of s σ l.0 ≡ arguments.Refused e → Fault s σ (suc d) i e
+  its_lists : {d i : ℕ} {j l : TypeIndex} {e : Refusal} → node_of s σ i ≡ node.Procedure j l → list_of s σ l.0 ≡ Err e → Fault s σ (suc d) i e
 
 -- the walk from type i meets a type that is refused by e
 pub record Meets (s : List ℕ) (σ : State) (d i : ℕ) (e : Refusal) : Type 0 where
@@ -161,4 +159,4 @@ pub record DeclareWhen : Type 0 where
   pub at_24 : (s : List ℕ) (σ : State) (i room : ℕ) → Given 24 [] (declare_of s σ i room) (HasRoom s σ i room × OtherMet s σ i)
   -- what is spelled is one of the five modes of a pointer, and every argument's four bytes are in the stream
   pub five_modes : (s : List ℕ) (σ : State) (i : ℕ) (j : TypeIndex) (m : ℕ) (q : Quals) → node_of s σ i ≡ node.Pointer j m q → m ≤ 4
-  pub arguments_there : (s : List ℕ) (σ : State) (i p n : ℕ) → list_of s σ i ≡ arguments.At p n → p + 4 * n ≤ length s
+  pub arguments_there : (s : List ℕ) (σ : State) (i p n : ℕ) → list_of s σ i ≡ Ok (p, n) → p + 4 * n ≤ length s

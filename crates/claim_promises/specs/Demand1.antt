@@ -4,9 +4,11 @@
 -- A contract is an equation between what an answer says and a definition, so what is said here of a definition holds of the function's answer.
 -- `Refuses ns a`: a is an answer, or a refusal by one of the numbers ns, with as many details as the table gives that number (ByTable.antt).
 -- Document 02 excepts one thing from it, the table of `drop` after 30 and 19: `drop_excepted`, the last field.
-use Rattle.std.specs.Prelude.{ℕ, true, false, ◌≡◌, List, [], ◌∷◌, length}
+use Rattle.std.specs.Prelude.{Result, Err, Option, ℕ, true, false, ◌≡◌, List, [], ◌∷◌, length}
+use Rattle.record_list.specs.declared.Element.{Element}
+use Rattle.stream_report.specs.declared.Totals.{Totals}
 use Rattle.answer.specs.Answer.{Answer, answered, refused}
-use Rattle.answer.specs.Refusals.{number_of, details_of, no, listed}
+use Rattle.answer.specs.Refusals.{number_of, details_of, no, listed, itself, said}
 use Rattle.answer.specs.declared.Refusal.{Refusal}
 use Rattle.field.specs.Fields.{fixed_at, signed_at}
 use Rattle.field.specs.Indices.{optional_at}
@@ -25,57 +27,44 @@ use Rattle.field.specs.declared.index.Stream.TheVariants as stream
 use Rattle.field.specs.declared.index.ItemIndex.{ItemIndex}
 use Rattle.stream_item.specs.declared.Entry.{Entry}
 use Rattle.stream_item.specs.declared.iter.ItemIter.{ItemIter}
-use Rattle.stream_finder.specs.Finder.{State, state, said_finder, begun_in, create_of, create_by, update_of, find_of, Fills}
-use Rattle.stream_finder.specs.Lent.{said_update, Updates}
+use Rattle.stream_finder.specs.Finder.{State, state, begun_in, create_of, create_by, update_of, find_of, Fills}
+use Rattle.stream_finder.specs.Lent.{Updates}
 use Rattle.stream_finder.specs.declared.ItemFinder.{ItemFinder}
 use Rattle.stream_finder.specs.declared.Records.{Records}
-use Rattle.stream_finder.specs.declared.FinderAnswer.{FinderAnswer}
-use Rattle.stream_finder.specs.declared.lent.UpdateAnswer.{UpdateAnswer}
 use Rattle.stream_index.specs.Walk.{said_turn, turn_of, Leads, Walks, IndexesBy}
 use Rattle.stream_index.specs.declared.Tour.{Tour}
-use Rattle.stream_index.specs.declared.End.TheVariants as end
-use Rattle.stream_index.specs.declared.TurnAnswer.{TurnAnswer}
-use Rattle.stream_index.specs.declared.IndexAnswer.TheVariants as walk
 use Rattle.stream_fit.specs.Fit.{fit_of}
 use Rattle.stream_places.specs.File.{trailer_of, trailer_of_either}
-use Rattle.stream_places.specs.Places.{load_of, load_wide_of, save_of, save_wide_of, said_save, Saves}
-use Rattle.stream_places.specs.declared.SaveAnswer.{SaveAnswer}
+use Rattle.stream_places.specs.Places.{load_of, load_wide_of, save_of, save_wide_of, Saves}
 use Rattle.field_put.specs.Bytes.{put, Octets}
 use Rattle.stream_prune.specs.Links.{ComesPast}
-use Rattle.stream_drop.specs.Drop.{drop_of, answer_of, said_drop, Drops}
+use Rattle.stream_drop.specs.Drop.{drop_of, answer_of, Drops}
 use Rattle.stream_drop.specs.Sentences.{OldToNew}
-use Rattle.stream_drop.specs.declared.DropAnswer.{DropAnswer}
-use Rattle.stream_report.specs.Report.{Report, add_of, said_report, Reports}
-use Rattle.stream_report.specs.declared.ReportAnswer.{ReportAnswer}
+use Rattle.stream_report.specs.Report.{Report, add_of, Reports}
 use Rattle.answer.specs.Tables.{among}
 use Rattle.declare_type.specs.Nodes.{node_of, list_of}
 use Rattle.declare_type.specs.declared.node.Node.TheVariants as node
-use Rattle.declare_type.specs.declared.node.Arguments.TheVariants as arguments
 use Rattle.declare_type.specs.Steps as declare
 use Rattle.declare_type.specs.declared.step.Around.{Around}
 use Rattle.declare_type.specs.declared.step.Step.TheVariants as step
 use Rattle.declare_type.specs.Walk as declaring
 use Rattle.declare_type.specs.Walk.{stopped, capped}
-use Rattle.declare_type.specs.declared.walk.Measured.TheVariants as measured
-use Rattle.declare_type.specs.Declares.{declare_of, said_declare, Declares}
-use Rattle.declare_type.specs.declared.DeclareAnswer.{DeclareAnswer}
+use Rattle.declare_type.specs.Declares.{declare_of, Declares}
 use Rattle.record_layout.specs.Fields.{read_fields}
 use Rattle.record_layout.specs.Layouts.{Table, type_leaves, member_leaves, method, id_leaves, read_record, record_of}
 use Rattle.record_list.specs.Lists.{start_of, step_of, element_by, element_of}
-use Rattle.record_list.specs.Said.{said_element}
 use Rattle.record_list.specs.declared.ListCursor.{ListCursor}
-use Rattle.record_list.specs.declared.ElementAnswer.{ElementAnswer}
 use Rattle.record_reader.specs.Reader.{Steps}
 use Rattle.record_parse.specs.Record.{parse_of}
 use Rattle.write_layout.specs.Fields.{ToWrite}
 use Rattle.write_layout.specs.Records.{record_bytes, limited, write_record}
 use Rattle.write_layout.specs.Lists.{filled_each, field_list_bytes, method_list_bytes}
 use Rattle.write_layout.specs.Buffer.{Written, lay, Writes}
-use Rattle.write_pieces.specs.Pieces.{pieces_of, said_write}
+use Rattle.write_pieces.specs.Pieces.{pieces_of}
 use Rattle.write_pieces.specs.declared.Piece.{Piece}
-use Rattle.write_pieces.specs.declared.WriteAnswer.{WriteAnswer}
 use Rattle.write_header.specs.Headers.{header_bytes}
 use Rattle.claim_promises.specs.ByTable.{Refuses, FindRefuses}
+use Rattle.record_list.specs.Said.{element_values}
 
 -- a refusal by one of these numbers
 abbrev pub OneOf : List ℕ → Refusal → Type 0
@@ -146,12 +135,12 @@ pub record Demand1 : Type 0 where
   -- and its parts: what a type and an argument list are, what a type adds, the walk with any number of types left to nest, and that walk in a room. That
   -- each is one of these is all there is to say: every refusal is a line of the table, by `table`
   pub nodes : (s : List ℕ) (σ : State) (i : ℕ) (e : Refusal) → node_of s σ i ≡ node.Refused e → OneOf (16 ∷ 26 ∷ 13 ∷ 8 ∷ 9 ∷ 1 ∷ 11 ∷ 12 ∷ 24 ∷ []) e
-  pub argument_lists : (s : List ℕ) (σ : State) (i : ℕ) (e : Refusal) → list_of s σ i ≡ arguments.Refused e → OneOf (16 ∷ 26 ∷ 13 ∷ 8 ∷ 9 ∷ 1 ∷ 11 ∷ 12 ∷ 24 ∷ []) e
+  pub argument_lists : (s : List ℕ) (σ : State) (i : ℕ) (e : Refusal) → list_of s σ i ≡ Err e → OneOf (16 ∷ 26 ∷ 13 ∷ 8 ∷ 9 ∷ 1 ∷ 11 ∷ 12 ∷ 24 ∷ []) e
   pub declaration_steps : (s : List ℕ) (σ : State) (i : ℕ) (a : Around) (e : Refusal) → declare.inward_step s σ i a ≡ step.Refused e
       → OneOf (16 ∷ 26 ∷ 13 ∷ 8 ∷ 9 ∷ 1 ∷ 11 ∷ 12 ∷ 24 ∷ []) e
   pub declaration_walks : (s : List ℕ) (σ : State) (left i : ℕ) (a : Around) (k : ℕ) (e : Refusal) → declaring.walk s σ left i a ≡ stopped k e
       → OneOf (16 ∷ 26 ∷ 13 ∷ 8 ∷ 9 ∷ 1 ∷ 11 ∷ 12 ∷ 23 ∷ 24 ∷ []) e
-  pub declarators : (room : ℕ) (s : List ℕ) (σ : State) (left i : ℕ) (a : Around) (e : Refusal) → capped room (declaring.walk s σ left i a) ≡ measured.Refused e
+  pub declarators : (room : ℕ) (s : List ℕ) (σ : State) (left i : ℕ) (a : Around) (e : Refusal) → capped room (declaring.walk s σ left i a) ≡ Err e
       → OneOf (19 ∷ 16 ∷ 26 ∷ 13 ∷ 8 ∷ 9 ∷ 1 ∷ 11 ∷ 12 ∷ 23 ∷ 24 ∷ []) e
   -- records, members, methods, and entries of a stream
   pub types : (s : List ℕ) → Refuses (1 ∷ 10 ∷ 11 ∷ 12 ∷ []) (record_of type_leaves s)
@@ -178,42 +167,42 @@ pub record Demand1 : Type 0 where
   -- ---- "all lent memory stays unchanged": where the function's answer r is a refusal, what was lent is after the call what it was before
 
   -- the table, lent to creation with any shift, to `update` by value, to a turn and to a walk
-  pub create_keeps : (shift : ℕ) (s t : List ℕ) (r : FinderAnswer) (t' : List ℕ) (n : ℕ) (d : List ℕ) → Fills t (create_by shift s t) r t' → said_finder r ≡ refused n d → t' ≡ t
-  pub begin_keeps : (shift : ℕ) (t : List ℕ) (records : Records) (r : FinderAnswer) (t' : List ℕ) (n : ℕ) (d : List ℕ) → Fills t (begun_in shift t records) r t' → said_finder r ≡ refused n d → t' ≡ t
-  pub update_keeps : (f : ItemFinder) (t : List ℕ) (c : ItemIter) (r : FinderAnswer) (t' : List ℕ) (n : ℕ) (d : List ℕ)
-      → Fills t (update_of (state f t) c) r t' → said_finder r ≡ refused n d → t' ≡ t
+  pub create_keeps : (shift : ℕ) (s t : List ℕ) (r : Result ItemFinder Refusal) (t' : List ℕ) (n : ℕ) (d : List ℕ) → Fills t (create_by shift s t) r t' → said itself r ≡ refused n d → t' ≡ t
+  pub begin_keeps : (shift : ℕ) (t : List ℕ) (records : Records) (r : Result ItemFinder Refusal) (t' : List ℕ) (n : ℕ) (d : List ℕ) → Fills t (begun_in shift t records) r t' → said itself r ≡ refused n d → t' ≡ t
+  pub update_keeps : (f : ItemFinder) (t : List ℕ) (c : ItemIter) (r : Result ItemFinder Refusal) (t' : List ℕ) (n : ℕ) (d : List ℕ)
+      → Fills t (update_of (state f t) c) r t' → said itself r ≡ refused n d → t' ≡ t
   -- the table, lent to `load`, and the buffer, lent to `save`
-  pub load_keeps : (s f t : List ℕ) (r : FinderAnswer) (t' : List ℕ) (n : ℕ) (d : List ℕ) → Fills t (load_of s f t) r t' → said_finder r ≡ refused n d → t' ≡ t
-  pub save_keeps : (s : List ℕ) (σ : State) (o : List ℕ) (r : SaveAnswer) (o' : List ℕ) (n : ℕ) (d : List ℕ)
-      → Saves o (save_of s σ (length o)) r o' → said_save r ≡ refused n d → o' ≡ o
-  pub wide_load_keeps : (s f t : List ℕ) (r : FinderAnswer) (t' : List ℕ) (n : ℕ) (d : List ℕ) → Fills t (load_wide_of s f t) r t' → said_finder r ≡ refused n d → t' ≡ t
-  pub wide_save_keeps : (s : List ℕ) (σ : State) (o : List ℕ) (r : SaveAnswer) (o' : List ℕ) (n : ℕ) (d : List ℕ)
-      → Saves o (save_wide_of s σ (length o)) r o' → said_save r ≡ refused n d → o' ≡ o
+  pub load_keeps : (s f t : List ℕ) (r : Result ItemFinder Refusal) (t' : List ℕ) (n : ℕ) (d : List ℕ) → Fills t (load_of s f t) r t' → said itself r ≡ refused n d → t' ≡ t
+  pub save_keeps : (s : List ℕ) (σ : State) (o : List ℕ) (r : Result ℕ Refusal) (o' : List ℕ) (n : ℕ) (d : List ℕ)
+      → Saves o (save_of s σ (length o)) r o' → said itself r ≡ refused n d → o' ≡ o
+  pub wide_load_keeps : (s f t : List ℕ) (r : Result ItemFinder Refusal) (t' : List ℕ) (n : ℕ) (d : List ℕ) → Fills t (load_wide_of s f t) r t' → said itself r ≡ refused n d → t' ≡ t
+  pub wide_save_keeps : (s : List ℕ) (σ : State) (o : List ℕ) (r : Result ℕ Refusal) (o' : List ℕ) (n : ℕ) (d : List ℕ)
+      → Saves o (save_wide_of s σ (length o)) r o' → said itself r ≡ refused n d → o' ≡ o
   -- the table, lent to `add`
-  pub add_keeps : (ρ : Report) (s t : List ℕ) (r : ReportAnswer) (t' : List ℕ) (n : ℕ) (d : List ℕ) → Reports t (add_of ρ s) r t' → said_report r ≡ refused n d → t' ≡ t
+  pub add_keeps : (ρ : Report) (s t : List ℕ) (r : Result Totals Refusal) (t' : List ℕ) (n : ℕ) (d : List ℕ) → Reports t (add_of ρ s) r t' → said itself r ≡ refused n d → t' ≡ t
   -- the buffer, lent to any writer: w is what its definition answers
-  pub write_keeps : (o : List ℕ) (w : Answer Written) (r : WriteAnswer) (o' : List ℕ) (n : ℕ) (d : List ℕ) → Writes o w (said_write r) o' → said_write r ≡ refused n d → o' ≡ o
+  pub write_keeps : (o : List ℕ) (w : Answer Written) (r : Result ℕ Refusal) (o' : List ℕ) (n : ℕ) (d : List ℕ) → Writes o w (said itself r) o' → said itself r ≡ refused n d → o' ≡ o
   -- the buffer, lent to `declare`
-  pub declare_keeps : (s : List ℕ) (σ : State) (i : ℕ) (o : List ℕ) (r : DeclareAnswer) (o' : List ℕ) (n : ℕ) (d : List ℕ)
-      → Declares (declare_of s σ i (length o)) o r o' → said_declare r ≡ refused n d → o' ≡ o
-  pub turn_keeps : (s : List ℕ) (f : ItemFinder) (t : List ℕ) (c : ItemIter) (r : TurnAnswer) (t' : List ℕ) (n : ℕ) (d : List ℕ)
+  pub declare_keeps : (s : List ℕ) (σ : State) (i : ℕ) (o : List ℕ) (r : Result ℕ Refusal) (o' : List ℕ) (n : ℕ) (d : List ℕ)
+      → Declares (declare_of s σ i (length o)) o r o' → said itself r ≡ refused n d → o' ≡ o
+  pub turn_keeps : (s : List ℕ) (f : ItemFinder) (t : List ℕ) (c : ItemIter) (r : Result (Option (ItemFinder × ItemIter)) Refusal) (t' : List ℕ) (n : ℕ) (d : List ℕ)
       → Leads t (turn_of s (state f t) c) r t' → said_turn r t' ≡ refused n d → t' ≡ t
-  pub index_all_keeps : (shift : ℕ) (tag : Stream) (s t : List ℕ) (e : Refusal) (t' : List ℕ) → IndexesBy shift tag s t (walk.Refused e) t' → t' ≡ t
+  pub index_all_keeps : (shift : ℕ) (tag : Stream) (s t : List ℕ) (e : Refusal) (t' : List ℕ) → IndexesBy shift tag s t (Err e) t' → t' ≡ t
   -- a walk that ends in a refusal is answered, and says so: the turns before it have stored their places, and the turn that was refused has changed
   -- nothing. It is the next turn from where the walk stands, and can be tried again, with a longer table for example
   pub index_on_keeps : (s : List ℕ) (f : ItemFinder) (t : List ℕ) (c : ItemIter) (r : Tour) (t' : List ℕ) (e : Refusal)
-      → Walks s c (state f t) r t' → r.end ≡ end.Refused e → turn_of s (state r.finder t') r.cursor ≡ no e
+      → Walks s c (state f t) r t' → r.end ≡ Err e → turn_of s (state r.finder t') r.cursor ≡ no e
   -- finder and table, lent to `update` in place
-  pub lent_update_keeps : (σ : State) (c : ItemIter) (r : UpdateAnswer) (τ : State) (n : ℕ) (d : List ℕ) → Updates σ c r τ → said_update r ≡ refused n d → τ ≡ σ
+  pub lent_update_keeps : (σ : State) (c : ItemIter) (r : Result Unit Refusal) (τ : State) (n : ℕ) (d : List ℕ) → Updates σ c r τ → said itself r ≡ refused n d → τ ≡ σ
   -- the list reader, lent to its step: its bytes stay by the contract itself
-  pub step_keeps : (s : List ℕ) (c : ListCursor) (r : ElementAnswer) (c' : ListCursor) (n : ℕ) (d : List ℕ) → Steps c (step_of s c) r c' → said_element r ≡ refused n d → c' ≡ c
+  pub step_keeps : (s : List ℕ) (c : ListCursor) (r : Result Element Refusal) (c' : ListCursor) (n : ℕ) (d : List ℕ) → Steps c (step_of s c) r c' → said element_values r ≡ refused n d → c' ≡ c
   -- the buffer, lent to `drop`; and the table, after every refusal but two
-  pub drop_keeps_buffer : (s roots t b : List ℕ) (r : DropAnswer) (t' b' : List ℕ) (n : ℕ) (d : List ℕ)
-      → Drops t b (drop_of s roots (length t) (length b)) r t' b' → said_drop r ≡ refused n d → b' ≡ b
-  pub drop_keeps_table : (s roots t b : List ℕ) (r : DropAnswer) (t' b' : List ℕ) (n : ℕ) (d : List ℕ)
-      → Drops t b (drop_of s roots (length t) (length b)) r t' b' → said_drop r ≡ refused n d → among n (30 ∷ 19 ∷ []) ≡ false → t' ≡ t
+  pub drop_keeps_buffer : (s roots t b : List ℕ) (r : Result ℕ Refusal) (t' b' : List ℕ) (n : ℕ) (d : List ℕ)
+      → Drops t b (drop_of s roots (length t) (length b)) r t' b' → said itself r ≡ refused n d → b' ≡ b
+  pub drop_keeps_table : (s roots t b : List ℕ) (r : Result ℕ Refusal) (t' b' : List ℕ) (n : ℕ) (d : List ℕ)
+      → Drops t b (drop_of s roots (length t) (length b)) r t' b' → said itself r ≡ refused n d → among n (30 ∷ 19 ∷ []) ≡ false → t' ≡ t
   -- ---- the one exception. Document 02, R-13: "the output is unchanged, the table too except after 30 and 19, when it holds old to new (demand 1 excepts
   -- this)". After these two the table's first entries hold old to new, and the rest of it is as it was
 
-  pub drop_excepted : (s roots t b : List ℕ) (r : DropAnswer) (t' b' : List ℕ) (n : ℕ) (d : List ℕ)
-      → Drops t b (drop_of s roots (length t) (length b)) r t' b' → said_drop r ≡ refused n d → among n (30 ∷ 19 ∷ []) ≡ true → HoldsOldToNew s roots t t'
+  pub drop_excepted : (s roots t b : List ℕ) (r : Result ℕ Refusal) (t' b' : List ℕ) (n : ℕ) (d : List ℕ)
+      → Drops t b (drop_of s roots (length t) (length b)) r t' b' → said itself r ≡ refused n d → among n (30 ∷ 19 ∷ []) ≡ true → HoldsOldToNew s roots t t'

@@ -1,6 +1,5 @@
 -- R-5 of document 02: the length of an array is printed whole, whatever it is.
-use Rattle.std.specs.Prelude.{ℕ, ◌+◌, ◌-◌, ◌*◌, ◌≤◌, ◌<◌, ◌≡◌, List, [], ◌∷◌}
-use Rattle.declare_spelling.specs.declared.Extent.TheVariants as extent
+use Rattle.std.specs.Prelude.{Some, ℕ, ◌+◌, ◌-◌, ◌*◌, ◌≤◌, ◌<◌, ◌≡◌, List, [], ◌∷◌}
 use Rattle.declare_type.specs.Tokens.{extent_text}
 
 -- the number that digits say, with a before them
@@ -27,4 +26,4 @@ pub record InDecimal (n : ℕ) (text : List ℕ) : Type 0 where
 
 -- of every number of 64 bits
 abbrev pub LengthsShown : Type 0
-LengthsShown = (n : ℕ) → n ≤ 18446744073709551615 → InDecimal n (extent_text (extent.Known n))
+LengthsShown = (n : ℕ) → n ≤ 18446744073709551615 → InDecimal n (extent_text (Some n))

@@ -1,8 +1,7 @@
 -- "Given exactly when" of a stream's entries: what one says, its view, its raw kind, and a turn. "A type item below 0x1000 is read as a primitive; any
 -- other type item, and every id item, by its bytes, the marker's giving 10 with 0xffff." When each is 16 is said in ExactlyWhen.antt.
 -- `Given n d a P` (Given.antt): a is refused by n exactly when P, and then with the details d; where P is ⊥, it is never refused by n.
-use Rattle.std.specs.Prelude.{ℕ, ◌+◌, ◌/◌, ◌%◌, ◌^◌, ◌≤◌, ◌<◌, ◌≡◌, ◌⊎◌, List, [], ◌∷◌, length}
-use Rattle.std.proofs.Math.Option.{none}
+use Rattle.std.specs.Prelude.{None, ℕ, ◌+◌, ◌/◌, ◌%◌, ◌^◌, ◌≤◌, ◌<◌, ◌≡◌, ◌⊎◌, List, [], ◌∷◌, length}
 use Rattle.answer.specs.Answer.{answered}
 use Rattle.answer.specs.Tables.{find}
 use Rattle.field.specs.Fields.{little_at}
@@ -34,7 +33,7 @@ OfNumber (index.Types i) = i.0 < 0x1000
 OfNumber (index.Ids i) = ⊥
 
 abbrev pub NoPrimitive : ℕ → Type 0
-NoPrimitive i = (0x1000 ≤ i) ⊎ (8 ≤ i / 2 ^ 8 % 2 ^ 4) ⊎ (find (i % 2 ^ 8) kinds ≡ none)
+NoPrimitive i = (0x1000 ≤ i) ⊎ (8 ≤ i / 2 ^ 8 % 2 ^ 4) ⊎ (find (i % 2 ^ 8) kinds ≡ None)
 
 -- the leaves that an item's reader takes, by its stream, and the bytes that it reads
 abbrev pub leaves_for : ItemIndex → Table
@@ -56,7 +55,7 @@ pub record EntriesWhen : Type 0 where
       ⊎ (Whole t p i × ((length (payload t p i) < 2) ⊎ AtLeaf CutField (leaves_for i.index) (payload t p i) 0))))
   -- 10, with the leaf; 11; 12
   pub items_10 : (t p : List ℕ) (i : Item) → Given 10 (little_at 2 (payload t p i) 0 ∷ []) (parse_of t p (entry.Record i))
-      (Short t p × (Whole t p i × ((2 ≤ length (payload t p i)) × (find (little_at 2 (payload t p i) 0) (leaves_for i.index) ≡ none))))
+      (Short t p × (Whole t p i × ((2 ≤ length (payload t p i)) × (find (little_at 2 (payload t p i) 0) (leaves_for i.index) ≡ None))))
   pub items_11 : (t p : List ℕ) (i : Item) → Given 11 [] (parse_of t p (entry.Record i)) (Short t p × (Whole t p i × AtLeaf BadField (leaves_for i.index) (payload t p i) 0))
   pub items_12 : (t p : List ℕ) (i : Item) → Given 12 [] (parse_of t p (entry.Record i)) (Short t p × (Whole t p i × AtLeaf FailingField (leaves_for i.index) (payload t p i) 0))
   -- 8 of an item and of the marker, with the index: it is to be a primitive and is none

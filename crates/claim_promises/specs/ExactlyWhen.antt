@@ -2,8 +2,7 @@
 -- is given, and the values of its details. `Given n d a P` (Given.antt): a is refused by n exactly when P, and then with the details d.
 --
 -- Where a definition is another one carried on, its refusals are said to be that one's.
-use Rattle.std.specs.Prelude.{ℕ, ◌+◌, ◌-◌, ◌*◌, ◌/◌, ◌%◌, ◌^◌, ◌≤◌, ◌<◌, true, false, ◌≡◌, ◌⊎◌, List, [], ◌∷◌, ℤ, pos, negsuc, length, get_or}
-use Rattle.std.proofs.Math.Option.{none, some}
+use Rattle.std.specs.Prelude.{None, Some, ℕ, ◌+◌, ◌-◌, ◌*◌, ◌/◌, ◌%◌, ◌^◌, ◌≤◌, ◌<◌, true, false, ◌≡◌, ◌⊎◌, List, [], ◌∷◌, ℤ, pos, negsuc, length, get_or}
 use Rattle.answer.specs.Answer.{Answer, answered, refused, pick, Read, got}
 use Rattle.answer.specs.Tables.{find, among}
 use Rattle.field.specs.Fields.{little_at, fixed_at, signed_at}
@@ -155,19 +154,19 @@ pub record ExactlyWhen : Type 0 where
   -- 8, not found, with the index: "lookup above maximum_index; unknown primitive; the marker's view"
   pub finds_8 : (s : List ℕ) (σ : State) (i : ItemIndex) → Given 8 (index_number i ∷ []) (find_of s σ i)
       (Usable s σ × (σ.finder.minimum_index ≤ index_number i) × (σ.finder.maximum_index < index_number i))
-  pub primitives_8 : (i : ℕ) → Given 8 (i ∷ []) (primitive_of i) ((0x1000 ≤ i) ⊎ (8 ≤ i / 2 ^ 8 % 2 ^ 4) ⊎ (find (i % 2 ^ 8) kinds ≡ none))
+  pub primitives_8 : (i : ℕ) → Given 8 (i ∷ []) (primitive_of i) ((0x1000 ≤ i) ⊎ (8 ≤ i / 2 ^ 8 % 2 ^ 4) ⊎ (find (i % 2 ^ 8) kinds ≡ None))
   pub views_8 : (t p : List ℕ) (i : ItemIndex) → Given 8 (index_number i ∷ []) (view_of t p (entry.Marker i)) (Short t p)
   -- 9, not indexed, with the index and the highest indexed: its block is no held place
   pub finds_9 : (s : List ℕ) (σ : State) (i : ItemIndex) → Given 9 (index_number i ∷ max_index_of σ.finder ∷ []) (find_of s σ i)
       (Usable s σ × InBounds σ (index_number i) × (σ.finder.held ≤ block σ (index_number i)))
   -- 10, leaf unknown, with the leaf: "leaf not among those this reader takes", of a record by any table, of a member, of a list
-  pub records_10 : (table : Table) (s : List ℕ) → Given 10 (little_at 2 s 0 ∷ []) (record_of table s) ((2 ≤ length s) × (find (little_at 2 s 0) table ≡ none))
-  pub members_10 : (table : Table) (s : List ℕ) (p : ℕ) → Given 10 (little_at 2 s p ∷ []) (read_record table s p) ((p + 2 ≤ length s) × (find (little_at 2 s p) table ≡ none))
+  pub records_10 : (table : Table) (s : List ℕ) → Given 10 (little_at 2 s 0 ∷ []) (record_of table s) ((2 ≤ length s) × (find (little_at 2 s 0) table ≡ None))
+  pub members_10 : (table : Table) (s : List ℕ) (p : ℕ) → Given 10 (little_at 2 s p ∷ []) (read_record table s p) ((p + 2 ≤ length s) × (find (little_at 2 s p) table ≡ None))
   pub type_lists_10 : (s : List ℕ) → Given 10 (little_at 2 s 0 ∷ []) (start_of stream.Types s)
       ((2 ≤ length s) × (among (little_at 2 s 0) (0x1201 ∷ 0x1206 ∷ 0x1203 ∷ []) ≡ false))
   pub id_lists_10 : (s : List ℕ) → Given 10 (little_at 2 s 0 ∷ []) (start_of stream.Ids s) ((2 ≤ length s) × (among (little_at 2 s 0) (0x1603 ∷ 0x1604 ∷ []) ≡ false))
   -- 11, number bad: "numeric prefix unknown, or negative where a size or offset is wanted"
-  pub numbers_11 : (s : List ℕ) (p : ℕ) → Given 11 [] (numeral_at s p) ((p + 2 ≤ length s) × (0x8000 ≤ little_at 2 s p) × (find (little_at 2 s p) prefixes ≡ none))
+  pub numbers_11 : (s : List ℕ) (p : ℕ) → Given 11 [] (numeral_at s p) ((p + 2 ≤ length s) × (0x8000 ≤ little_at 2 s p) × (find (little_at 2 s p) prefixes ≡ None))
   pub sizes_11 : (s : List ℕ) (p : ℕ) → Given 11 [] (sized_at s p) ((numeric_at s p ≡ refused 11 []) ⊎ Negative (numeric_at s p))
   -- 12, pointer word: "kind 13 to 31 where the kind is needed, mode 5 to 7 where the mode is"
   pub kinds_12 : (w : ℕ) → Given 12 [] (kind_of w) (13 ≤ bits 0 4 w)
@@ -213,7 +212,7 @@ pub record ExactlyWhen : Type 0 where
   -- in their order; an element by the steps to it
   pub turns_next : (s : List ℕ) (σ : State) (c : ItemIter) (n : ℕ) (d : List ℕ) → next_of s c ≡ refused n d → turn_of s σ c ≡ refused n d
   pub turns_update : (s : List ℕ) (σ : State) (c : ItemIter) (i : Item) (c' : ItemIter) → next_of s c ≡ answered (yielded i c') → refusal_of (turn_of s σ c) ≡ refusal_of (update_of σ c')
-  pub records_fields : (table : Table) (s : List ℕ) (fs : Layout) → 2 ≤ length s → find (little_at 2 s 0) table ≡ some fs → refusal_of (record_of table s) ≡ refusal_of (read_fields fs 0 s 2)
+  pub records_fields : (table : Table) (s : List ℕ) (fs : Layout) → 2 ≤ length s → find (little_at 2 s 0) table ≡ Some fs → refusal_of (record_of table s) ≡ refusal_of (read_fields fs 0 s 2)
   pub fields_first : (f : Field) (fs : Layout) (w : ℕ) (s : List ℕ) (p n : ℕ) (d : List ℕ) → read_field f w s p ≡ refused n d → read_fields (f ∷ fs) w s p ≡ refused n d
   pub fields_later : (f : Field) (fs : Layout) (w : ℕ) (s : List ℕ) (p : ℕ) (v : Shown) (q : ℕ) → read_field f w s p ≡ got v q
       → refusal_of (read_fields (f ∷ fs) w s p) ≡ refusal_of (read_fields fs (word_after f v w) s q)

@@ -1,6 +1,5 @@
 -- "Given exactly when", the third column of document 01's table of numbers, as a word: a number is given exactly when.
-use Rattle.std.specs.Prelude.{ℕ, Bool, true, false, ◌≡◌, List, eqb}
-use Rattle.std.proofs.Math.Option.{Option, none, some}
+use Rattle.std.specs.Prelude.{Option, None, Some, ℕ, Bool, true, false, ◌≡◌, List, eqb}
 use Rattle.answer.specs.Answer.{Answer, answered, refused}
 use Rattle.answer.specs.Tables.{among}
 
@@ -21,5 +20,5 @@ pub record RefusedAs (ns : List ℕ) {A B : Type 0} (a : Answer A) (b : Answer B
 
 -- why an answer is refused, if it is
 abbrev pub refusal_of : {A : Type 0} → Answer A → Option (ℕ × List ℕ)
-refusal_of (answered a) = none
-refusal_of (refused n d) = some (n, d)
+refusal_of (answered a) = None
+refusal_of (refused n d) = Some (n, d)

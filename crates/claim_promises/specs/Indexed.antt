@@ -1,7 +1,7 @@
 -- A stream indexed whole, by `index_all_by` of crates/stream_index: demand 3 holds of the finder and the table that it leaves, however its walk ended, N being
 -- the records that were walked; and of what is then saved and loaded, each lookup is what it was. Of a section it is `indexed` of
 -- crates/section_finder/specs/Demand.antt.
-use Rattle.std.specs.Prelude.{ℕ, ◌+◌, ◌-◌, ◌/◌, ◌^◌, ◌≤◌, ◌<◌, ◌≡◌, List, length, take, ltb, eqb}
+use Rattle.std.specs.Prelude.{Ok, ℕ, ◌+◌, ◌-◌, ◌/◌, ◌^◌, ◌≤◌, ◌<◌, ◌≡◌, List, length, take, ltb, eqb}
 use Rattle.answer.specs.Answer.{Answer, answered}
 use Rattle.field.specs.Indices.{index_in}
 use Rattle.field.specs.declared.index.Stream.{Stream}
@@ -13,7 +13,6 @@ use Rattle.stream_finder.specs.Demand.{Premises, looked, number_given}
 use Rattle.stream_finder.specs.Shared.{Serves}
 use Rattle.stream_index.specs.Walk.{IndexesBy}
 use Rattle.stream_index.specs.declared.Tour.{Tour}
-use Rattle.stream_index.specs.declared.IndexAnswer.TheVariants as walk
 use Rattle.stream_places.specs.Places.{load_of, load_wide_of, save_of, save_wide_of, file_buffer_after}
 
 -- the records that a tour has walked: as many as its cursor is above the minimum
@@ -49,5 +48,5 @@ unfoldable pub StreamsIndexed : Type 0
 StreamsIndexed =
     (shift : ℕ) (tag : Stream) (s t : List ℕ) (h : Header) (r : Tour) (t' : List ℕ)
     → header_of s ≡ answered h
-    → IndexesBy shift tag s t (walk.Answered r) t'
+    → IndexesBy shift tag s t (Ok r) t'
     → Indexed shift tag s h t r t'

@@ -1,8 +1,7 @@
 -- "Given exactly when" of lists: where one starts, a step from any cursor, and element k. "A counted list is 1 unless four bytes per element are there."
 -- "Element k is read after those before it and their padding, the first refusal given, 15 if the list ends first; a leaf without a list is 10."
 -- `Given n d a P` (Given.antt): a is refused by n exactly when P, and then with the details d.
-use Rattle.std.specs.Prelude.{ℕ, suc, ◌+◌, ◌*◌, ◌≤◌, ◌<◌, true, false, ◌≡◌, ◌⊎◌, List, [], ◌∷◌, length, eqb}
-use Rattle.std.proofs.Math.Option.{none}
+use Rattle.std.specs.Prelude.{None, ℕ, suc, ◌+◌, ◌*◌, ◌≤◌, ◌<◌, true, false, ◌≡◌, ◌⊎◌, List, [], ◌∷◌, length, eqb}
 use Rattle.answer.specs.Answer.{Answer, answered, refused, pick}
 use Rattle.answer.specs.Tables.{find, among}
 use Rattle.field.specs.Fields.{little_at}
@@ -58,7 +57,7 @@ CutElement s c =
 
 -- 10: the next member's leaf is no member's, or the cursor's own leaf is no list's
 abbrev pub UnknownMember : List ℕ → ListCursor → Type 0
-UnknownMember s c = AtMember s c × (member_place s c + 2 ≤ length s) × (find (little_at 2 s (member_place s c)) member_leaves ≡ none)
+UnknownMember s c = AtMember s c × (member_place s c + 2 ≤ length s) × (find (little_at 2 s (member_place s c)) member_leaves ≡ None)
 
 abbrev pub leaf_met : List ℕ → ListCursor → ℕ
 leaf_met s c = pick (eqb c.leaf 0x1203) (little_at 2 s (member_place s c)) c.leaf

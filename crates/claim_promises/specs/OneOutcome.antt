@@ -5,9 +5,12 @@ use Rattle.std.specs.Prelude.{Bool, List, ℕ, ◌≡◌}
 use Rattle.answer.specs.declared.Refusal.{Refusal}
 use Rattle.declare_spelling.specs.declared.Quals.{Quals}
 use Rattle.field.specs.declared.index.IdIndex.{IdIndex}
+use Rattle.field.specs.declared.index.Index as index_trait
 use Rattle.field.specs.declared.index.ItemIndex.{ItemIndex}
+use Rattle.field.specs.declared.index.OptionalIndex as optional_index_trait
 use Rattle.field.specs.declared.index.Stream.{Stream}
 use Rattle.field.specs.declared.index.TypeIndex.{TypeIndex}
+use Rattle.field.specs.declared.reader.Reader.{Reader}
 use Rattle.field_text.specs.declared.RawString.{RawString}
 use Rattle.record_data.specs.declared.TypeData.{TypeData}
 use Rattle.record_id.specs.declared.IdData.{IdData}
@@ -18,6 +21,7 @@ use Rattle.record_member.specs.declared.MethodListEntry.{MethodListEntry}
 use Rattle.record_reader.specs.declared.ListReader.{ListReader}
 use Rattle.stream_finder.specs.declared.ItemFinder.{ItemFinder}
 use Rattle.stream_finder.specs.declared.Records.{Records}
+use Rattle.stream_fit.specs.declared.Rule.{Rule}
 use Rattle.stream_header.specs.declared.Header.{Header}
 use Rattle.stream_index.specs.declared.Tour.{Tour}
 use Rattle.stream_item.specs.declared.Entry.{Entry}
@@ -80,11 +84,24 @@ pub record OneOutcome : Type 1 where
   pub field_index_string_ref_at : (s : List ℕ) (p : ℕ) → Once (contract.FieldIndexStringRefAt s p)
   pub field_index_optional_type_at : (s : List ℕ) (p : ℕ) → Once (contract.FieldIndexOptionalTypeAt s p)
   pub field_index_optional_id_at : (s : List ℕ) (p : ℕ) → Once (contract.FieldIndexOptionalIdAt s p)
+  pub field_index_type_index_index_from_number : (n : ℕ) → Once (contract.FieldIndexTypeIndexIndexFromNumber n)
+  pub field_index_id_index_index_from_number : (n : ℕ) → Once (contract.FieldIndexIdIndexIndexFromNumber n)
+  pub field_index_string_ref_index_from_number : (n : ℕ) → Once (contract.FieldIndexStringRefIndexFromNumber n)
+  pub field_index_type_index_optional_index_or_none : (self : TypeIndex) → Once (contract.FieldIndexTypeIndexOptionalIndexOrNone self)
+  pub field_index_id_index_optional_index_or_none : (self : IdIndex) → Once (contract.FieldIndexIdIndexOptionalIndexOrNone self)
+  pub field_reader_reader_u8 : (self : Reader) → OnceLent (contract.FieldReaderReaderU8 self)
+  pub field_reader_reader_u16 : (self : Reader) → OnceLent (contract.FieldReaderReaderU16 self)
+  pub field_reader_reader_u32 : (self : Reader) → OnceLent (contract.FieldReaderReaderU32 self)
+  pub field_reader_reader_skip : (self : Reader) (n : ℕ) → OnceLent (contract.FieldReaderReaderSkip self n)
+  pub field_reader_reader_index : {I : Type 0} (the_index : index_trait.Ghosts I) (self : Reader) → ((n : ℕ) → the_index.counts (the_index.counted n) ≡ n) → ((i : I) → the_index.counted (the_index.counts i) ≡ i) → OnceLent (contract.FieldReaderReaderIndex the_index self)
+  pub field_reader_reader_optional : {I : Type 0} (the_optional_index : optional_index_trait.Ghosts I) (the_index : index_trait.Ghosts I) (self : Reader) → ((n : ℕ) → the_index.counts (the_index.counted n) ≡ n) → ((i : I) → the_index.counted (the_index.counts i) ≡ i) → OnceLent (contract.FieldReaderReaderOptional the_optional_index the_index self)
   pub field_run_after_bytes : (s : List ℕ) (p : ℕ) (n : ℕ) → Once (contract.FieldRunAfterBytes s p n)
   pub field_run_bytes_at : (s : List ℕ) (p : ℕ) (n : ℕ) → Once (contract.FieldRunBytesAt s p n)
   -- field_number
   pub field_number_number_at : (s : List ℕ) (p : ℕ) → Once (contract.FieldNumberNumberAt s p)
   pub field_number_size_at : (s : List ℕ) (p : ℕ) → Once (contract.FieldNumberSizeAt s p)
+  pub field_number_read_number : (r : Reader) → OnceLent (contract.FieldNumberReadNumber r)
+  pub field_number_read_size : (r : Reader) → OnceLent (contract.FieldNumberReadSize r)
   -- field_put
   pub field_put_put8 : (out : List ℕ) (p : ℕ) (x : ℕ) → OnceLent (contract.FieldPutPut8 out p x)
   pub field_put_put16 : (out : List ℕ) (p : ℕ) (x : ℕ) → OnceLent (contract.FieldPutPut16 out p x)
@@ -92,6 +109,7 @@ pub record OneOutcome : Type 1 where
   pub field_put_put_all : (out : List ℕ) (p : ℕ) (xs : List ℕ) → OnceLent (contract.FieldPutPutAll out p xs)
   -- field_text
   pub field_text_string_at : (s : List ℕ) (p : ℕ) → Once (contract.FieldTextStringAt s p)
+  pub field_text_read_string : (r : Reader) → OnceLent (contract.FieldTextReadString r)
   pub field_text_raw_string_bytes : (self : RawString) (s : List ℕ) → Once (contract.FieldTextRawStringBytes self s)
   pub field_text_string_of : (leaf : ℕ) (s : List ℕ) (p : ℕ) → Once (contract.FieldTextStringOf leaf s p)
   pub field_text_after_padding : (s : List ℕ) (p : ℕ) → Once (contract.FieldTextAfterPadding s p)
@@ -120,6 +138,7 @@ pub record OneOutcome : Type 1 where
   -- pane_out
   pub pane_out_first : (e : Refusal) → Once (contract.PaneOutFirst e)
   pub pane_out_second : (e : Refusal) → Once (contract.PaneOutSecond e)
+  pub pane_out_refused : (e : Refusal) (out : List ℕ) → OnceLent (contract.PaneOutRefused e out)
   pub pane_out_is_set : (n : ℕ) → Once (contract.PaneOutIsSet n)
   pub pane_out_flag : (b : Bool) → Once (contract.PaneOutFlag b)
   -- pane_parse
@@ -147,6 +166,9 @@ pub record OneOutcome : Type 1 where
   pub pane_section_pdb_section_stream : (s : List ℕ) (buffer : List ℕ) → OnceLentTwo (contract.PaneSectionPdbSectionStream s buffer)
   pub pane_section_pdb_section_list : (s : List ℕ) → OnceLent (contract.PaneSectionPdbSectionList s)
   -- pane_state
+  pub pane_state_cursor_given : (at : ℕ) (index : ℕ) → Once (contract.PaneStateCursorGiven at index)
+  pub pane_state_finder_given : (minimum : ℕ) (maximum : ℕ) (held : ℕ) (shift : ℕ) → Once (contract.PaneStateFinderGiven minimum maximum held shift)
+  pub pane_state_finder_out : (f : ItemFinder) → Once (contract.PaneStateFinderOut f)
   pub pane_state_walk_out : (t : Tour) → Once (contract.PaneStateWalkOut t)
   pub pane_state_entry_of : (ids : ℕ) (item : ℕ) (index : ℕ) (place : ℕ) (length : ℕ) → Once (contract.PaneStateEntryOf ids item index place length)
   -- pane_word
@@ -225,6 +247,7 @@ pub record OneOutcome : Type 1 where
   pub stream_finder_find_id : (s : List ℕ) (f : ItemFinder) (t : List ℕ) (i : IdIndex) → Once (contract.StreamFinderFindId s f t i)
   pub stream_finder_lent_item_finder_update : (self : ItemFinder) (t : List ℕ) (c : ItemIter) → OnceLentTwo (contract.StreamFinderLentItemFinderUpdate self t c)
   -- stream_fit
+  pub stream_fit_rule_number : (self : Rule) → Once (contract.StreamFitRuleNumber self)
   pub stream_fit_fit : (s : List ℕ) → Once (contract.StreamFitFit s)
   -- stream_header
   pub stream_header_header_parse : (s : List ℕ) → Once (contract.StreamHeaderHeaderParse s)

@@ -1,8 +1,7 @@
 -- "Given exactly when" of what reads a record: numbers, strings, fields of each kind, layouts, records by any table, lists and their elements.
 -- "Fields are read in order, the first refusal is given": a record is refused as that field of its layout is which is the first to be refused.
 -- `Given n d a P` (Given.antt): a is refused by n exactly when P, and then with the details d; where P is ⊥, it is never refused by n.
-use Rattle.std.specs.Prelude.{ℕ, ◌+◌, ◌≤◌, ◌<◌, true, false, ◌≡◌, ◌⊎◌, List, [], ◌∷◌, length}
-use Rattle.std.proofs.Math.Option.{Option, none, some}
+use Rattle.std.specs.Prelude.{Option, None, Some, ℕ, ◌+◌, ◌≤◌, ◌<◌, true, false, ◌≡◌, ◌⊎◌, List, [], ◌∷◌, length}
 use Rattle.answer.specs.Answer.{got}
 use Rattle.answer.specs.Tables.{find}
 use Rattle.field.specs.Fields.{little_at}
@@ -18,16 +17,16 @@ use Rattle.claim_promises.specs.ExactlyWhen.{NoZero, Negative}
 
 -- how many bytes follow the two of a numeric leaf: "0x8000 i8, 0x8001 i16, .. follow their prefix", and none any other
 abbrev pub wide_bytes : Option Wide → ℕ
-wide_bytes none = 0
-wide_bytes (some (signed k)) = k
-wide_bytes (some (unsigned k)) = k
+wide_bytes None = 0
+wide_bytes (Some (signed k)) = k
+wide_bytes (Some (unsigned k)) = k
 
 abbrev pub CutNumber : List ℕ → ℕ → Type 0
 CutNumber s p = length s < p + 2 + wide_bytes (find (little_at 2 s p) prefixes)
 
 -- the prefix is there and unknown
 abbrev pub UnknownPrefix : List ℕ → ℕ → Type 0
-UnknownPrefix s p = (p + 2 ≤ length s) × (0x8000 ≤ little_at 2 s p) × (find (little_at 2 s p) prefixes ≡ none)
+UnknownPrefix s p = (p + 2 ≤ length s) × (0x8000 ≤ little_at 2 s p) × (find (little_at 2 s p) prefixes ≡ None)
 
 -- 1: the field passes the end, where w is the word
 unfoldable pub CutField : Field → ℕ → List ℕ → ℕ → Type 0
@@ -102,7 +101,7 @@ pub record AtField (P : Field → ℕ → List ℕ → ℕ → Type 0) (fs : Lis
 pub record AtLeaf (P : Field → ℕ → List ℕ → ℕ → Type 0) (table : Table) (s : List ℕ) (p : ℕ) : Type 0 where
   pub there : p + 2 ≤ length s
   pub layout : Layout
-  pub line : find (little_at 2 s p) table ≡ some layout
+  pub line : find (little_at 2 s p) table ≡ Some layout
   pub field : AtField P layout 0 s (p + 2)
 
 pub record RecordsWhen : Type 0 where

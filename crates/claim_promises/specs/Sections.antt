@@ -1,25 +1,23 @@
 -- R-6 of document 02, by the numbers: what refuses a section, a finder over it, the stream that is made of it and its entries; that a refusal leaves
 -- what was lent; and when each number is given. Demand 3 and R-11 of a section are crates/section_finder/specs/Demand.antt, and what is true of the
 -- stream that is made of one crates/section_stream/specs/Made.antt.
-use Rattle.std.specs.Prelude.{ℕ, ◌+◌, ◌≤◌, ◌<◌, ◌≡◌, List, [], ◌∷◌, length}
+use Rattle.std.specs.Prelude.{Result, Err, ℕ, ◌+◌, ◌≤◌, ◌<◌, ◌≡◌, List, [], ◌∷◌, length}
+use Rattle.stream_finder.specs.declared.ItemFinder.{ItemFinder}
 use Rattle.answer.specs.Answer.{answered, refused}
 use Rattle.answer.specs.declared.Refusal.{Refusal}
 use Rattle.field.specs.Fields.{little_at}
 use Rattle.stream_header.specs.Header.{longest}
 use Rattle.stream_item.specs.declared.Entry.{Entry}
-use Rattle.stream_finder.specs.Finder.{begun_in, said_finder, Fills}
-use Rattle.stream_finder.specs.declared.FinderAnswer.{FinderAnswer}
-use Rattle.stream_index.specs.declared.IndexAnswer.TheVariants as walk
+use Rattle.stream_finder.specs.Finder.{begun_in, Fills}
 use Rattle.record_list.specs.Lists as lists
 use Rattle.section_item.specs.Sections.{first, section_start, count_of}
 use Rattle.section_finder.specs.Finders.{section_records, section_create_by, SectionIndexesBy}
 use Rattle.section_read.specs.Readers.{reader_at, read_of}
 use Rattle.section_stream.specs.Streams.{section_stream}
 use Rattle.write_layout.specs.Buffer.{lay, Writes}
-use Rattle.write_pieces.specs.Pieces.{said_write}
-use Rattle.write_pieces.specs.declared.WriteAnswer.{WriteAnswer}
 use Rattle.claim_promises.specs.ByTable.{Refuses}
 use Rattle.claim_promises.specs.Given.{Given, RefusedAs}
+use Rattle.answer.specs.Refusals.{itself, said}
 
 -- demand 1: answered, or refused by these numbers; and lent memory stays
 pub record SectionsRefuse : Type 0 where
@@ -30,9 +28,9 @@ pub record SectionsRefuse : Type 0 where
   pub entries : (s : List ℕ) (e : Entry) → Refuses (16 ∷ 1 ∷ 8 ∷ 10 ∷ 11 ∷ 12 ∷ []) (read_of s e)
   pub lists : (b : List ℕ) → Refuses (1 ∷ 10 ∷ []) (lists.start_of (reader_at b 0) b)
   -- the table, lent to creation and to indexing; the buffer, lent to what makes a stream
-  pub create_keeps : (shift : ℕ) (s t : List ℕ) (r : FinderAnswer) (t' : List ℕ) (n : ℕ) (d : List ℕ) → Fills t (section_create_by shift s t) r t' → said_finder r ≡ refused n d → t' ≡ t
-  pub index_keeps : (shift : ℕ) (s t : List ℕ) (e : Refusal) (t' : List ℕ) → SectionIndexesBy shift s t (walk.Refused e) t' → t' ≡ t
-  pub stream_keeps : (s o : List ℕ) (r : WriteAnswer) (o' : List ℕ) (n : ℕ) (d : List ℕ) → Writes o (lay (section_stream s) o 0) (said_write r) o' → said_write r ≡ refused n d → o' ≡ o
+  pub create_keeps : (shift : ℕ) (s t : List ℕ) (r : Result ItemFinder Refusal) (t' : List ℕ) (n : ℕ) (d : List ℕ) → Fills t (section_create_by shift s t) r t' → said itself r ≡ refused n d → t' ≡ t
+  pub index_keeps : (shift : ℕ) (s t : List ℕ) (e : Refusal) (t' : List ℕ) → SectionIndexesBy shift s t (Err e) t' → t' ≡ t
+  pub stream_keeps : (s o : List ℕ) (r : Result ℕ Refusal) (o' : List ℕ) (n : ℕ) (d : List ℕ) → Writes o (lay (section_stream s) o 0) (said itself r) o' → said itself r ≡ refused n d → o' ≡ o
 
 -- the column "Given exactly when", for what R-6 adds: "16 (section or stream), 1 below four bytes, 25 signature is not 4, then the iterator's own, then
 -- 13 (finder) or 19 (stream)"

@@ -19,13 +19,6 @@ pub struct Quals {
     pub restrict: bool,
 }
 
-// How many elements an array has.
-#[derive(Clone, Copy)]
-pub enum Extent {
-    Known(u64),
-    Unknown,
-}
-
 // A short text: the first n bytes, and spaces behind them.
 #[derive(Clone, Copy)]
 pub struct Spelling {

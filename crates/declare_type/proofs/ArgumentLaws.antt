@@ -1,4 +1,6 @@
 -- Arguments, written from left to right. Assumes nothing.
+use Rattle.std.specs.Prelude.{Result, Ok, Err}
+use Rattle.answer.specs.declared.Refusal.{Refusal}
 use Rattle.stream_finder.specs.Finder.{State}
 use Prim.Native.Nat.{ℕ, zero, suc, ◌+◌, ◌-◌, ◌≤◌, ◌<◌}
 use native.Mathlib.Omega.{arith}
@@ -7,8 +9,6 @@ use mathlib.Core.Bool.{false≢true}
 use mathlib.Core.List.{List, [], ◌∷◌, ◌++◌, append-nil, append_assoc}
 use lib.ListN.{length, length-append}
 use Rattle.declare_type.specs.Nodes.{index_at, list_of}
-use Rattle.declare_type.specs.declared.node.Arguments.{Arguments}
-use Rattle.declare_type.specs.declared.node.Arguments.TheVariants as arguments
 use Rattle.declare_type.specs.declared.token.Token.TheVariants as token
 use Rattle.declare_type.specs.Tokens.{text_of}
 use Rattle.declare_type.specs.Walk.{Spelled, printed, stopped, onto, fixed_then, rest_of, arguments_of, over_arguments, whole_text}
@@ -112,12 +112,12 @@ module _ (c : List ℕ) (all : Spelled) (l l₀ : List ℕ) (e at : ℕ) where
 
 -- ---- as the code has it
 
-module _ (f : ℕ → Spelled) (s : List ℕ) (t : State) (g at : ℕ) (l₀ : List ℕ) (o : Arguments) (e : o ≡ list_of s t g) (h : WholeRoom (over_arguments f s (list_of s t g)) at l₀) where
-  pub never-refused : {A : Type 0} (q : _) → o ≡ arguments.Refused q → A
+module _ (f : ℕ → Spelled) (s : List ℕ) (t : State) (g at : ℕ) (l₀ : List ℕ) (o : Result (ℕ × ℕ) Refusal) (e : o ≡ list_of s t g) (h : WholeRoom (over_arguments f s (list_of s t g)) at l₀) where
+  pub never-refused : {A : Type 0} (q : _) → o ≡ Err q → A
   unfolding over_arguments
   never-refused q z = absurd (false≢true (rw (sym e ∙ z) at h.prints))
 
-  module _ (p n : ℕ) (z : o ≡ arguments.At p n) where
+  module _ (p n : ℕ) (z : o ≡ Ok (p, n)) where
     none : n ≡ 0 → over_arguments f s (list_of s t g) ≡ printed [] (text_of s token.Void)
     unfolding over_arguments arguments_of
     none k = rw (sym e ∙ z, k)

@@ -1,4 +1,6 @@
 -- The laws of nodes, lists and sizes. Assumes nothing.
+use Rattle.std.specs.Prelude.{Result, Ok, Err, Some, None}
+use Rattle.answer.specs.declared.Refusal.{Refusal}
 use Prim.Native.Nat.{ℕ, zero, suc, ◌+◌, ◌-◌, ◌*◌, ◌/◌, ◌%◌, ◌≤◌, ◌<◌}
 use native.Mathlib.Omega.{arith}
 use mathlib.Core.Path.{◌≡◌, refl, ap, sym, ◌∙◌}
@@ -10,19 +12,15 @@ use borrow.Author.Tests.{le-leb, lt-leb, leb-true, eq-eqb, ne_eqb}
 use Rattle.answer.specs.Answer.{pick}
 use Rattle.answer.specs.Tables.{among}
 use Rattle.answer.specs.declared.Refusal.TheVariants as refusal
-use Rattle.field_text.specs.Texts.{Part}
+use Rattle.field_text.specs.Texts.{Part, part}
 use Rattle.record_layout.specs.Fields.{Shown, number, numeral, absent, many}
 use Rattle.record_layout.specs.Values.{nth}
 use Rattle.record_data.specs.Said.{kind_values}
 use Rattle.record_data.specs.declared.ClassKind.{ClassKind}
 use Rattle.record_data.specs.declared.ClassKind.TheVariants as kind
 use Rattle.record_data.specs.declared.ClassType.{ClassType}
-use Rattle.field_text.specs.Texts.{part}
 use Rattle.stream_finder.specs.Finder.{State}
-use Rattle.declare_spelling.specs.declared.Extent.TheVariants as extent
 use Rattle.declare_type.specs.declared.node.Node.TheVariants as node
-use Rattle.declare_type.specs.declared.node.Arguments.{Arguments}
-use Rattle.declare_type.specs.declared.node.Arguments.TheVariants as arguments
 use Rattle.declare_type.specs.declared.node.Sized.{Sized}
 use Rattle.declare_type.specs.declared.node.Sized.TheVariants as sized
 use Rattle.declare_type.specs.Looked.{Seen, held, type_seen}
@@ -56,24 +54,24 @@ module _ (p n : ℕ) (x : Part) where
   pub name-there : x.place + x.length ≤ n → node.Named (p + x.place) x.length ≡ name_in p n (many x)
   name-there h = rw (le-leb (x.place + x.length) n h)
 
-  pub list-past : (k : ℕ) → n < x.place + 4 * k → arguments.Refused refusal.Ended ≡ list_in p n k (many x)
+  pub list-past : (k : ℕ) → n < x.place + 4 * k → Err refusal.Ended ≡ list_in p n k (many x)
   list-past k h = rw (lt-leb (x.place + 4 * k) n h)
 
-  pub list-there : (k : ℕ) → x.place + 4 * k ≤ n → arguments.At (p + x.place) k ≡ list_in p n k (many x)
+  pub list-there : (k : ℕ) → x.place + 4 * k ≤ n → Ok (p + x.place, k) ≡ list_in p n k (many x)
   list-there k h = rw (le-leb (x.place + 4 * k) n h)
 
 -- ---- lengths of arrays
 
 module _ (all one : ℕ) where
-  pub extent-none : one ≡ 0 → extent.Unknown ≡ extent_of all one
+  pub extent-none : one ≡ 0 → None ≡ extent_of all one
   unfolding extent_of
   extent-none h = rw (eq-eqb one 0 h)
 
-  pub extent-known : (one ≡ 0 → ⊥) → all % one ≡ 0 → extent.Known (all / one) ≡ extent_of all one
+  pub extent-known : (one ≡ 0 → ⊥) → all % one ≡ 0 → Some (all / one) ≡ extent_of all one
   unfolding extent_of
   extent-known h k = rw (ne_eqb one 0 h, eq-eqb (all % one) 0 k)
 
-  pub extent-odd : (one ≡ 0 → ⊥) → (all % one ≡ 0 → ⊥) → extent.Unknown ≡ extent_of all one
+  pub extent-odd : (one ≡ 0 → ⊥) → (all % one ≡ 0 → ⊥) → None ≡ extent_of all one
   unfolding extent_of
   extent-odd h k = rw (ne_eqb one 0 h, ne_eqb (all % one) 0 k)
 
@@ -101,13 +99,13 @@ module _ (s : List ℕ) (σ : State) (k i : ℕ) (z : Sized) (v : Seen) (y : z �
 
 -- ---- inside the stream
 
-pub list_inside : (s : List ℕ) (p n : ℕ) (vs : List Shown) (r : Arguments) → r ≡ list_by (held p n vs) → p + n ≤ length s → ListInside s r
+pub list_inside : (s : List ℕ) (p n : ℕ) (vs : List Shown) (r : Result (ℕ × ℕ) Refusal) → r ≡ list_by (held p n vs) → p + n ≤ length s → ListInside s r
 list_inside s p n vs r e h = rw e (go (eqb (leaf_in vs) 0x1201) (nth 2 vs)) where
-  in-it : (k : ℕ) (x : Part) (b : Bool) → leb (x.place + 4 * k) n ≡ b → ListInside s (pick b (arguments.At (p + x.place) k) (arguments.Refused refusal.Ended))
+  in-it : (k : ℕ) (x : Part) (b : Bool) → leb (x.place + 4 * k) n ≡ b → ListInside s (pick b (Ok (p + x.place, k)) (Err refusal.Ended))
   in-it k x true f = omega (arith, h, leb-true (x.place + 4 * k) n f)
   in-it k x false f = tt
 
-  go : (b : Bool) (v : Shown) → ListInside s (pick b (list_in p n (num vs 1) v) (arguments.Refused refusal.LeafNotPrinted))
+  go : (b : Bool) (v : Shown) → ListInside s (pick b (list_in p n (num vs 1) v) (Err refusal.LeafNotPrinted))
   go false v = tt
   go true (many x) = in-it (num vs 1) x (leb (x.place + 4 * num vs 1) n) refl
   go true (number k) = tt

@@ -1,19 +1,20 @@
 -- What the answer says fixes it, and a function that is lent the buffer has one answer and one buffer after. Assumes nothing.
+use Rattle.std.specs.Prelude.{Result, Ok, Err}
+use Rattle.answer.specs.declared.Refusal.{Refusal}
 use Prim.Native.Nat.{ℕ}
 use mathlib.Core.Path.{◌≡◌, refl, sym, ◌∙◌}
 use mathlib.Core.List.{List}
 use Rattle.answer.specs.Answer.{Answer}
 use Rattle.answer.proofs.OneOutcome.{one_of, heard, heard-no}
-use Rattle.declare_type.specs.Declares.{said_declare, Declares}
-use Rattle.declare_type.specs.declared.DeclareAnswer.{DeclareAnswer}
-use Rattle.declare_type.specs.declared.DeclareAnswer.TheVariants as declare
+use Rattle.declare_type.specs.Declares.{Declares}
+use Rattle.answer.specs.Refusals.{itself, said}
 
-declare-back : (r : DeclareAnswer) → heard declare.Written declare.Refused (said_declare r) ≡ r
-declare-back (declare.Written n) = refl
-declare-back (declare.Refused e) = heard-no declare.Written declare.Refused e
+declare-back : (r : Result ℕ Refusal) → heard Ok Err (said itself r) ≡ r
+declare-back (Ok n) = refl
+declare-back (Err e) = heard-no Ok Err e
 
-pub one-declare : (r q : DeclareAnswer) → said_declare r ≡ said_declare q → r ≡ q
-one-declare = one_of said_declare (heard declare.Written declare.Refused) declare-back
+pub one-declare : (r q : Result ℕ Refusal) → said itself r ≡ said itself q → r ≡ q
+one-declare = one_of (said itself) (heard Ok Err) declare-back
 
-pub one-declares : (a : Answer (List ℕ)) (o : List ℕ) (r q : DeclareAnswer) (u v : List ℕ) → Declares a o r u → Declares a o q v → (r ≡ q) × (u ≡ v)
+pub one-declares : (a : Answer (List ℕ)) (o : List ℕ) (r q : Result ℕ Refusal) (u v : List ℕ) → Declares a o r u → Declares a o q v → (r ≡ q) × (u ≡ v)
 one-declares a o r q u v l k = (one-declare r q (l.answer ∙ sym k.answer), l.buffer ∙ sym k.buffer)

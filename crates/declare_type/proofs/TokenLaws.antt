@@ -1,4 +1,5 @@
 -- The laws of the tokens' lengths. Assumes nothing.
+use Rattle.std.specs.Prelude.{Option}
 use Prim.Native.Nat.{ℕ, suc, ◌+◌, ◌-◌, ◌/◌, ◌%◌, ◌≤◌, ◌<◌}
 use native.Mathlib.Omega.{arith}
 use mathlib.Core.Path.{◌≡◌, refl, ap, ◌∙◌}
@@ -7,7 +8,6 @@ use mathlib.Core.List.{List, [], ◌∷◌, ◌++◌}
 use lib.ListN.{length, take, drop, length-append, length-take, length-drop}
 use borrow.Author.Tests.{lt-ltb, le-ltb, ne_eqb}
 use Rattle.word_primitive.specs.declared.PrimitiveKind.{PrimitiveKind}
-use Rattle.declare_spelling.specs.declared.Extent.{Extent}
 use Rattle.word_primitive.specs.declared.Indirection.{Indirection}
 use Rattle.declare_spelling.specs.declared.Quals.{Quals}
 use Rattle.declare_type.specs.declared.token.Token.{Token}
@@ -103,7 +103,7 @@ end-length s p q x u e ex eu = rw (e, ex, eu, length-append (quoted ")"), length
 
 module _ (s : List ℕ) (p : Token) (c : Bool) where
   pub extent-length :
-      (e : Extent) (x y : ℕ) → p ≡ token.Length c e → x ≡ length (closing c) → y ≡ length (extent_text e) → x + 2 + y ≡ length (text_of s p)
+      (e : Option ℕ) (x y : ℕ) → p ≡ token.Length c e → x ≡ length (closing c) → y ≡ length (extent_text e) → x + 2 + y ≡ length (text_of s p)
   unfolding text_of
   extent-length e x y h ex ey =
       rw (h, ex, ey, length-append (closing c ++ quoted "[" ++ extent_text e), length-append (closing c ++ quoted "["), length-append (closing c)) (omega arith)

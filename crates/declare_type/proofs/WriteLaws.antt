@@ -1,4 +1,5 @@
 -- Each place of the writing is one law: what the code knows there, and what it asks. Assumes nothing.
+use Rattle.std.specs.Prelude.{Ok, Err}
 use Rattle.stream_finder.specs.Finder.{State}
 use Prim.Native.Nat.{ℕ, ◌+◌, ◌-◌, ◌≤◌, ◌<◌}
 use native.Mathlib.Omega.{arith}
@@ -16,12 +17,12 @@ use Rattle.declare_type.specs.declared.step.Around.{Around}
 use Rattle.declare_type.specs.declared.token.Token.{Token}
 use Rattle.declare_type.specs.declared.step.Step.{Step}
 use Rattle.declare_type.specs.declared.step.Step.TheVariants as step
-use Rattle.declare_type.specs.declared.walk.Measured.TheVariants as measured
 use Rattle.declare_type.specs.Tokens.{text_of}
 use Rattle.declare_type.specs.Steps.{inward_step}
 use Rattle.declare_type.specs.Walk.{Spelled, printed, stopped, onto, fixed_then, stepped, walk, capped, whole_text}
 use Rattle.field_put.specs.Bytes.{put, Puts, Room}
 use Rattle.declare_type.specs.Sides.{is_printed, left_of, right_of, SideRoom, Both, WholeRoom}
+use Rattle.declare_type.proofs.RoomLaws.{Sums, left_sum, right_sum}
 use Rattle.declare_type.proofs.WalkLaws.{walk_is, args_in}
 use Rattle.declare_type.proofs.PutLaws.{put-append, length-put}
 use Rattle.declare_type.proofs.SideLaws.{room-left, room-right, room_in, both-in, text-right, text_in, text-both, joined-room, joined_in, joined-both}
@@ -129,14 +130,14 @@ module _ (v w : Spelled) (c : List ℕ) (left right : ℕ) (l₀ : List ℕ) (h 
 
 -- ---- an argument
 
-pub sides : (room m n : ℕ) (w : Spelled) → measured.Fits m n ≡ capped room w → (is_printed w ≡ true) × (m ≡ length (left_of w)) × (n ≡ length (right_of w))
+pub sides : (room m n : ℕ) (w : Spelled) → Ok (m, n) ≡ capped room w → (is_printed w ≡ true) × (m ≡ length (left_of w)) × (n ≡ length (right_of w))
 unfolding capped
 sides room m n (printed l r) e = go (ltb room (length l + length r)) e where
-  go : (b : Bool) → measured.Fits m n ≡ pick b (measured.Refused refusal.NoRoom) (measured.Fits (length l) (length r)) → (true ≡ true) × (m ≡ length l) × (n ≡ length r)
+  go : (b : Bool) → ◌≡◌ {A = Sums} (Ok (m, n)) (pick b (Err refusal.NoRoom) (Ok (length l, length r))) → (true ≡ true) × (m ≡ length l) × (n ≡ length r)
   go true h = (refl, cc, cc)
-  go false h = (refl, cc, cc)
+  go false h = (refl, ap left_sum h, ap right_sum h)
 sides room m n (stopped k q) e = go (ltb room k) e where
-  go : (b : Bool) → measured.Fits m n ≡ pick b (measured.Refused refusal.NoRoom) (measured.Refused q) → (false ≡ true) × (m ≡ 0) × (n ≡ 0)
+  go : (b : Bool) → ◌≡◌ {A = Sums} (Ok (m, n)) (pick b (Err refusal.NoRoom) (Err q)) → (false ≡ true) × (m ≡ 0) × (n ≡ 0)
   go true h = (cc, cc, cc)
   go false h = (cc, cc, cc)
 
@@ -145,10 +146,10 @@ length_whole (printed l r) = length-append l r
 length_whole (stopped k q) = refl
 
 module _ (w : Spelled) (at : ℕ) (l : List ℕ) (h : WholeRoom w at l) where
-  pub argument-fits : (m n : ℕ) → measured.Fits m n ≡ capped (length l - at) w → at + m ≤ length l
+  pub argument-fits : (m n : ℕ) → Ok (m, n) ≡ capped (length l - at) w → at + m ≤ length l
   argument-fits m n e = let s = sides (length l - at) m n w e in omega (arith, h.high, length_whole w, s.1)
 
-  pub argument-sides : (m n : ℕ) → measured.Fits m n ≡ capped (length l - at) w → SideRoom w (at + m) (at + m) l
+  pub argument-sides : (m n : ℕ) → Ok (m, n) ≡ capped (length l - at) w → SideRoom w (at + m) (at + m) l
   argument-sides m n e =
       let s = sides (length l - at) m n w e in
       record {
@@ -158,7 +159,7 @@ module _ (w : Spelled) (at : ℕ) (l : List ℕ) (h : WholeRoom w at l) where
         high = omega (arith, h.high, length_whole w, s.1);
       }
 
-  pub argument-puts : (m n r : ℕ) (l₁ : List ℕ) → measured.Fits m n ≡ capped (length l - at) w → Both w l (at + m) (at + m) r l₁ → Puts l at (whole_text w) r l₁
+  pub argument-puts : (m n r : ℕ) (l₁ : List ℕ) → Ok (m, n) ≡ capped (length l - at) w → Both w l (at + m) (at + m) r l₁ → Puts l at (whole_text w) r l₁
   argument-puts m n r l₁ e z = go w h (sides (length l - at) m n w e) z where
     go : (w : Spelled) → WholeRoom w at l → (is_printed w ≡ true) × (m ≡ length (left_of w)) × (n ≡ length (right_of w)) → Both w l (at + m) (at + m) r l₁ → Puts l at (whole_text w) r l₁
     go (printed a b) k s y =
@@ -170,13 +171,13 @@ module _ (w : Spelled) (at : ℕ) (l : List ℕ) (h : WholeRoom w at l) where
         }
     go (stopped k₁ q) k s y = absurd (false≢true k.prints)
 
-  pub argument-never : {A : Type 0} (q : Refusal) → measured.Refused q ≡ capped (length l - at) w → A
+  pub argument-never : {A : Type 0} (q : Refusal) → Err q ≡ capped (length l - at) w → A
   unfolding capped
   argument-never q e = absurd (go w h e) where
-    go : (w : Spelled) → WholeRoom w at l → measured.Refused q ≡ capped (length l - at) w → ⊥
+    go : (w : Spelled) → WholeRoom w at l → Err q ≡ capped (length l - at) w → ⊥
     go (printed a b) k e₁ =
         let f : ltb (length l - at) (length a + length b) ≡ false = le-ltb (length l - at) (length a + length b) (omega (arith, k.high, length-append a b)) in
-        let g : measured.Refused q ≡ measured.Fits (length a) (length b) = e₁ ∙ rw f in
+        let g : ◌≡◌ {A = Sums} (Err q) (Ok (length a, length b)) = e₁ ∙ rw f in
         let z : ◌≡◌ {A = ℕ} 0 1 = cc in
         omega arith
     go (stopped k₁ q₁) k e₁ = false≢true k.prints

@@ -1,12 +1,11 @@
 -- R-5 of document 02: what is answered, and what is in the buffer then.
-use Rattle.std.specs.Prelude.{ℕ, ◌≡◌, List, ◌++◌, length, drop, ltb}
+use Rattle.std.specs.Prelude.{Result, ℕ, ◌≡◌, List, ◌++◌, length, drop, ltb}
+use Rattle.answer.specs.declared.Refusal.{Refusal}
 use Rattle.answer.specs.Answer.{Answer, answered, refused, stop}
-use Rattle.answer.specs.Refusals.{no}
+use Rattle.answer.specs.Refusals.{no, itself, said}
 use Rattle.stream_header.specs.Header.{longest}
 use Rattle.stream_finder.specs.Finder.{State}
 use Rattle.declare_type.specs.Walk.{Spelled, printed, stopped, declaration_of}
-use Rattle.declare_type.specs.declared.DeclareAnswer.{DeclareAnswer}
-use Rattle.declare_type.specs.declared.DeclareAnswer.TheVariants as declare
 
 -- In a room of bytes: the text of the definition with no limit on room, or its first refusal; "19 exactly if the bytes that the walk has fixed
 -- pass the room before another is met"
@@ -19,9 +18,6 @@ unfoldable pub declare_of : List ℕ → State → ℕ → ℕ → Answer (List 
 declare_of s σ i room = stop (ltb longest (length s)) 16 (text_in room (declaration_of s σ i))
 
 -- what the answer says: how many bytes
-abbrev pub said_declare : DeclareAnswer → Answer ℕ
-said_declare (declare.Written n) = answered n
-said_declare (declare.Refused e) = no e
 
 abbrev pub text_length : Answer (List ℕ) → Answer ℕ
 text_length (answered text) = answered (length text)
@@ -33,6 +29,6 @@ text_buffer_after l (answered text) = text ++ drop (length text) l
 text_buffer_after l (refused n d) = l
 
 -- the contract: a is the definition's answer, l the buffer, r what the function answers, l' the buffer after it
-pub record Declares (a : Answer (List ℕ)) (l : List ℕ) (r : DeclareAnswer) (l' : List ℕ) : Type 0 where
-  pub answer : said_declare r ≡ text_length a
+pub record Declares (a : Answer (List ℕ)) (l : List ℕ) (r : Result ℕ Refusal) (l' : List ℕ) : Type 0 where
+  pub answer : (said itself) r ≡ text_length a
   pub buffer : l' ≡ text_buffer_after l a

@@ -1,14 +1,13 @@
 -- That a part lies inside the bytes it is a part of: what one private function tells the next.
-use Rattle.std.specs.Prelude.{ℕ, ◌+◌, ◌*◌, ◌≤◌, ◌≡◌, List, length}
-use Rattle.declare_type.specs.declared.node.Arguments.{Arguments}
-use Rattle.declare_type.specs.declared.node.Arguments.TheVariants as arguments
+use Rattle.std.specs.Prelude.{Result, Ok, Err, ℕ, ◌+◌, ◌*◌, ◌≤◌, ◌≡◌, List, length}
+use Rattle.answer.specs.declared.Refusal.{Refusal}
 use Rattle.declare_type.specs.declared.node.Looked.{Looked}
 use Rattle.declare_type.specs.declared.node.Looked.TheVariants as looked
 
 -- a list's indices are there
-abbrev pub ListInside : List ℕ → Arguments → Type 0
-ListInside s (arguments.At p n) = p + 4 * n ≤ length s
-ListInside s (arguments.Refused e) = Unit
+abbrev pub ListInside : List ℕ → Result (ℕ × ℕ) Refusal → Type 0
+ListInside s (Ok (p, n)) = p + 4 * n ≤ length s
+ListInside s (Err e) = Unit
 
 -- a record's bytes are there
 abbrev pub HeldAt : ℕ → ℕ → Looked → Type 0

@@ -1,7 +1,6 @@
 -- R-5 of document 02: a type index looked up and read. "The lookup's and reader's own" refusals, and 24 for a leaf that is not among those
 -- asked for, before the rest of its record is read.
-use Rattle.std.specs.Prelude.{ℕ, ◌+◌, List, [], ◌∷◌, length, take, drop, ltb}
-use Rattle.std.proofs.Math.Option.{Option, none, some}
+use Rattle.std.specs.Prelude.{Option, None, Some, ℕ, ◌+◌, List, [], ◌∷◌, length, take, drop, ltb}
 use Rattle.answer.specs.Answer.{Answer, answered, refused, Read, pick}
 use Rattle.answer.specs.Refusals.{in_table, refusals}
 use Rattle.answer.specs.Tables.{among}
@@ -34,8 +33,8 @@ said_looked (looked.Nothing e) = nothing e
 
 -- the refusal that a number and its details name
 abbrev pub or_ended : Option Refusal → Refusal
-or_ended none = refusal.Ended
-or_ended (some e) = e
+or_ended None = refusal.Ended
+or_ended (Some e) = e
 
 abbrev pub unread : ℕ → List ℕ → Seen
 unread n d = nothing (or_ended (in_table refusals n d))

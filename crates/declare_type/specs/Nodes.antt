@@ -1,5 +1,6 @@
 -- R-5 of document 02: what a type index names, as far as its declaration goes; the sizes that array lengths ask for; argument lists.
-use Rattle.std.specs.Prelude.{ℕ, zero, suc, ◌+◌, ◌*◌, ◌/◌, ◌%◌, false, List, [], ◌∷◌, ℤ, pos, negsuc, leb, eqb}
+use Rattle.std.specs.Prelude.{Result, Ok, Err, Option, Some, None, ℕ, zero, suc, ◌+◌, ◌*◌, ◌/◌, ◌%◌, false, List, [], ◌∷◌, ℤ, pos, negsuc, leb, eqb}
+use Rattle.answer.specs.declared.Refusal.{Refusal}
 use Rattle.answer.specs.Answer.{Answer, answered, refused, Read, pick}
 use Rattle.answer.specs.Tables.{among}
 use Rattle.answer.specs.declared.Refusal.TheVariants as refusal
@@ -11,12 +12,8 @@ use Rattle.record_layout.specs.Fields.{Shown, number, numeral, absent, many}
 use Rattle.record_layout.specs.Values.{nth, number_in}
 use Rattle.stream_finder.specs.Finder.{State}
 use Rattle.declare_spelling.specs.declared.Quals.{Quals}
-use Rattle.declare_spelling.specs.declared.Extent.{Extent}
-use Rattle.declare_spelling.specs.declared.Extent.TheVariants as extent
 use Rattle.declare_type.specs.declared.node.Node.{Node}
 use Rattle.declare_type.specs.declared.node.Node.TheVariants as node
-use Rattle.declare_type.specs.declared.node.Arguments.{Arguments}
-use Rattle.declare_type.specs.declared.node.Arguments.TheVariants as arguments
 use Rattle.declare_type.specs.declared.node.Sized.{Sized}
 use Rattle.declare_type.specs.declared.node.Sized.TheVariants as sized
 use Rattle.declare_spelling.specs.Sizes.{primitive_size}
@@ -87,8 +84,8 @@ size_through s σ (suc k) i = through (λ j. size_through s σ k j) (sized_from 
 
 -- "the array length is its byte size divided by the element's, and an element without a known nonzero size that divides it prints as empty
 -- brackets"
-unfoldable pub extent_of : ℕ → ℕ → Extent
-extent_of all one = pick (eqb one 0) extent.Unknown (pick (eqb (all % one) 0) (extent.Known (all / one)) extent.Unknown)
+unfoldable pub extent_of : ℕ → ℕ → Option ℕ
+extent_of all one = pick (eqb one 0) None (pick (eqb (all % one) 0) (Some (all / one)) None)
 
 -- ---- nodes
 
@@ -130,18 +127,18 @@ node_of s σ i = node_by s σ (type_seen s σ i)
 -- ---- argument lists
 
 -- k indices, four bytes each: a part of the record
-abbrev pub list_in : ℕ → ℕ → ℕ → Shown → Arguments
-list_in p n k (many x) = pick (leb (x.place + 4 * k) n) (arguments.At (p + x.place) k) (arguments.Refused refusal.Ended)
-list_in p n k (number j) = arguments.Refused refusal.Ended
-list_in p n k (numeral z f) = arguments.Refused refusal.Ended
-list_in p n k absent = arguments.Refused refusal.Ended
+abbrev pub list_in : ℕ → ℕ → ℕ → Shown → Result (ℕ × ℕ) Refusal
+list_in p n k (many x) = pick (leb (x.place + 4 * k) n) (Ok (p + x.place, k)) (Err refusal.Ended)
+list_in p n k (number j) = Err refusal.Ended
+list_in p n k (numeral z f) = Err refusal.Ended
+list_in p n k absent = Err refusal.Ended
 
-abbrev pub list_by : Seen → Arguments
-list_by (numbered p) = arguments.Refused refusal.LeafNotPrinted
-list_by (held p n vs) = pick (eqb (leaf_in vs) 0x1201) (list_in p n (num vs 1) (nth 2 vs)) (arguments.Refused refusal.LeafNotPrinted)
-list_by (nothing e) = arguments.Refused e
+abbrev pub list_by : Seen → Result (ℕ × ℕ) Refusal
+list_by (numbered p) = Err refusal.LeafNotPrinted
+list_by (held p n vs) = pick (eqb (leaf_in vs) 0x1201) (list_in p n (num vs 1) (nth 2 vs)) (Err refusal.LeafNotPrinted)
+list_by (nothing e) = Err e
 
-unfoldable pub list_of : List ℕ → State → ℕ → Arguments
+unfoldable pub list_of : List ℕ → State → ℕ → Result (ℕ × ℕ) Refusal
 list_of s σ i = list_by (list_seen s σ i)
 
 -- the index of an argument, at place p

@@ -1,8 +1,6 @@
 -- R-5 of document 02: the tokens of a declaration, and how each is spelled.
-use Rattle.std.specs.Prelude.{ℕ, zero, suc, ◌+◌, ◌/◌, ◌%◌, Bool, true, false, List, [], ◌∷◌, ◌++◌, take, drop, ltb}
+use Rattle.std.specs.Prelude.{Option, Some, None, ℕ, zero, suc, ◌+◌, ◌/◌, ◌%◌, Bool, true, false, List, [], ◌∷◌, ◌++◌, take, drop, ltb}
 use Rattle.answer.specs.Answer.{pick}
-use Rattle.declare_spelling.specs.declared.Extent.{Extent}
-use Rattle.declare_spelling.specs.declared.Extent.TheVariants as extent
 use Rattle.declare_type.specs.declared.token.Token.{Token}
 use Rattle.declare_type.specs.declared.token.Token.TheVariants as token
 use Rattle.declare_spelling.specs.Spellings.{quoted, kind_text, indirection_text, mode_text, quals_text}
@@ -33,9 +31,9 @@ decimal zero n = []
 decimal (suc k) n = pick (ltb n 10) ((48 + n) ∷ []) (decimal k (n / 10) ++ (48 + n % 10) ∷ [])
 
 -- the length of an array: 20 digits hold every 64-bit number
-abbrev pub extent_text : Extent → List ℕ
-extent_text (extent.Known n) = decimal 20 n
-extent_text extent.Unknown = []
+abbrev pub extent_text : Option ℕ → List ℕ
+extent_text (Some n) = decimal 20 n
+extent_text None = []
 
 abbrev pub closing : Bool → List ℕ
 closing true = quoted ")"

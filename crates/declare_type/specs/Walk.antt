@@ -1,19 +1,15 @@
 -- R-5 of document 02: the declaration of a type, "with no limit on room", and what is answered in a room of r bytes.
-use Rattle.std.specs.Prelude.{ℕ, zero, suc, ◌+◌, List, [], ◌++◌, length, ltb}
+use Rattle.std.specs.Prelude.{Result, Ok, Err, ℕ, zero, suc, ◌+◌, List, [], ◌++◌, length, ltb}
 use Rattle.answer.specs.Answer.{pick}
 use Rattle.answer.specs.declared.Refusal.{Refusal}
 use Rattle.answer.specs.declared.Refusal.TheVariants as refusal
 use Rattle.stream_finder.specs.Finder.{State}
 use Rattle.declare_type.specs.Nodes.{index_at, list_of}
-use Rattle.declare_type.specs.declared.node.Arguments.{Arguments}
-use Rattle.declare_type.specs.declared.node.Arguments.TheVariants as arguments
 use Rattle.declare_type.specs.Tokens.{text_of}
 use Rattle.declare_type.specs.declared.token.Token.TheVariants as token
 use Rattle.declare_type.specs.declared.step.Around.{Around}
 use Rattle.declare_type.specs.declared.step.Step.{Step}
 use Rattle.declare_type.specs.declared.step.Step.TheVariants as step
-use Rattle.declare_type.specs.declared.walk.Measured.{Measured}
-use Rattle.declare_type.specs.declared.walk.Measured.TheVariants as measured
 use Rattle.declare_type.specs.Steps.{around_first, inward_step}
 
 -- What a walk inward comes to: the bytes that go left of all that stood there before, and those that go right of it;
@@ -42,9 +38,9 @@ unfoldable pub arguments_of : (ℕ → Spelled) → List ℕ → ℕ → ℕ →
 arguments_of f s p zero = printed [] (text_of s token.Void)
 arguments_of f s p (suc n) = fixed_then (f (index_at s p).0) (rest_of f s (p + 4) n)
 
-unfoldable pub over_arguments : (ℕ → Spelled) → List ℕ → Arguments → Spelled
-over_arguments f s (arguments.At p n) = arguments_of f s p n
-over_arguments f s (arguments.Refused e) = stopped 0 e
+unfoldable pub over_arguments : (ℕ → Spelled) → List ℕ → Result (ℕ × ℕ) Refusal → Spelled
+over_arguments f s (Ok (p, n)) = arguments_of f s p n
+over_arguments f s (Err e) = stopped 0 e
 
 -- a step, where `go` walks on from a type
 unfoldable pub stepped : (ℕ → Around → Spelled) → List ℕ → State → Step → Spelled
@@ -61,9 +57,9 @@ walk s σ (suc d) i a = stepped (λ j b. walk s σ d j b) s σ (inward_step s σ
 
 -- In a room of r bytes: 19 exactly if the bytes that the walk has fixed pass the room before it is refused otherwise;
 -- else the refusal, or how many bytes stand left and right.
-unfoldable pub capped : ℕ → Spelled → Measured
-capped r (printed a b) = pick (ltb r (length a + length b)) (measured.Refused refusal.NoRoom) (measured.Fits (length a) (length b))
-capped r (stopped k e) = pick (ltb r k) (measured.Refused refusal.NoRoom) (measured.Refused e)
+unfoldable pub capped : ℕ → Spelled → Result (ℕ × ℕ) Refusal
+capped r (printed a b) = pick (ltb r (length a + length b)) (Err refusal.NoRoom) (Ok (length a, length b))
+capped r (stopped k e) = pick (ltb r k) (Err refusal.NoRoom) (Err e)
 
 -- the whole text
 abbrev pub whole_text : Spelled → List ℕ

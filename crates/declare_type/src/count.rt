@@ -5,7 +5,7 @@ ghost use Rattle.declare_type.specs.Tokens.{space, decimal, extent_text, closing
 ghost use Rattle.declare_type.specs.Lengths.{spaced_length, quals_length};
 
 use crate::token::Token;
-use declare_spelling::{Extent, Quals};
+use declare_spelling::Quals;
 use word_primitive::{Indirection, PrimitiveKind};
 
 fn kind_len(k: PrimitiveKind) -> usize
@@ -92,12 +92,12 @@ fn decimal_len(k: u32, n: u64) -> usize
     decimal_len(k - 1, n / 10) + 1
 }
 
-fn extent_len(e: Extent) -> usize
+fn extent_len(e: Option<u64>) -> usize
     ensures { (result ≡ length (extent_text e)) × (result ≤ 20) }
 {
     match e {
-        Extent::Known(n) => decimal_len(20, n),
-        Extent::Unknown => 0,
+        Some(n) => decimal_len(20, n),
+        None => 0,
     }
 }
 

@@ -21,41 +21,32 @@ ghost use Rattle.declare_type.specs.Declares.{declare_of, Declares};
 
 use answer::Refusal;
 use field::index::TypeIndex;
-use node::Arguments;
 use step::{Around, Step};
 use stream_finder::ItemFinder;
 use stream_header::LONGEST;
 use token::Token;
-use walk::Measured;
 
 // How many types may be nested, the first counted and argument lists not.
 const DEEPEST: u32 = 32;
 
-// How many bytes were written; or why none were, and the buffer is as it was.
-#[derive(Clone, Copy)]
-pub enum DeclareAnswer {
-    Written(usize),
-    Refused(Refusal),
-}
-
 // The declaration of type i of the stream s into the first bytes of a lent buffer; f is the stream's finder, t its table.
-pub fn declare(s: &[u8], f: ItemFinder, t: &[u32], i: TypeIndex, out: &mut [u8]) -> DeclareAnswer
+pub fn declare(
+    s: &[u8],
+    f: ItemFinder,
+    t: &[u32],
+    i: TypeIndex,
+    out: &mut [u8],
+) -> Result<usize, Refusal>
     ensures { Declares (declare_of s.now (state f t.now) i.0 (length out.old)) out.old result out.new }
 {
     if s.len() > LONGEST {
-        return DeclareAnswer::Refused(Refusal::TooLong);
+        return Err(Refusal::TooLong);
     }
     let around = step::start();
-    match walk::measure_declarator(s, f, t, i, DEEPEST, around, out.len()) {
-        Measured::Fits(l, r) => {
-            let n = l + r;
-            write_declarator(s, f, t, i, DEEPEST, around, out, l, l);
-            return DeclareAnswer::Written(n);
-        }
-        Measured::Refused(e) => {
-            return DeclareAnswer::Refused(e);
-        }
-    }
+    let (l, r) = walk::measure_declarator(s, f, t, i, DEEPEST, around, out.len())?;
+    let n = l + r;
+    write_declarator(s, f, t, i, DEEPEST, around, out, l, l);
+    return Ok(n);
 }
 
 // A token from a place on, where there is room.
@@ -130,7 +121,7 @@ fn write_arguments(
     ensures { Puts out.old at (whole_text (over_arguments (λ j. walk s.now (state f t.now) d j around_first) s.now (list_of s.now (state f t.now) g))) result out.new }
 {
     match node::list_of(s, f, t, TypeIndex(g)) {
-        Arguments::At(p, n) => {
+        Ok((p, n)) => {
             if n == 0 {
                 return write_token(s, Token::Void, out, at);
             }
@@ -147,7 +138,7 @@ fn write_arguments(
             }
             return e;
         }
-        Arguments::Refused(_) => {
+        Err(_) => {
             return at;
         }
     }
@@ -170,11 +161,11 @@ fn write_argument(
     let around = step::start();
     let room = out.len() - at;
     match walk::measure_declarator(s, f, t, i, d, around, room) {
-        Measured::Fits(l, _) => {
+        Ok((l, _)) => {
             let m = at + l;
             return write_declarator(s, f, t, i, d, around, out, m, m);
         }
-        Measured::Refused(_) => {
+        Err(_) => {
             return at;
         }
     }

@@ -16,20 +16,19 @@ ghost use Rattle.declare_type.specs.Nodes.{as_type_index, leaf_in, sized_in, siz
 ghost use Rattle.declare_type.specs.Inside.{HeldAt, HeldInside, ListInside};
 
 use answer::Refusal;
-use declare_spelling::{Extent, Quals};
-use field::fixed::Read16;
-use field::index::{OptTypeIndex, ReadType, TypeIndex};
+use declare_spelling::Quals;
+use field::index::TypeIndex;
 use field::{fixed, index};
 use field_text::RawString;
-use record_data::{TypeAnswer, TypeData};
+use record_data::TypeData;
 use record_layout::{
     LF_ARGLIST, LF_ARRAY, LF_CLASS, LF_ENUM, LF_INTERFACE, LF_MODIFIER, LF_POINTER, LF_PROCEDURE,
     LF_STRUCTURE, LF_STRUCTURE19, LF_UNION,
 };
-use stream_finder::{FindAnswer, ItemFinder};
+use stream_finder::ItemFinder;
 use stream_item::Entry;
-use word_attributes::{ModifierFlags, PointerAttributes, SizeAnswer};
-use word_primitive::{Indirection, PrimitiveAnswer, PrimitiveKind, PrimitiveType};
+use word_attributes::{ModifierFlags, PointerAttributes};
+use word_primitive::{Indirection, PrimitiveKind, PrimitiveType};
 
 // From here up an index names a record.
 const FIRST_RECORD: u32 = 0x1000;
@@ -46,16 +45,9 @@ pub enum Node {
     // To what, its mode from 0 to 4, and its qualifiers.
     Pointer(TypeIndex, u8, Quals),
     Modifier(TypeIndex, Quals),
-    Array(TypeIndex, Extent),
+    Array(TypeIndex, Option<u64>),
     // What it returns, and its argument list.
     Procedure(TypeIndex, TypeIndex),
-    Refused(Refusal),
-}
-
-// An argument list: where its indices start in the stream, and how many there are.
-#[derive(Clone, Copy)]
-pub enum Arguments {
-    At(usize, u32),
     Refused(Refusal),
 }
 
@@ -78,10 +70,10 @@ fn numbered(i: TypeIndex) -> Looked
     ensures { said_looked result ≡ as_primitive (primitive_of i.0) }
 {
     match word_primitive::primitive(i) {
-        PrimitiveAnswer::Answered(p) => {
+        Ok(p) => {
             return Looked::Numbered(p);
         }
-        PrimitiveAnswer::Refused(e) => {
+        Err(e) => {
             return Looked::Nothing(e);
         }
     }
@@ -131,15 +123,15 @@ fn is_taken(list: bool, leaf: u16) -> bool
 fn record_in(list: bool, p: usize, b: &[u8]) -> Looked
     ensures { (said_looked result ≡ by_leaf (pick list list_leaves declared_leaves) p (length b.now) b.now (fixed_at 2 b.now 0)) × HeldAt p (length b.now) result }
 {
-    let Read16::Got(leaf, _) = fixed::u16_at(b, 0) else {
+    let Ok((leaf, _)) = fixed::u16_at(b, 0) else {
         return Looked::Nothing(Refusal::Ended);
     };
     if is_taken(list, leaf) {
         match record_data::type_data(b) {
-            TypeAnswer::Answered(d) => {
+            Ok(d) => {
                 return Looked::Held(p, b.len(), d);
             }
-            TypeAnswer::Refused(e) => {
+            Err(e) => {
                 return Looked::Nothing(e);
             }
         }
@@ -166,10 +158,10 @@ fn record_of(list: bool, s: &[u8], f: ItemFinder, t: &[u32], i: TypeIndex) -> Lo
     ensures { (said_looked result ≡ record_seen (pick list list_leaves declared_leaves) s.now (state f t.now) i.0) × HeldInside s.now result }
 {
     match stream_finder::find_type(s, f, t, i) {
-        FindAnswer::Refused(e) => {
+        Err(e) => {
             return Looked::Nothing(e);
         }
-        FindAnswer::Found(entry, _) => match entry {
+        Ok((entry, _)) => match entry {
             Entry::Record(item) => {
                 let place = item.place;
                 let length = item.length;
@@ -221,10 +213,10 @@ fn sized_record(d: TypeData) -> Sized
         TypeData::Pointer(r) => {
             let w = r.attributes;
             match w.size() {
-                SizeAnswer::Answered(n) => {
+                Ok(n) => {
                     return Sized::Known(n as u64);
                 }
-                SizeAnswer::Refused(_) => {
+                Err(_) => {
                     return Sized::Known(0);
                 }
             }
@@ -270,16 +262,16 @@ fn size_of(s: &[u8], f: ItemFinder, t: &[u32], i: TypeIndex, k: u32) -> u64
     }
 }
 
-fn extent_of(all: u64, one: u64) -> Extent
+fn extent_of(all: u64, one: u64) -> Option<u64>
     ensures { result ≡ extent_of all one }
 {
     if one == 0 {
-        return Extent::Unknown;
+        return None;
     }
     if all % one == 0 {
-        return Extent::Known(all / one);
+        return Some(all / one);
     }
-    Extent::Unknown
+    None
 }
 
 // The name of a record at p of n bytes.
@@ -322,14 +314,14 @@ fn modifier_quals(w: ModifierFlags) -> Quals
 }
 
 // An absent return is primitive 0.
-fn or_none(o: OptTypeIndex) -> TypeIndex
+fn or_none(o: Option<TypeIndex>) -> TypeIndex
     ensures { result ≡ as_type_index (number_in (or_absent (type_option o))) }
 {
     match o {
-        OptTypeIndex::None => {
+        None => {
             return TypeIndex(0);
         }
-        OptTypeIndex::Some(i) => {
+        Some(i) => {
             return i;
         }
     }
@@ -402,42 +394,42 @@ pub fn node_of(s: &[u8], f: ItemFinder, t: &[u32], i: TypeIndex) -> Node
 }
 
 // The argument list that the record d is, which stands at p and has n bytes.
-fn list_in(p: usize, n: usize, d: TypeData) -> Arguments
+fn list_in(p: usize, n: usize, d: TypeData) -> Result<(usize, u32), Refusal>
     requires { p + n < 9223372036854775808 }
     ensures { result ≡ list_by (held p n (type_values d)) }
 {
     let TypeData::ArgumentList(a) = d else {
-        return Arguments::Refused(Refusal::LeafNotPrinted);
+        return Err(Refusal::LeafNotPrinted);
     };
     let place = a.place;
     let count = a.count;
     if place > n {
-        return Arguments::Refused(Refusal::Ended);
+        return Err(Refusal::Ended);
     }
     if 4 * (count as usize) > n - place {
-        return Arguments::Refused(Refusal::Ended);
+        return Err(Refusal::Ended);
     }
     let at = p + place;
-    Arguments::At(at, count)
+    Ok((at, count))
 }
 
 // The argument list that index i names.
-pub fn list_of(s: &[u8], f: ItemFinder, t: &[u32], i: TypeIndex) -> Arguments
+pub fn list_of(s: &[u8], f: ItemFinder, t: &[u32], i: TypeIndex) -> Result<(usize, u32), Refusal>
     ensures { (result ≡ list_of s.now (state f t.now) i.0) × ListInside s.now result }
 {
     let n = i.0;
     if n < FIRST_RECORD {
-        return Arguments::Refused(Refusal::LeafNotPrinted);
+        return Err(Refusal::LeafNotPrinted);
     }
     match record_of(true, s, f, t, i) {
         Looked::Numbered(_) => {
-            return Arguments::Refused(Refusal::LeafNotPrinted);
+            return Err(Refusal::LeafNotPrinted);
         }
         Looked::Held(p, n, d) => {
             return list_in(p, n, d);
         }
         Looked::Nothing(w) => {
-            return Arguments::Refused(w);
+            return Err(w);
         }
     }
 }
@@ -447,7 +439,7 @@ pub fn index_at(s: &[u8], p: usize) -> TypeIndex
     ensures { result ≡ index_at s.now p }
 {
     match index::type_at(s, p) {
-        ReadType::Got(i, _) => i,
-        ReadType::Ended => TypeIndex(0),
+        Ok((i, _)) => i,
+        Err(_) => TypeIndex(0),
     }
 }

@@ -151,17 +151,17 @@ pub fn step_of(s: &[u8], f: ItemFinder, t: &[u32], i: TypeIndex, a: Around) -> S
             let all = union_of(quals, own);
             let around = Around {
                 quals: all,
-                under: under,
-                last: last,
-                bare: bare,
+                under,
+                last,
+                bare,
             };
             return Step::Inward(Token::Nothing, Token::Nothing, j, around);
         }
         Node::Array(j, e) => {
             let around = Around {
-                quals: quals,
+                quals,
                 under: false,
-                last: last,
+                last,
                 bare: false,
             };
             let left = open(under);
@@ -171,7 +171,7 @@ pub fn step_of(s: &[u8], f: ItemFinder, t: &[u32], i: TypeIndex, a: Around) -> S
             let around = Around {
                 quals: no_quals(),
                 under: false,
-                last: last,
+                last,
                 bare: false,
             };
             let left = open(under);

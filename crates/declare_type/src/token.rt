@@ -5,7 +5,7 @@ ghost use Rattle.field_put.specs.Bytes.{Lays};
 ghost use Rattle.declare_type.specs.Tokens.{text_of};
 
 use crate::{count, write};
-use declare_spelling::{Extent, Quals};
+use declare_spelling::Quals;
 use word_primitive::{Indirection, PrimitiveKind};
 
 // A token of a declaration. `last` says that nothing stands left of what the token declares yet, `bare` that nothing is fixed at all.
@@ -23,7 +23,7 @@ pub enum Token {
     // A tag name by place and length in the stream, the qualifiers, bare.
     Tag(usize, usize, Quals, bool),
     // An array's brackets, behind a ) if told.
-    Length(bool, Extent),
+    Length(bool, Option<u64>),
     // The ( of arguments, behind a ) if told.
     Begin(bool),
     // Before each argument but the first.

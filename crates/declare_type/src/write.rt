@@ -7,7 +7,7 @@ ghost use Rattle.declare_type.specs.Lengths.{ending};
 
 use crate::count;
 use crate::token::Token;
-use declare_spelling::{Extent, Quals, Spelling};
+use declare_spelling::{Quals, Spelling};
 use word_primitive::{Indirection, PrimitiveKind};
 
 fn text(out: &mut [u8], at: usize, b: &[u8]) -> usize
@@ -139,15 +139,15 @@ fn decimal(out: &mut [u8], at: usize, k: u32, n: u64) -> usize
     byte(out, e, 48 + ((n % 10) as u8))
 }
 
-fn extent(out: &mut [u8], at: usize, e: Extent) -> usize
+fn extent(out: &mut [u8], at: usize, e: Option<u64>) -> usize
     requires { Room out.old at (extent_text e) }
     ensures { Puts out.old at (extent_text e) result out.new }
 {
     match e {
-        Extent::Known(n) => {
+        Some(n) => {
             return decimal(out, at, 20, n);
         }
-        Extent::Unknown => {
+        None => {
             return at;
         }
     }
@@ -206,7 +206,7 @@ fn tag(s: &[u8], p: usize, n: usize, out: &mut [u8], at: usize, q: Quals, bare: 
     space(out, f, bare)
 }
 
-fn brackets(out: &mut [u8], at: usize, c: bool, x: Extent) -> usize
+fn brackets(out: &mut [u8], at: usize, c: bool, x: Option<u64>) -> usize
     requires { Room out.old at (closing c ++ quoted "[" ++ extent_text x ++ quoted "]") }
     ensures { Puts out.old at (closing c ++ quoted "[" ++ extent_text x ++ quoted "]") result out.new }
 {

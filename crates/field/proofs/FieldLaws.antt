@@ -31,6 +31,34 @@ little-add (suc j) k s p =
 pub halves : (k : ℕ) (s : List ℕ) (p a b : ℕ) → a ≡ little_at k s p → b ≡ little_at k s (p + k) → a + 256 ^ k * b ≡ little_at (k + k) s p
 halves k s p a b ea eb = rw (ea, eb) (little-add k k s p)
 
+-- what the toolchain makes of two, four and eight bytes is the number that they make
+module _ (s : List ℕ) (p v : ℕ) where
+  abbrev byte : ℕ → ℕ
+  byte i = get_or s (p + i) 0
+
+  pub little-two : v ≡ get_or s p 0 + byte 1 * 256 → v ≡ little_at 2 s p
+  unfolding little_at
+  little-two h = omega (arith, h)
+
+  pub little-four : v ≡ get_or s p 0 + byte 1 * 256 + byte 2 * 65536 + byte 3 * 16777216 → v ≡ little_at 4 s p
+  unfolding little_at
+  little-four h =
+      let e : p + 1 + 1 ≡ p + 2 = omega arith in
+      let f : p + 2 + 1 ≡ p + 3 = omega arith in
+      rw (e, f) (omega (arith, h))
+
+  pub little-eight : v ≡ get_or s p 0 + byte 1 * 256 + byte 2 * 65536 + byte 3 * 16777216 + byte 4 * 4294967296 + byte 5 * 1099511627776 + byte 6 * 281474976710656 + byte 7 * 72057594037927936
+      → v ≡ little_at 8 s p
+  unfolding little_at
+  little-eight h =
+      let a : p + 1 + 1 ≡ p + 2 = omega arith in
+      let b : p + 2 + 1 ≡ p + 3 = omega arith in
+      let c : p + 3 + 1 ≡ p + 4 = omega arith in
+      let d : p + 4 + 1 ≡ p + 5 = omega arith in
+      let e : p + 5 + 1 ≡ p + 6 = omega arith in
+      let f : p + 6 + 1 ≡ p + 7 = omega arith in
+      rw (a, b, c, d, e, f) (omega (arith, h))
+
 -- k bytes, each below 256, make a number below 256 ^ k
 pub little-below : (k : ℕ) (s : List ℕ) (p : ℕ) → ((i : ℕ) → get_or s i 0 < 256) → little_at k s p < 256 ^ k
 unfolding little_at
@@ -75,13 +103,10 @@ field-got k s p v q e = go (leb (p + k) (length s)) refl e
 pub field-within : (k : ℕ) (s : List ℕ) (p v q : ℕ) → fixed_at k s p ≡ got v q → q ≤ length s
 field-within k s p v q e = let t = field-got k s p v q e in omega (arith, t.room, t.next)
 
--- where the bytes are there, the field is
-pub never-ended : {v : ℕ} (k : ℕ) (s : List ℕ) (p : ℕ) → p + k ≤ length s → fixed_at k s p ≡ ended → 0 ≡ v
-never-ended {v = v} k s p h e = ap (value-or v) e'
+-- where the bytes are there, the field is: a refusal would make any number of them
+pub never-refused : (k : ℕ) (s : List ℕ) (p n : ℕ) (d : List ℕ) → p + k ≤ length s → refused n d ≡ fixed_at k s p → 0 ≡ little_at k s p
+never-refused k s p n d h e = ap (value-or (little_at k s p)) (field-there k s p (little_at k s p) h refl ∙ sym e)
   where
     value-or : ℕ → Read ℕ → ℕ
     value-or v (answered g) = 0
     value-or v (refused n d) = v
-
-    e' : got (little_at k s p) (p + k) ≡ ended
-    e' = field-there k s p (little_at k s p) h refl ∙ e

@@ -1,14 +1,6 @@
 -- Fields of a fixed width at a place of a list of bytes, little-endian, each over the width: k is 1, 2, 4 or 8 bytes.
 use Rattle.std.specs.Prelude.{ℕ, zero, suc, ◌+◌, ◌-◌, ◌*◌, ◌^◌, List, length, get_or, leb, ltb, ℤ, pos, negsuc}
 use Rattle.answer.specs.Answer.{Read, got, ended, pick, and_then}
-use Rattle.field.specs.declared.fixed.Read8.{Read8}
-use Rattle.field.specs.declared.fixed.Read8.TheVariants as r8
-use Rattle.field.specs.declared.fixed.Read16.{Read16}
-use Rattle.field.specs.declared.fixed.Read16.TheVariants as r16
-use Rattle.field.specs.declared.fixed.Read32.{Read32}
-use Rattle.field.specs.declared.fixed.Read32.TheVariants as r32
-use Rattle.field.specs.declared.fixed.Read64.{Read64}
-use Rattle.field.specs.declared.fixed.Read64.TheVariants as r64
 
 -- the number that k bytes at place p make, lowest byte first
 unfoldable pub little_at : ℕ → List ℕ → ℕ → ℕ
@@ -26,20 +18,3 @@ twos k x = pick (ltb x (2 ^ (8 * k - 1))) (pos x) (negsuc (2 ^ (8 * k) - suc x))
 -- the signed field of k bytes at place p
 unfoldable pub signed_at : ℕ → List ℕ → ℕ → Read ℤ
 signed_at k s p = and_then (fixed_at k s p) (λ x q. got (twos k x) q)
-
--- what the answers say
-abbrev pub said8 : Read8 → Read ℕ
-said8 (r8.Got x p) = got x p
-said8 r8.Ended = ended
-
-abbrev pub said16 : Read16 → Read ℕ
-said16 (r16.Got x p) = got x p
-said16 r16.Ended = ended
-
-abbrev pub said32 : Read32 → Read ℕ
-said32 (r32.Got x p) = got x p
-said32 r32.Ended = ended
-
-abbrev pub said64 : Read64 → Read ℕ
-said64 (r64.Got x p) = got x p
-said64 r64.Ended = ended

@@ -1,28 +1,18 @@
 -- Document 01, "Indices and primitives": indices and string references, four bytes each, and optional indices, none at the numbers that 01
 -- names.
-use Rattle.std.specs.Prelude.{ℕ, List, [], ◌∷◌}
-use Rattle.std.proofs.Math.Option.{Option, none, some}
-use Rattle.answer.specs.Answer.{Read, got, ended, pick, and_then}
+use Rattle.std.specs.Prelude.{Result, Ok, Err, Option, None, Some, ℕ, List, [], ◌∷◌}
+use Rattle.answer.specs.Refusals.{no}
+use Rattle.field.specs.declared.index.IdIndex.{IdIndex}
+use Rattle.answer.specs.declared.Refusal.{Refusal}
+use Rattle.field.specs.declared.index.StringRef.{StringRef}
+use Rattle.field.specs.declared.index.TypeIndex.{TypeIndex}
+use Rattle.answer.specs.Answer.{Read, got, pick, and_then}
 use Rattle.answer.specs.Tables.{among}
 use Rattle.field.specs.Fields.{fixed_at}
 use Rattle.field.specs.declared.index.Stream.{Stream}
 use Rattle.field.specs.declared.index.Stream.TheVariants as stream
 use Rattle.field.specs.declared.index.ItemIndex.{ItemIndex}
 use Rattle.field.specs.declared.index.ItemIndex.TheVariants as index
-use Rattle.field.specs.declared.index.ReadType.{ReadType}
-use Rattle.field.specs.declared.index.ReadType.TheVariants as at_type
-use Rattle.field.specs.declared.index.ReadId.{ReadId}
-use Rattle.field.specs.declared.index.ReadId.TheVariants as at_id
-use Rattle.field.specs.declared.index.ReadStringRef.{ReadStringRef}
-use Rattle.field.specs.declared.index.ReadStringRef.TheVariants as at_string
-use Rattle.field.specs.declared.index.OptTypeIndex.{OptTypeIndex}
-use Rattle.field.specs.declared.index.OptTypeIndex.TheVariants as type
-use Rattle.field.specs.declared.index.OptIdIndex.{OptIdIndex}
-use Rattle.field.specs.declared.index.OptIdIndex.TheVariants as id
-use Rattle.field.specs.declared.index.ReadOptType.{ReadOptType}
-use Rattle.field.specs.declared.index.ReadOptType.TheVariants as rtype
-use Rattle.field.specs.declared.index.ReadOptId.{ReadOptId}
-use Rattle.field.specs.declared.index.ReadOptId.TheVariants as rid
 
 -- index n of a stream
 abbrev pub index_in : Stream → ℕ → ItemIndex
@@ -46,37 +36,29 @@ no_id = 0 ∷ []
 
 -- n, or none where it is one of these
 unfoldable pub optional_of : List ℕ → ℕ → Option ℕ
-optional_of nones n = pick (among n nones) none (some n)
+optional_of nones n = pick (among n nones) None (Some n)
 
 -- the optional index at place p
 unfoldable pub optional_at : List ℕ → List ℕ → ℕ → Read (Option ℕ)
 optional_at nones s p = and_then (fixed_at 4 s p) (λ n q. got (optional_of nones n) q)
 
 -- what the answers say
-abbrev pub said_type : ReadType → Read ℕ
-said_type (at_type.Got t p) = got t.0 p
-said_type at_type.Ended = ended
+abbrev pub said_type : Result (TypeIndex × ℕ) Refusal → Read ℕ
+said_type (Ok (t, p)) = got t.0 p
+said_type (Err e) = no e
 
-abbrev pub said_id : ReadId → Read ℕ
-said_id (at_id.Got i p) = got i.0 p
-said_id at_id.Ended = ended
+abbrev pub said_id : Result (IdIndex × ℕ) Refusal → Read ℕ
+said_id (Ok (i, p)) = got i.0 p
+said_id (Err e) = no e
 
-abbrev pub said_string_ref : ReadStringRef → Read ℕ
-said_string_ref (at_string.Got r p) = got r.0 p
-said_string_ref at_string.Ended = ended
+abbrev pub said_string_ref : Result (StringRef × ℕ) Refusal → Read ℕ
+said_string_ref (Ok (r, p)) = got r.0 p
+said_string_ref (Err e) = no e
 
-abbrev pub type_option : OptTypeIndex → Option ℕ
-type_option type.None = none
-type_option (type.Some t) = some t.0
+abbrev pub type_option : Option TypeIndex → Option ℕ
+type_option None = None
+type_option (Some t) = Some t.0
 
-abbrev pub id_option : OptIdIndex → Option ℕ
-id_option id.None = none
-id_option (id.Some i) = some i.0
-
-abbrev pub said_opt_type : ReadOptType → Read (Option ℕ)
-said_opt_type (rtype.Got t p) = got (type_option t) p
-said_opt_type rtype.Ended = ended
-
-abbrev pub said_opt_id : ReadOptId → Read (Option ℕ)
-said_opt_id (rid.Got i p) = got (id_option i) p
-said_opt_id rid.Ended = ended
+abbrev pub id_option : Option IdIndex → Option ℕ
+id_option None = None
+id_option (Some i) = Some i.0

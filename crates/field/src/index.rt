@@ -1,11 +1,12 @@
 // Indices into the TPI stream, indices into the IPI stream and string references: three kinds of number, so that the build refuses one
 // given for another; and the tag that says in which of the two streams an item counts. An optional index is none at the numbers that document 01 names.
-ghost use Rattle.std.specs.Prelude.{◌≡◌, leb};
-ghost use Rattle.field.specs.Indices.{said_type, said_id, said_string_ref, optional_of, no_type, no_id, optional_at, type_option, id_option, said_opt_type, said_opt_id, index_in, stream_in, index_number};
+ghost use Rattle.std.specs.Prelude.{◌≡◌, leb, ℕ, List, refl, option_map};
+ghost use Rattle.field.specs.Indices.{said_type, said_id, said_string_ref, optional_of, no_type, no_id, optional_at, type_option, id_option, index_in, stream_in, index_number};
 ghost use Rattle.field.specs.Fields.{fixed_at};
+ghost use Rattle.answer.specs.Refusals.{said_read};
 
 use crate::fixed;
-use crate::fixed::Read32;
+use answer::Refusal;
 
 // A type: a primitive below 0x1000, and from there up a record of the TPI stream.
 #[derive(Clone, Copy)]
@@ -34,46 +35,87 @@ pub enum ItemIndex {
     Ids(IdIndex),
 }
 
-#[derive(Clone, Copy)]
-pub enum ReadType {
-    Got(TypeIndex, usize),
-    Ended,
+// A number that counts in a stream or in the string table, by a type of its own.
+pub trait Index: Copy {
+    // The number of an index.
+    ghost counts: { Self → ℕ };
+
+    // The index of a number.
+    ghost counted: { ℕ → Self };
+
+    fn from_number(n: u32) -> Self
+        ensures { result ≡ counted n };
+
+    // An index is its number, and nothing else.
+    ghost same: { (n : ℕ) → counts (counted n) ≡ n };
+
+    ghost told: { (i : Self) → counted (counts i) ≡ i };
 }
 
-#[derive(Clone, Copy)]
-pub enum ReadId {
-    Got(IdIndex, usize),
-    Ended,
+// An index that is none at some numbers.
+pub trait OptionalIndex: Index {
+    ghost nones: { List ℕ };
+
+    fn or_none(self) -> Option<Self>
+        ensures { option_map Self.counts result ≡ optional_of nones (Self.counts self) };
 }
 
-#[derive(Clone, Copy)]
-pub enum ReadStringRef {
-    Got(StringRef, usize),
-    Ended,
+impl Index for TypeIndex {
+    ghost counts = { λ i. i.0 };
+
+    ghost counted = { λ n. record { 0 = n } };
+
+    ghost same = { λ n. refl };
+
+    ghost told = { λ i. refl };
+
+    fn from_number(n: u32) -> TypeIndex {
+        TypeIndex(n)
+    }
 }
 
-#[derive(Clone, Copy)]
-pub enum OptTypeIndex {
-    None,
-    Some(TypeIndex),
+impl Index for IdIndex {
+    ghost counts = { λ i. i.0 };
+
+    ghost counted = { λ n. record { 0 = n } };
+
+    ghost same = { λ n. refl };
+
+    ghost told = { λ i. refl };
+
+    fn from_number(n: u32) -> IdIndex {
+        IdIndex(n)
+    }
 }
 
-#[derive(Clone, Copy)]
-pub enum OptIdIndex {
-    None,
-    Some(IdIndex),
+impl Index for StringRef {
+    ghost counts = { λ r. r.0 };
+
+    ghost counted = { λ n. record { 0 = n } };
+
+    ghost same = { λ n. refl };
+
+    ghost told = { λ i. refl };
+
+    fn from_number(n: u32) -> StringRef {
+        StringRef(n)
+    }
 }
 
-#[derive(Clone, Copy)]
-pub enum ReadOptType {
-    Got(OptTypeIndex, usize),
-    Ended,
+impl OptionalIndex for TypeIndex {
+    ghost nones = { no_type };
+
+    fn or_none(self) -> Option<TypeIndex> {
+        self.optional()
+    }
 }
 
-#[derive(Clone, Copy)]
-pub enum ReadOptId {
-    Got(OptIdIndex, usize),
-    Ended,
+impl OptionalIndex for IdIndex {
+    ghost nones = { no_id };
+
+    fn or_none(self) -> Option<IdIndex> {
+        self.optional()
+    }
 }
 
 impl Stream {
@@ -119,17 +161,17 @@ impl TypeIndex {
     }
 
     // None at 0 and 0xffff.
-    pub fn optional(self) -> OptTypeIndex
+    pub fn optional(self) -> Option<TypeIndex>
         ensures { type_option result ≡ optional_of no_type self.0 }
     {
         let n = self.0;
         if n == 0 {
-            return OptTypeIndex::None;
+            return None;
         }
         if n == 0xffff {
-            return OptTypeIndex::None;
+            return None;
         }
-        OptTypeIndex::Some(self)
+        Some(self)
     }
 }
 
@@ -142,63 +184,53 @@ impl IdIndex {
     }
 
     // None at 0 only.
-    pub fn optional(self) -> OptIdIndex
+    pub fn optional(self) -> Option<IdIndex>
         ensures { id_option result ≡ optional_of no_id self.0 }
     {
         let n = self.0;
         if n == 0 {
-            return OptIdIndex::None;
+            return None;
         }
-        OptIdIndex::Some(self)
+        Some(self)
     }
 }
 
 // The type index at place p.
-pub fn type_at(s: &[u8], p: usize) -> ReadType
+pub fn type_at(s: &[u8], p: usize) -> Result<(TypeIndex, usize), Refusal>
     ensures { said_type result ≡ fixed_at 4 s.now p }
 {
-    let Read32::Got(n, q) = fixed::u32_at(s, p) else {
-        return ReadType::Ended;
-    };
-    ReadType::Got(TypeIndex(n), q)
+    let (n, q) = fixed::u32_at(s, p)?;
+    Ok((TypeIndex(n), q))
 }
 
 // The id index at place p.
-pub fn id_at(s: &[u8], p: usize) -> ReadId
+pub fn id_at(s: &[u8], p: usize) -> Result<(IdIndex, usize), Refusal>
     ensures { said_id result ≡ fixed_at 4 s.now p }
 {
-    let Read32::Got(n, q) = fixed::u32_at(s, p) else {
-        return ReadId::Ended;
-    };
-    ReadId::Got(IdIndex(n), q)
+    let (n, q) = fixed::u32_at(s, p)?;
+    Ok((IdIndex(n), q))
 }
 
 // The string reference at place p.
-pub fn string_ref_at(s: &[u8], p: usize) -> ReadStringRef
+pub fn string_ref_at(s: &[u8], p: usize) -> Result<(StringRef, usize), Refusal>
     ensures { said_string_ref result ≡ fixed_at 4 s.now p }
 {
-    let Read32::Got(n, q) = fixed::u32_at(s, p) else {
-        return ReadStringRef::Ended;
-    };
-    ReadStringRef::Got(StringRef(n), q)
+    let (n, q) = fixed::u32_at(s, p)?;
+    Ok((StringRef(n), q))
 }
 
 // The optional type index at place p.
-pub fn optional_type_at(s: &[u8], p: usize) -> ReadOptType
-    ensures { said_opt_type result ≡ optional_at no_type s.now p }
+pub fn optional_type_at(s: &[u8], p: usize) -> Result<(Option<TypeIndex>, usize), Refusal>
+    ensures { said_read type_option result ≡ optional_at no_type s.now p }
 {
-    let Read32::Got(n, q) = fixed::u32_at(s, p) else {
-        return ReadOptType::Ended;
-    };
-    ReadOptType::Got(TypeIndex(n).optional(), q)
+    let (n, q) = fixed::u32_at(s, p)?;
+    Ok((TypeIndex(n).optional(), q))
 }
 
 // The optional id index at place p.
-pub fn optional_id_at(s: &[u8], p: usize) -> ReadOptId
-    ensures { said_opt_id result ≡ optional_at no_id s.now p }
+pub fn optional_id_at(s: &[u8], p: usize) -> Result<(Option<IdIndex>, usize), Refusal>
+    ensures { said_read id_option result ≡ optional_at no_id s.now p }
 {
-    let Read32::Got(n, q) = fixed::u32_at(s, p) else {
-        return ReadOptId::Ended;
-    };
-    ReadOptId::Got(IdIndex(n).optional(), q)
+    let (n, q) = fixed::u32_at(s, p)?;
+    Ok((IdIndex(n).optional(), q))
 }

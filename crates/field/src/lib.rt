@@ -4,4 +4,5 @@
 
 pub mod fixed;
 pub mod index;
+pub mod reader;
 pub mod run;

@@ -1,25 +1,21 @@
 // Some bytes at a place of a slice: the place after them, and the bytes themselves.
 ghost use Rattle.std.specs.Prelude.{◌≡◌};
-ghost use Rattle.field.specs.Runs.{bytes_after, bytes_at, said_after};
+ghost use Rattle.field.specs.Runs.{bytes_after, bytes_at};
+ghost use Rattle.answer.specs.Refusals.{itself, said};
 
-// The place after some bytes.
-#[derive(Clone, Copy)]
-pub enum After {
-    At(usize),
-    Ended,
-}
+use answer::Refusal;
 
 // The place after the n bytes at place p.
-pub fn after_bytes(s: &[u8], p: usize, n: usize) -> After
-    ensures { said_after result ≡ bytes_after n s.now p }
+pub fn after_bytes(s: &[u8], p: usize, n: usize) -> Result<usize, Refusal>
+    ensures { said itself result ≡ bytes_after n s.now p }
 {
     if s.len() < p {
-        return After::Ended;
+        return Err(Refusal::Ended);
     }
     if s.len() - p < n {
-        return After::Ended;
+        return Err(Refusal::Ended);
     }
-    After::At(p + n)
+    Ok(p + n)
 }
 
 // The n bytes at place p; none where they pass the end.

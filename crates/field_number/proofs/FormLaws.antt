@@ -1,10 +1,10 @@
 -- The shortest form, and the forms that numeric leaves are read in. Assumes nothing.
+use Rattle.std.specs.Prelude.{Option, None, Some}
 use Prim.Native.Nat.{ℕ, ◌+◌, ◌-◌, ◌*◌, ◌≤◌, ◌<◌, ◌^◌, suc}
 use native.Mathlib.Omega.{arith}
 use mathlib.Core.Bool.{Bool, true, false}
 use mathlib.Core.Path.{◌≡◌, refl, ap, sym, ◌∙◌}
 use mathlib.Core.List.{List, [], ◌++◌}
-use mathlib.Core.Option.{Option, none, some}
 use lib.ListN.{length, length-append}
 use lib.Dec.{leb, ltb, eqb, lit≤}
 use lib.IntN.{ℤ, pos, negsuc}
@@ -123,8 +123,8 @@ pub record Took (P : ℤ → ℕ → Type 0) (p : ℕ) (z : ℤ) (e : ℕ) : Typ
   pub holds : P z width
 
 module _ (P : ℤ → ℕ → Type 0) (s : List ℕ) where
-  either : (p : ℕ) (z : ℤ) (e : ℕ) (t : Bool) (w : Wide) (rest : Option Wide) → (wide_at (some w) s (p + 2) ≡ got z e → Took P p z e)
-      → (wide_at rest s (p + 2) ≡ got z e → Took P p z e) → wide_at (pick t (some w) rest) s (p + 2) ≡ got z e → Took P p z e
+  either : (p : ℕ) (z : ℤ) (e : ℕ) (t : Bool) (w : Wide) (rest : Option Wide) → (wide_at (Some w) s (p + 2) ≡ got z e → Took P p z e)
+      → (wide_at rest s (p + 2) ≡ got z e → Took P p z e) → wide_at (pick t (Some w) rest) s (p + 2) ≡ got z e → Took P p z e
   either p z e true w rest f g h = f h
   either p z e false w rest f g h = g h
 
@@ -150,7 +150,7 @@ module _ (P : ℤ → ℕ → Type 0) (s : List ℕ) where
       (either p z e (eqb n 0x8003) (signed 4) _ (of-fixed 4 (λ x. twos 4 x) p z e h.i32)
       (either p z e (eqb n 0x8004) (unsigned 4) _ (of-fixed 4 (λ x. pos x) p z e h.u32)
       (either p z e (eqb n 0x8009) (signed 8) _ (of-fixed 8 (λ x. twos 8 x) p z e h.i64)
-      (either p z e (eqb n 0x800a) (unsigned 8) none (of-fixed 8 (λ x. pos x) p z e h.u64)
+      (either p z e (eqb n 0x800a) (unsigned 8) None (of-fixed 8 (λ x. pos x) p z e h.u64)
       (λ r. refusal r)))))))
 
   pub of-numeric : Each P s → (p : ℕ) (z : ℤ) (e : ℕ) → numeric_at s p ≡ got z e → Took P p z e
@@ -319,6 +319,11 @@ module _ (s : List ℕ) (p : ℕ) where
   pub size-refused : (n : ℕ) (d : List ℕ) → numeral_at s p ≡ refused n d → refused n d ≡ sized_at s p
   size-refused n d h = ap (λ a. and_then a natural_of) (sym h) ∙ sized-is form_of s p
 
+  -- where not even the first two bytes are there
+  pub size-short : (n : ℕ) (d : List ℕ) → refused n d ≡ fixed_at 2 s p → refused n d ≡ sized_at s p
+  unfolding numeral_by numeric_at
+  size-short n d h = size-refused n d (rw (sym h) refl)
+
   module _ (x : Numeral ℤ Form) (q n : ℕ) (h : numeral_at s p ≡ got x q) where
     either-sign : (z : ℤ) → x.value ≡ z → and_then (natural z q) (λ n e. got (record { value = n; form = x.form }) e) ≡ sized_at s p
     either-sign z e = ap (λ y. and_then (natural y q) (λ n e. got (record { value = n; form = x.form }) e)) (sym e)
@@ -334,9 +339,9 @@ module _ (s : List ℕ) (p : ℕ) where
 
 module _ (s : List ℕ) (p : ℕ) (ys : List ℕ) where
   -- a prefix and the k bytes x after it, read by what the table says of the prefix
-  wide_back : (prefix k x : ℕ) (z : ℤ) (how : Wide) → find prefix prefixes ≡ some how
+  wide_back : (prefix k x : ℕ) (z : ℤ) (how : Wide) → find prefix prefixes ≡ Some how
       → ltb prefix 0x8000 ≡ false → prefix < 256 ^ 2 → x < 256 ^ k
-      → ((q e : ℕ) → fixed_at k s q ≡ got x e → wide_at (some how) s q ≡ got z e)
+      → ((q e : ℕ) → fixed_at k s q ≡ got x e → wide_at (Some how) s q ≡ got z e)
       → Stands s p (prefixed prefix k x) ys → numeric_at s p ≡ got z (p + length (prefixed prefix k x))
   unfolding numeric_at
   wide_back prefix k x z how t b h hx g st =
@@ -346,12 +351,12 @@ module _ (s : List ℕ) (p : ℕ) (ys : List ℕ) where
       let l : q + length (bytes k x) ≡ p + length (prefixed prefix k x) = omega (arith, length-append (bytes 2 prefix) (bytes k x)) in
       rw (fixed_back 2 prefix s p (bytes k x ++ ys) h f, b, t, g q _ (fixed_back k x s q ys hx n), l)
 
-  unsigned_back : (prefix k n : ℕ) → find prefix prefixes ≡ some (unsigned k) → ltb prefix 0x8000 ≡ false → prefix < 256 ^ 2 → n < 256 ^ k
+  unsigned_back : (prefix k n : ℕ) → find prefix prefixes ≡ Some (unsigned k) → ltb prefix 0x8000 ≡ false → prefix < 256 ^ 2 → n < 256 ^ k
       → Stands s p (prefixed prefix k n) ys → numeric_at s p ≡ got (pos n) (p + length (prefixed prefix k n))
   unfolding unsigned_at
   unsigned_back prefix k n t b h hn st = wide_back prefix k n (pos n) (unsigned k) t b h hn (λ q e f. rw f) st
 
-  signed_back : (prefix k n half : ℕ) → find prefix prefixes ≡ some (signed k) → ltb prefix 0x8000 ≡ false → prefix < 256 ^ 2
+  signed_back : (prefix k n half : ℕ) → find prefix prefixes ≡ Some (signed k) → ltb prefix 0x8000 ≡ false → prefix < 256 ^ 2
       → 2 ^ (8 * k - 1) ≡ half → 2 ^ (8 * k) ≡ 2 * half → 256 ^ k ≡ 2 * half → n < half
       → Stands s p (prefixed prefix k (2 * half - suc n)) ys → numeric_at s p ≡ got (negsuc n) (p + length (prefixed prefix k (2 * half - suc n)))
   unfolding signed_at

@@ -1,11 +1,11 @@
 -- The statements of specs/Forms.antt. Assumes nothing.
+use Rattle.std.specs.Prelude.{None}
 use Prim.Native.Nat.{ℕ, zero, ◌+◌, ◌*◌, ◌/◌, ◌%◌, ◌-◌, ◌<◌, ◌^◌, suc}
 use native.Mathlib.Omega.{arith}
 use native.Mathlib.Nat.{zero-add}
 use mathlib.Core.Bool.{Bool, true, false}
 use mathlib.Core.Path.{◌≡◌, refl, ap, sym, ◌∙◌}
 use mathlib.Core.List.{List, [], ◌∷◌, ◌++◌, append-nil}
-use mathlib.Core.Option.{none}
 use lib.ListN.{length}
 use lib.Dec.{ltb}
 use lib.IntN.{ℤ, pos, negsuc}
@@ -22,7 +22,7 @@ use Rattle.field_number.proofs.FormLaws.{refusal, fewest, read-carried, numeric-
 -- Unsigned first -----------------------------------------------------------------------------------------------------------------
 
 -- a number below 0x8000 is no prefix
-no-prefix : (n : ℕ) → n < 0x8000 → find n prefixes ≡ none
+no-prefix : (n : ℕ) → n < 0x8000 → find n prefixes ≡ None
 unfolding find prefixes
 no-prefix n h = rw (
   ne_eqb n 0x8000 (λ e. absurd (omega arith)),

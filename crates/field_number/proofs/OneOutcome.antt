@@ -1,18 +1,18 @@
 -- What an answer of this crate says fixes the answer, so that each contract `said.. r ≡ ..` admits one outcome: every answer is read back
 -- from what it says. Assumes nothing.
+use Rattle.std.specs.Prelude.{Result}
+use Rattle.answer.specs.Refusals.{said_read}
+use Rattle.answer.specs.declared.Refusal.{Refusal}
+use Rattle.field_number.specs.declared.Size.{Size}
+use Rattle.field_number.specs.declared.Variant.{Variant}
 use Prim.Native.Nat.{ℕ}
-use mathlib.Core.Path.{◌≡◌, refl, ap}
+use mathlib.Core.Path.{◌≡◌, refl}
 use lib.IntN.{ℤ, pos, negsuc}
-use Rattle.answer.specs.Answer.{answered, refused, Read}
-use Rattle.answer.proofs.OneOutcome.{one_of, refusal-back, refusal_in}
+use Rattle.answer.proofs.OneOutcome.{one_of, one_read}
 use Rattle.field_number.specs.Numbers.{number_value}
-use Rattle.field_number.specs.Forms.{Form, Numeral, said_variant, said_size}
+use Rattle.field_number.specs.Forms.{Form, Numeral, variant_told, size_told}
 use Rattle.field_number.specs.declared.Number.{Number}
 use Rattle.field_number.specs.declared.Number.TheVariants as number
-use Rattle.field_number.specs.declared.ReadVariant.{ReadVariant}
-use Rattle.field_number.specs.declared.ReadVariant.TheVariants as rvariant
-use Rattle.field_number.specs.declared.ReadSize.{ReadSize}
-use Rattle.field_number.specs.declared.ReadSize.TheVariants as rsize
 
 abbrev pub hear_number : ℤ → Number
 hear_number (pos n) = number.Natural n
@@ -25,24 +25,17 @@ back-number (number.Negative n) = refl
 pub one_number : (r q : Number) → number_value r ≡ number_value q → r ≡ q
 one_number = one_of number_value hear_number back-number
 
-abbrev hear_variant : Read (Numeral ℤ Form) → ReadVariant
-hear_variant (answered g) = let x = g.value in rvariant.Got (record { value = hear_number x.value; width = x.form.width; shorter = x.form.shorter }) g.next
-hear_variant (refused n d) = rvariant.Refused (refusal_in n d)
+abbrev hear_variant : Numeral ℤ Form → Variant
+hear_variant x = record { value = hear_number x.value; width = x.form.width; shorter = x.form.shorter }
 
-back_variant : (r : ReadVariant) → hear_variant (said_variant r) ≡ r
-back_variant (rvariant.Got v p) = rw (back-number v.value)
-back_variant (rvariant.Refused e) = ap rvariant.Refused (refusal-back e)
+back_variant : (v : Variant) → hear_variant (variant_told v) ≡ v
+back_variant v = rw (back-number v.value)
 
-pub one-variant : (r q : ReadVariant) → said_variant r ≡ said_variant q → r ≡ q
-one-variant = one_of said_variant hear_variant back_variant
+pub one-variant : (r q : Result (Variant × ℕ) Refusal) → said_read variant_told r ≡ said_read variant_told q → r ≡ q
+one-variant = one_read variant_told hear_variant back_variant
 
-abbrev hear_size : Read (Numeral ℕ Form) → ReadSize
-hear_size (answered g) = let x = g.value in rsize.Got (record { value = x.value; width = x.form.width; shorter = x.form.shorter }) g.next
-hear_size (refused n d) = rsize.Refused (refusal_in n d)
+abbrev hear_size : Numeral ℕ Form → Size
+hear_size x = record { value = x.value; width = x.form.width; shorter = x.form.shorter }
 
-back-size : (r : ReadSize) → hear_size (said_size r) ≡ r
-back-size (rsize.Got v p) = refl
-back-size (rsize.Refused e) = ap rsize.Refused (refusal-back e)
-
-pub one_size : (r q : ReadSize) → said_size r ≡ said_size q → r ≡ q
-one_size = one_of said_size hear_size back-size
+pub one_size : (r q : Result (Size × ℕ) Refusal) → said_read size_told r ≡ said_read size_told q → r ≡ q
+one_size = one_read size_told hear_size (λ v. refl)

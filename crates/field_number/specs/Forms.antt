@@ -1,19 +1,13 @@
 -- R-4 of document 02: "how many bytes it used and whether a shorter form existed under R-1's rule"; R-1: "the shortest form that carries the
 -- number, unsigned before signed at equal length".
-use Rattle.std.specs.Prelude.{ℕ, suc, ◌+◌, ◌-◌, ◌^◌, ◌≤◌, ◌<◌, Bool, true, false, ◌≡◌, List, ◌++◌, length, get_or, ltb, ℤ, pos, negsuc}
-use Rattle.std.proofs.Math.Option.{Option, none, some}
+use Rattle.std.specs.Prelude.{Option, None, Some, ℕ, suc, ◌+◌, ◌-◌, ◌^◌, ◌≤◌, ◌<◌, Bool, true, false, ◌≡◌, List, ◌++◌, length, get_or, ltb, ℤ, pos, negsuc}
 use Rattle.answer.specs.Answer.{Read, got, pick, and_then}
 use Rattle.answer.specs.Tables.{find}
-use Rattle.answer.specs.Refusals.{no}
 use Rattle.field.specs.Fields.{little_at}
 use Rattle.field.specs.Bytes.{bytes}
 use Rattle.field_number.specs.Numbers.{Wide, signed, unsigned, prefixes, numeric_at, size_at, number_value}
 use Rattle.field_number.specs.declared.Variant.{Variant}
 use Rattle.field_number.specs.declared.Size.{Size}
-use Rattle.field_number.specs.declared.ReadVariant.{ReadVariant}
-use Rattle.field_number.specs.declared.ReadVariant.TheVariants as rvariant
-use Rattle.field_number.specs.declared.ReadSize.{ReadSize}
-use Rattle.field_number.specs.declared.ReadSize.TheVariants as rsize
 
 -- a prefix, and the number in k bytes behind it
 abbrev pub prefixed : ℕ → ℕ → ℕ → List ℕ
@@ -70,13 +64,11 @@ variant_form v = record { width = v.width; shorter = v.shorter }
 abbrev pub size_form : Size → Form
 size_form v = record { width = v.width; shorter = v.shorter }
 
-abbrev pub said_variant : ReadVariant → Read (Numeral ℤ Form)
-said_variant (rvariant.Got v p) = got (record { value = number_value v.value; form = variant_form v }) p
-said_variant (rvariant.Refused e) = no e
+abbrev pub variant_told : Variant → Numeral ℤ Form
+variant_told v = record { value = number_value v.value; form = variant_form v }
 
-abbrev pub said_size : ReadSize → Read (Numeral ℕ Form)
-said_size (rsize.Got v p) = got (record { value = v.value; form = size_form v }) p
-said_size (rsize.Refused e) = no e
+abbrev pub size_told : Size → Numeral ℕ Form
+size_told v = record { value = v.value; form = size_form v }
 
 -- The rule, as promises; proofs/FormsProof.antt has them ----------------------------------------------------------------------------
 
@@ -84,9 +76,9 @@ abbrev pub AllBytes : List ℕ → Type 0
 AllBytes s = (i : ℕ) → get_or s i 0 < 256
 
 abbrev pub is_signed : Option Wide → Bool
-is_signed (some (signed k)) = true
-is_signed (some (unsigned k)) = false
-is_signed none = false
+is_signed (Some (signed k)) = true
+is_signed (Some (unsigned k)) = false
+is_signed None = false
 
 -- these bytes, all of them, read as the number z
 pub record Reads (bs : List ℕ) (z : ℤ) : Type 0 where

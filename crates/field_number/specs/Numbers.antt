@@ -1,14 +1,10 @@
 -- Document 01, "Strings, padding, numeric leaves": numeric leaves.
-use Rattle.std.specs.Prelude.{ℕ, List, [], ◌∷◌, ltb, ℤ, pos, negsuc}
-use Rattle.std.proofs.Math.Option.{Option, none, some}
+use Rattle.std.specs.Prelude.{Option, None, Some, ℕ, List, [], ◌∷◌, ltb, ℤ, pos, negsuc}
 use Rattle.answer.specs.Answer.{refused, Read, got, pick, and_then}
 use Rattle.answer.specs.Tables.{Line, ◌is◌, find}
-use Rattle.answer.specs.Refusals.{no}
 use Rattle.field.specs.Fields.{fixed_at, signed_at}
 use Rattle.field_number.specs.declared.Number.{Number}
 use Rattle.field_number.specs.declared.Number.TheVariants as number
-use Rattle.field_number.specs.declared.ReadNumber.{ReadNumber}
-use Rattle.field_number.specs.declared.ReadNumber.TheVariants as rnumber
 
 -- what follows a prefix: a number of so many bytes
 pub data Wide : Type 0 where
@@ -32,9 +28,9 @@ unsigned_at k s p = and_then (fixed_at k s p) (λ x q. got (pos x) q)
 
 -- 11 for an unknown prefix
 abbrev pub wide_at : Option Wide → List ℕ → ℕ → Read ℤ
-wide_at none s p = refused 11 []
-wide_at (some (signed k)) s p = signed_at k s p
-wide_at (some (unsigned k)) s p = unsigned_at k s p
+wide_at None s p = refused 11 []
+wide_at (Some (signed k)) s p = signed_at k s p
+wide_at (Some (unsigned k)) s p = unsigned_at k s p
 
 -- a numeric leaf below 0x8000 is itself
 unfoldable pub numeric_at : List ℕ → ℕ → Read ℤ
@@ -54,7 +50,3 @@ size_at s p = and_then (numeric_at s p) natural
 abbrev pub number_value : Number → ℤ
 number_value (number.Natural n) = pos n
 number_value (number.Negative n) = negsuc n
-
-abbrev pub said_number : ReadNumber → Read ℤ
-said_number (rnumber.Got n p) = got (number_value n) p
-said_number (rnumber.Refused e) = no e

@@ -2,16 +2,17 @@
 // number follows it.
 #![tactic(auto, using(crate::proofs::Used::laws), unfolding(answer::specs::Tables::find, field::specs::Fields::signed_at, crate::specs::Forms::numeral_by, crate::specs::Numbers::numeric_at, crate::specs::Numbers::prefixes, crate::specs::Numbers::unsigned_at))]
 
-ghost use Rattle.std.specs.Prelude.{◌≡◌, ◌-◌, ◌*◌, ◌≤◌, ◌<◌, suc, ltb, pos, negsuc, length};
+ghost use Rattle.std.specs.Prelude.{◌≡◌, OnErr, ◌-◌, ◌*◌, ◌≤◌, ◌<◌, suc, ltb, pos, negsuc, length};
 ghost use Rattle.answer.specs.Answer.{pick};
 ghost use Rattle.answer.specs.Tables.{find};
 ghost use Rattle.field.specs.Fields.{signed_at};
-ghost use Rattle.field_number.specs.Numbers.{unsigned_at, number_value, said_number, wide_at, prefixes};
-ghost use Rattle.field_number.specs.Forms.{shortest, said_variant, said_size, numeral_at, sized_at};
+ghost use Rattle.field_number.specs.Numbers.{unsigned_at, number_value, wide_at, prefixes};
+ghost use Rattle.field_number.specs.Forms.{shortest, variant_told, size_told, numeral_at, sized_at};
+ghost use Rattle.answer.specs.Refusals.{said_read, said_from};
 
 use answer::Refusal;
 use field::fixed;
-use field::fixed::{Read8, Read16, Read32, Read64};
+use field::reader::Reader;
 
 // A number from -2^63 to 2^64 - 1: n, or -1 - n. Each number has one form.
 #[derive(Clone, Copy)]
@@ -36,24 +37,6 @@ pub struct Size {
     pub shorter: bool,
 }
 
-#[derive(Clone, Copy)]
-pub enum ReadVariant {
-    Got(Variant, usize),
-    Refused(Refusal),
-}
-
-#[derive(Clone, Copy)]
-pub enum ReadSize {
-    Got(Size, usize),
-    Refused(Refusal),
-}
-
-#[derive(Clone, Copy)]
-enum ReadNumber {
-    Got(Number, usize),
-    Refused(Refusal),
-}
-
 // The bits v as two's complement, where half is the sign bit.
 fn signed(v: u64, half: u64) -> Number
     requires { (half ≤ 9223372036854775808) × (v < 2 * half) }
@@ -67,81 +50,67 @@ fn signed(v: u64, half: u64) -> Number
 
 // A signed number of k bytes, k = 1, 2, 4, 8.
 
-fn signed8_at(s: &[u8], p: usize) -> ReadNumber
-    ensures { said_number result ≡ signed_at 1 s.now p }
+fn signed8_at(s: &[u8], p: usize) -> Result<(Number, usize), Refusal>
+    ensures { said_read number_value result ≡ signed_at 1 s.now p }
 {
-    let Read8::Got(v, q) = fixed::u8_at(s, p) else {
-        return ReadNumber::Refused(Refusal::Ended);
-    };
+    let (v, q) = fixed::u8_at(s, p)?;
     let value = signed(v as u64, 0x80);
-    ReadNumber::Got(value, q)
+    Ok((value, q))
 }
 
-fn signed16_at(s: &[u8], p: usize) -> ReadNumber
-    ensures { said_number result ≡ signed_at 2 s.now p }
+fn signed16_at(s: &[u8], p: usize) -> Result<(Number, usize), Refusal>
+    ensures { said_read number_value result ≡ signed_at 2 s.now p }
 {
-    let Read16::Got(v, q) = fixed::u16_at(s, p) else {
-        return ReadNumber::Refused(Refusal::Ended);
-    };
+    let (v, q) = fixed::u16_at(s, p)?;
     let value = signed(v as u64, 0x8000);
-    ReadNumber::Got(value, q)
+    Ok((value, q))
 }
 
-fn signed32_at(s: &[u8], p: usize) -> ReadNumber
-    ensures { said_number result ≡ signed_at 4 s.now p }
+fn signed32_at(s: &[u8], p: usize) -> Result<(Number, usize), Refusal>
+    ensures { said_read number_value result ≡ signed_at 4 s.now p }
 {
-    let Read32::Got(v, q) = fixed::u32_at(s, p) else {
-        return ReadNumber::Refused(Refusal::Ended);
-    };
+    let (v, q) = fixed::u32_at(s, p)?;
     let value = signed(v as u64, 0x8000_0000);
-    ReadNumber::Got(value, q)
+    Ok((value, q))
 }
 
-fn signed64_at(s: &[u8], p: usize) -> ReadNumber
-    ensures { said_number result ≡ signed_at 8 s.now p }
+fn signed64_at(s: &[u8], p: usize) -> Result<(Number, usize), Refusal>
+    ensures { said_read number_value result ≡ signed_at 8 s.now p }
 {
-    let Read64::Got(v, q) = fixed::u64_at(s, p) else {
-        return ReadNumber::Refused(Refusal::Ended);
-    };
+    let (v, q) = fixed::u64_at(s, p)?;
     let value = signed(v, 0x8000_0000_0000_0000);
-    ReadNumber::Got(value, q)
+    Ok((value, q))
 }
 
 // An unsigned number of k bytes, k = 2, 4, 8.
 
-fn unsigned16_at(s: &[u8], p: usize) -> ReadNumber
-    ensures { said_number result ≡ unsigned_at 2 s.now p }
+fn unsigned16_at(s: &[u8], p: usize) -> Result<(Number, usize), Refusal>
+    ensures { said_read number_value result ≡ unsigned_at 2 s.now p }
 {
-    let Read16::Got(v, q) = fixed::u16_at(s, p) else {
-        return ReadNumber::Refused(Refusal::Ended);
-    };
+    let (v, q) = fixed::u16_at(s, p)?;
     let value = Number::Natural(v as u64);
-    ReadNumber::Got(value, q)
+    Ok((value, q))
 }
 
-fn unsigned32_at(s: &[u8], p: usize) -> ReadNumber
-    ensures { said_number result ≡ unsigned_at 4 s.now p }
+fn unsigned32_at(s: &[u8], p: usize) -> Result<(Number, usize), Refusal>
+    ensures { said_read number_value result ≡ unsigned_at 4 s.now p }
 {
-    let Read32::Got(v, q) = fixed::u32_at(s, p) else {
-        return ReadNumber::Refused(Refusal::Ended);
-    };
+    let (v, q) = fixed::u32_at(s, p)?;
     let value = Number::Natural(v as u64);
-    ReadNumber::Got(value, q)
+    Ok((value, q))
 }
 
-fn unsigned64_at(s: &[u8], p: usize) -> ReadNumber
-    ensures { said_number result ≡ unsigned_at 8 s.now p }
+fn unsigned64_at(s: &[u8], p: usize) -> Result<(Number, usize), Refusal>
+    ensures { said_read number_value result ≡ unsigned_at 8 s.now p }
 {
-    let Read64::Got(v, q) = fixed::u64_at(s, p) else {
-        return ReadNumber::Refused(Refusal::Ended);
-    };
+    let (v, q) = fixed::u64_at(s, p)?;
     let value = Number::Natural(v);
-    ReadNumber::Got(value, q)
+    Ok((value, q))
 }
 
 // The number that follows a prefix; 11 for one that is unknown.
-fn wide_at(prefix: u16, s: &[u8], p: usize) -> ReadNumber
-    ensures { said_number result ≡ wide_at (find prefix prefixes) s.now p }
+fn wide_at(prefix: u16, s: &[u8], p: usize) -> Result<(Number, usize), Refusal>
+    ensures { said_read number_value result ≡ wide_at (find prefix prefixes) s.now p }
 {
     if prefix == 0x8000 {
         return signed8_at(s, p);
@@ -164,7 +133,7 @@ fn wide_at(prefix: u16, s: &[u8], p: usize) -> ReadNumber
     if prefix == 0x800a {
         return unsigned64_at(s, p);
     }
-    ReadNumber::Refused(Refusal::NumberBad)
+    Err(Refusal::NumberBad)
 }
 
 // How many bytes n takes in its shortest form.
@@ -209,81 +178,91 @@ fn shortest_width(n: Number) -> u8
 }
 
 // A numeric leaf, which may be negative.
-pub fn number_at(s: &[u8], p: usize) -> ReadVariant
-    ensures { said_variant result ≡ numeral_at s.now p }
+pub fn number_at(s: &[u8], p: usize) -> Result<(Variant, usize), Refusal>
+    ensures { said_read variant_told result ≡ numeral_at s.now p }
 {
-    let Read16::Got(n, q) = fixed::u16_at(s, p) else {
-        return ReadVariant::Refused(Refusal::Ended);
-    };
+    let (n, q) = fixed::u16_at(s, p)?;
     // a number that is itself the leaf has no shorter form
     if n < 0x8000 {
         let value = Number::Natural(n as u64);
-        return ReadVariant::Got(
+        return Ok((
             Variant {
-                value: value,
+                value,
                 width: 2,
                 shorter: false,
             },
             q,
-        );
+        ));
     }
-    match wide_at(n, s, q) {
-        ReadNumber::Refused(e) => ReadVariant::Refused(e),
-        ReadNumber::Got(value, e) => {
-            let width = (e - p) as u8;
-            let shorter = shortest_width(value) < width;
-            ReadVariant::Got(
-                Variant {
-                    value: value,
-                    width: width,
-                    shorter: shorter,
-                },
-                e,
-            )
-        }
-    }
+    let (value, e) = wide_at(n, s, q)?;
+    let width = (e - p) as u8;
+    let shorter = shortest_width(value) < width;
+    Ok((
+        Variant {
+            value,
+            width,
+            shorter,
+        },
+        e,
+    ))
 }
 
 // A numeric leaf where a size or an offset is wanted; 11 if it is negative. A plain number, which nearly all are, is answered here, and
 // what has a prefix by a function of its own: so this one is small enough to be inlined.
-pub fn size_at(s: &[u8], p: usize) -> ReadSize
-    ensures { said_size result ≡ sized_at s.now p }
+pub fn size_at(s: &[u8], p: usize) -> Result<(Size, usize), Refusal>
+    ensures { said_read size_told result ≡ sized_at s.now p }
 {
-    let Read16::Got(n, q) = fixed::u16_at(s, p) else {
-        return ReadSize::Refused(Refusal::Ended);
-    };
+    let (n, q) = fixed::u16_at(s, p)?;
     if n < 0x8000 {
-        return ReadSize::Got(
+        return Ok((
             Size {
                 value: n as u64,
                 width: 2,
                 shorter: false,
             },
             q,
-        );
+        ));
     }
     size_of_any(s, p)
 }
 
 // The same of a number in any form.
-fn size_of_any(s: &[u8], p: usize) -> ReadSize
-    ensures { said_size result ≡ sized_at s.now p }
+fn size_of_any(s: &[u8], p: usize) -> Result<(Size, usize), Refusal>
+    ensures { said_read size_told result ≡ sized_at s.now p }
 {
-    match number_at(s, p) {
-        ReadVariant::Refused(e) => ReadSize::Refused(e),
-        ReadVariant::Got(v, q) => {
-            let n = v.value;
-            match n {
-                Number::Natural(x) => ReadSize::Got(
-                    Size {
-                        value: x,
-                        width: v.width,
-                        shorter: v.shorter,
-                    },
-                    q,
-                ),
-                Number::Negative(_) => ReadSize::Refused(Refusal::NumberBad),
-            }
-        }
+    let (v, q) = number_at(s, p)?;
+    let n = v.value;
+    match n {
+        Number::Natural(x) => Ok((
+            Size {
+                value: x,
+                width: v.width,
+                shorter: v.shorter,
+            },
+            q,
+        )),
+        Number::Negative(_) => Err(Refusal::NumberBad),
     }
+}
+
+// The number at a reader's place.
+pub fn read_number(r: &mut Reader<'_>) -> Result<Variant, Refusal>
+    ensures value { said_from variant_told result r.new.at ≡ numeral_at r.old.bytes.now r.old.at }
+    ensures stays { OnErr result (r.new.at ≡ r.old.at) }
+    ensures bytes { r.new.bytes ≡ r.old.bytes }
+{
+    let (v, at) = number_at(r.bytes, r.at)?;
+    r.at = at;
+    Ok(v)
+}
+
+// The size at a reader's place.
+pub fn read_size(r: &mut Reader<'_>) -> Result<Size, Refusal>
+    ensures value { said_from size_told result r.new.at ≡ sized_at r.old.bytes.now r.old.at }
+    ensures stays { OnErr result (r.new.at ≡ r.old.at) }
+    ensures bytes { r.new.bytes ≡ r.old.bytes }
+{
+    let (v, at) = size_at(r.bytes, r.at)?;
+    r.at = at;
+    Ok(v)
 }

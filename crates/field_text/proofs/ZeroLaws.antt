@@ -1,11 +1,11 @@
 -- Laws of the search of a string: what was passed; the bytes of a word that are zero, by subtraction and masks. Assumes nothing.
+use Rattle.std.specs.Prelude.{Some}
 use Rattle.std.proofs.Common.{◌≡◌, ℕ, zero, suc, ◌+◌, ◌-◌, ◌*◌, ◌/◌, ◌%◌, ◌^◌, ◌<◌, ◌≤◌, List, [], ◌∷◌, length, get_or, drop, sym, refl, ap, ◌∙◌, subst, ap₂, le_of_suc-le-suc, not-suc-le-zero, add-zero, add-suc, mod-lt, mod-eq_of_lt, zero-lt-suc, mul_assoc, mul_comm, div-lt_iff_lt-mul, suc-add, div-add-mod', zero-add, arith}
 use native.Mathlib.Nat.{pow-succ', mul-add-mod_self_right}
 use lib.Bits.{bit_and, and_block, and_lt, and_zero_r, shifted_half, shifted_even}
 use lib.Count.{count_trailing_zeros, under}
 use Rattle.field.specs.Fields.{little_at}
 use Rattle.field.proofs.FieldLaws.{little-below}
-use mathlib.Core.Option.{some}
 use Rattle.answer.specs.Answer.{got, ended}
 use Rattle.field_text.specs.Texts.{to_zero, string_at}
 use Rattle.field_text.specs.Zeros.{Passed, ZeroAt, zero_marks}
@@ -194,7 +194,7 @@ module _ (s : List ℕ) (p r : ℕ) (z : ZeroAt s p r) where
   pub came : r < length s → got (record { place = p; length = r - p }) (r + 1) ≡ string_at s p
   came h =
       let e : 0 + (r - p) ≡ r - p = omega arith in
-      found s p r z.passed.low (z.passed.same 0 ∙ finds s r _ h (z.there h) ∙ ap some e)
+      found s p r z.passed.low (z.passed.same 0 ∙ finds s r _ h (z.there h) ∙ ap Some e)
 
   pub came-to-none : length s ≤ r → ended ≡ string_at s p
   came-to-none h = lost s p (z.passed.same 0 ∙ runs-out s r _ h)

@@ -1,14 +1,9 @@
 -- Document 01, "Strings, padding, numeric leaves": strings and padding.
-use Rattle.std.specs.Prelude.{ℕ, zero, suc, ◌+◌, ◌-◌, ◌%◌, List, [], ◌∷◌, length, drop, nat_le, nat_lt}
-use Rattle.std.proofs.Math.Option.{Option, none, some}
+use Rattle.std.specs.Prelude.{Option, None, Some, ℕ, zero, suc, ◌+◌, ◌-◌, ◌%◌, List, [], ◌∷◌, length, drop, nat_le, nat_lt}
 use Rattle.answer.specs.Answer.{Answer, answered, Read, got, ended, pick, stop, then, and_then}
 use Rattle.field.specs.Fields.{fixed_at}
 use Rattle.field.specs.Runs.{bytes_after}
 use Rattle.field_text.specs.declared.RawString.{RawString}
-use Rattle.field_text.specs.declared.OptString.{OptString}
-use Rattle.field_text.specs.declared.OptString.TheVariants as optional
-use Rattle.field_text.specs.declared.ReadString.{ReadString}
-use Rattle.field_text.specs.declared.ReadString.TheVariants as rstring
 
 -- a part of the bytes: its place and its length
 pub record Part : Type 0 where
@@ -17,13 +12,13 @@ pub record Part : Type 0 where
 
 -- n and how many bytes stand before the first zero byte; none without a zero byte
 unfoldable pub to_zero : List ℕ → ℕ → Option ℕ
-to_zero [] n = none
-to_zero (zero ∷ bs) n = some n
+to_zero [] n = None
+to_zero (zero ∷ bs) n = Some n
 to_zero (suc b ∷ bs) n = to_zero bs (suc n)
 
 abbrev pub part_or : Option ℕ → ℕ → Read Part
-part_or none p = ended
-part_or (some n) p = got (record { place = p; length = n }) (p + n + 1)
+part_or None p = ended
+part_or (Some n) p = got (record { place = p; length = n }) (p + n + 1)
 
 -- a string is the part up to a zero byte, which is consumed and not shown; none found is 1
 unfoldable pub string_at : List ℕ → ℕ → Read Part
@@ -59,10 +54,6 @@ padding_after s p = stop (nat_lt (length s) p) 1 (pad 0 p (drop p s))
 abbrev pub part : RawString → Part
 part t = record { place = t.place; length = t.length }
 
-abbrev pub string_option : OptString → Option Part
-string_option optional.None = none
-string_option (optional.Some t) = some (part t)
-
-abbrev pub said_string : ReadString → Read Part
-said_string (rstring.Got t p) = got (part t) p
-said_string rstring.Ended = ended
+abbrev pub string_option : Option RawString → Option Part
+string_option None = None
+string_option (Some t) = Some (part t)

@@ -1,13 +1,14 @@
 // Strings and padding at a place of a slice of bytes.
 #![tactic(auto, using(crate::proofs::Used::laws), unfolding(crate::specs::Texts::counted_string_at, crate::specs::Texts::padding_after, crate::specs::Texts::string_of, crate::specs::Zeros::zero_marks))]
 
-ghost use Rattle.std.specs.Prelude.{◌≡◌, ◌+◌, ◌≤◌, length};
-ghost use Rattle.field.specs.Runs.{bytes_at, said_after};
-ghost use Rattle.field_text.specs.Texts.{string_at, counted_string_at, string_of, said_string, more, padding_after};
+ghost use Rattle.std.specs.Prelude.{◌≡◌, OnErr, ◌+◌, length};
+ghost use Rattle.field.specs.Runs.{bytes_at};
+ghost use Rattle.field_text.specs.Texts.{string_at, counted_string_at, string_of, more, padding_after, part};
 ghost use Rattle.field_text.specs.Zeros.{zero_marks, ZeroAt};
+ghost use Rattle.answer.specs.Refusals.{itself, said, said_read, said_from};
 
-use field::fixed::{Read8, Read64};
-use field::run::After;
+use answer::Refusal;
+use field::reader::Reader;
 use field::{fixed, run};
 
 // A string: a part of the bytes that it was read from, where it starts and how many bytes it has.
@@ -15,19 +16,6 @@ use field::{fixed, run};
 pub struct RawString {
     pub place: usize,
     pub length: usize,
-}
-
-// A string that may be missing.
-#[derive(Clone, Copy)]
-pub enum OptString {
-    None,
-    Some(RawString),
-}
-
-#[derive(Clone, Copy)]
-pub enum ReadString {
-    Got(RawString, usize),
-    Ended,
 }
 
 // The marks of a word's eight bytes, the lowest first: the lowest set bit lies in the first byte that is zero; 0 where none is.
@@ -48,7 +36,7 @@ fn zero_from(s: &[u8], p: usize) -> usize
     let last = s.len() - 8;
     let mut i = p;
     while i <= last {
-        let Read64::Got(x, _) = fixed::u64_at(s, i) else {
+        let Ok((x, _)) = fixed::u64_at(s, i) else {
             return zero_by_byte(s, i);
         };
         let m = marks(x);
@@ -75,20 +63,31 @@ fn zero_by_byte(s: &[u8], p: usize) -> usize
 }
 
 // The string at place p, up to a zero byte, and the place after that byte.
-pub fn string_at(s: &[u8], p: usize) -> ReadString
-    ensures { said_string result ≡ string_at s.now p }
+pub fn string_at(s: &[u8], p: usize) -> Result<(RawString, usize), Refusal>
+    ensures { said_read part result ≡ string_at s.now p }
 {
     let e = zero_from(s, p);
     if e < s.len() {
-        return ReadString::Got(
+        return Ok((
             RawString {
                 place: p,
                 length: e - p,
             },
             e + 1,
-        );
+        ));
     }
-    ReadString::Ended
+    Err(Refusal::Ended)
+}
+
+// The string at a reader's place.
+pub fn read_string(r: &mut Reader<'_>) -> Result<RawString, Refusal>
+    ensures value { said_from part result r.new.at ≡ string_at r.old.bytes.now r.old.at }
+    ensures stays { OnErr result (r.new.at ≡ r.old.at) }
+    ensures bytes { r.new.bytes ≡ r.old.bytes }
+{
+    let (t, at) = string_at(r.bytes, r.at)?;
+    r.at = at;
+    Ok(t)
 }
 
 impl RawString {
@@ -101,28 +100,24 @@ impl RawString {
 }
 
 // The string at place p that a length byte begins.
-fn counted_string_at(s: &[u8], p: usize) -> ReadString
-    ensures { said_string result ≡ counted_string_at s.now p }
+fn counted_string_at(s: &[u8], p: usize) -> Result<(RawString, usize), Refusal>
+    ensures { said_read part result ≡ counted_string_at s.now p }
 {
-    let Read8::Got(n, q) = fixed::u8_at(s, p) else {
-        return ReadString::Ended;
-    };
+    let (n, q) = fixed::u8_at(s, p)?;
     let k = n as usize;
-    let After::At(e) = run::after_bytes(s, q, k) else {
-        return ReadString::Ended;
-    };
-    ReadString::Got(
+    let e = run::after_bytes(s, q, k)?;
+    Ok((
         RawString {
             place: q,
             length: k,
         },
         e,
-    )
+    ))
 }
 
 // The string of a record of this leaf: up to 0x1500 by a length byte, above it up to a zero byte.
-pub fn string_of(leaf: u16, s: &[u8], p: usize) -> ReadString
-    ensures { said_string result ≡ string_of leaf s.now p }
+pub fn string_of(leaf: u16, s: &[u8], p: usize) -> Result<(RawString, usize), Refusal>
+    ensures { said_read part result ≡ string_of leaf s.now p }
 {
     if leaf <= 0x1500 {
         return counted_string_at(s, p);
@@ -139,23 +134,23 @@ fn pad_width(b: u8) -> usize
 }
 
 // The place after the padding at place p.
-pub fn after_padding(s: &[u8], p: usize) -> After
-    ensures { said_after result ≡ padding_after s.now p }
+pub fn after_padding(s: &[u8], p: usize) -> Result<usize, Refusal>
+    ensures { said itself result ≡ padding_after s.now p }
 {
     if s.len() < p {
-        return After::Ended;
+        return Err(Refusal::Ended);
     }
     let mut i = p;
     while i < s.len() {
         let b = s[i];
         if b < 0xf0 {
-            return After::At(i);
+            return Ok(i);
         }
         let n = pad_width(b);
         if s.len() - i < n {
-            return After::Ended;
+            return Err(Refusal::Ended);
         }
         i += n;
     }
-    After::At(i)
+    Ok(i)
 }

@@ -5,65 +5,38 @@ use answer::Refusal;
 use field::index::Stream;
 use std::io;
 use std::io::Read;
-use stream_header::{Header, HeaderAnswer};
-use stream_item::iter::{ItemIter, IterAnswer, NextAnswer};
+use stream_header::Header;
+use stream_item::iter::ItemIter;
 use stream_item::{Entry, Item};
-use stream_view::RawKindAnswer;
-
-fn put(rt: &impl Print, text: &[u8]) -> io::Result<()> {
-    rt.write_all(text)
-}
-
-fn put_number(rt: &impl Print, n: u64) -> io::Result<()> {
-    print!(rt; "{n}")
-}
 
 fn put_refused(rt: &impl Print, e: Refusal) -> io::Result<()> {
-    put(rt, b"refused ")?;
-    put_number(rt, e.number() as u64)?;
-    put(rt, b"\n")
-}
-
-fn put_leaf(rt: &impl Print, k: RawKindAnswer) -> io::Result<()> {
-    match k {
-        RawKindAnswer::Answered(leaf) => print!(rt; "{leaf:04x}"),
-        RawKindAnswer::Refused(_) => put(rt, b"----"),
-    }
+    println!(rt; "refused {}", e.number())
 }
 
 // A record's line: its index, its leaf in four hex digits, its payload's length.
 fn put_record(rt: &impl Print, s: &[u8], item: Item) -> io::Result<()> {
-    let index = item.index;
-    put_number(rt, index.number() as u64)?;
-    put(rt, b" ")?;
-    put_leaf(rt, stream_view::raw_kind(s, &s[0..0], Entry::Record(item)))?;
-    put(rt, b" ")?;
-    put_number(rt, item.length as u64)?;
-    put(rt, b"\n")
+    let index = item.index.number();
+    let length = item.length;
+    match stream_view::raw_kind(s, &[], Entry::Record(item)) {
+        Ok(leaf) => println!(rt; "{index} {leaf:04x} {length}"),
+        Err(_) => println!(rt; "{index} ---- {length}"),
+    }
 }
 
-// The cursor behind a record that was listed, or that the walk is over.
-#[derive(Clone, Copy)]
-enum Listed {
-    One(ItemIter),
-    Over,
-}
-
-fn list_next(rt: &impl Print, s: &[u8], c: ItemIter, listed: u64) -> io::Result<Listed> {
+// A record, and the cursor behind it; none where the walk is over, which its last line says.
+fn list_next(rt: &impl Print, s: &[u8], c: ItemIter, listed: u64) -> io::Result<Option<ItemIter>> {
     match stream_item::iter::next(s, c) {
-        NextAnswer::Yielded(item, behind) => {
+        Ok(Some((item, behind))) => {
             put_record(rt, s, item)?;
-            Ok(Listed::One(behind))
+            Ok(Some(behind))
         }
-        NextAnswer::Done => {
-            put(rt, b"end ")?;
-            put_number(rt, listed)?;
-            put(rt, b"\n")?;
-            Ok(Listed::Over)
+        Ok(None) => {
+            println!(rt; "end {listed}")?;
+            Ok(None)
         }
-        NextAnswer::Refused(e) => {
+        Err(e) => {
             put_refused(rt, e)?;
-            Ok(Listed::Over)
+            Ok(None)
         }
     }
 }
@@ -72,8 +45,7 @@ fn list_next(rt: &impl Print, s: &[u8], c: ItemIter, listed: u64) -> io::Result<
 fn walk(rt: &impl Print, s: &[u8], first: ItemIter) -> io::Result<()> {
     let mut c = first;
     for listed in 0..65536 {
-        let t = list_next(rt, s, c, listed)?;
-        let Listed::One(behind) = t else {
+        let Some(behind) = list_next(rt, s, c, listed)? else {
             return Ok(());
         };
         c = behind;
@@ -81,30 +53,20 @@ fn walk(rt: &impl Print, s: &[u8], first: ItemIter) -> io::Result<()> {
     Ok(())
 }
 
-fn put_head(rt: &impl Print, h: Header, length: usize) -> io::Result<()> {
-    put(rt, b"tpi ")?;
-    put_number(rt, h.minimum_index as u64)?;
-    put(rt, b" ")?;
-    put_number(rt, h.maximum_index as u64)?;
-    put(rt, b" ")?;
-    put_number(rt, length as u64)?;
-    put(rt, b"\n")
-}
-
-fn begin(rt: &impl Print, s: &[u8]) -> io::Result<()> {
-    match stream_item::iter::iter(Stream::Types, s) {
-        IterAnswer::Answered(c) => walk(rt, s, c),
-        IterAnswer::Refused(e) => put_refused(rt, e),
-    }
+// The header, and the cursor before the first record.
+fn begin(s: &[u8]) -> Result<(Header, ItemIter), Refusal> {
+    let h = Header::parse(s)?;
+    let c = stream_item::iter::iter(Stream::Types, s)?;
+    Ok((h, c))
 }
 
 fn list(rt: &impl Print, s: &[u8]) -> io::Result<()> {
-    match Header::parse(s) {
-        HeaderAnswer::Answered(h) => {
-            put_head(rt, h, s.len())?;
-            begin(rt, s)
+    match begin(s) {
+        Ok((h, c)) => {
+            println!(rt; "tpi {} {} {}", h.minimum_index, h.maximum_index, s.len())?;
+            walk(rt, s, c)
         }
-        HeaderAnswer::Refused(e) => put_refused(rt, e),
+        Err(e) => put_refused(rt, e),
     }
 }
 
@@ -122,7 +84,7 @@ fn main(rt: HostRuntime) -> io::Result<()> {
     let mut stream = Vec::new(rt.alloc());
     let read = rt.stdin().take(65537).read_to_end(&mut stream);
     if 65536 < stream.len() {
-        return put(&rt, b"refused 16\n");
+        return put_refused(&rt, Refusal::TooLong);
     }
     if at_end(&rt, read)? {
         list(&rt, &stream)?;

@@ -10,21 +10,17 @@ ghost use Rattle.std.specs.Prelude.{◌≡◌, ◌≤◌, length};
 use field::index::{Stream, TypeIndex};
 use record_data::TypeData;
 use record_id::IdData;
-use record_list::{ListCursor, StartAnswer, StepAnswer};
-use record_parse::ParseAnswer;
+use record_list::ListCursor;
+use record_parse::EntryData;
 use std::env::Env;
 use std::io::Read;
 use std::rt::Files;
 use std::{fs, io, str};
-use stream_finder::{FindAnswer, FinderAnswer, ItemFinder};
-use stream_header::{Header, HeaderAnswer};
-use stream_index::IndexAnswer;
-use stream_item::iter::{ItemIter, IterAnswer, NextAnswer};
+use stream_finder::ItemFinder;
+use stream_header::Header;
+use stream_item::iter::ItemIter;
 use stream_item::{Entry, Item};
-use stream_report::ReportAnswer;
-use stream_view::RawKindAnswer;
 use sums::add;
-use word_primitive::PrimitiveAnswer;
 
 // The operations, by the letters that their names start with; parseids and primitives have one of their own.
 const HEADER: u8 = b'h';
@@ -70,8 +66,8 @@ fn buffer() -> [u8; 262145]
 // Reads the header.
 fn header_once(s: &[u8]) -> u64 {
     match Header::parse(s) {
-        HeaderAnswer::Answered(h) => sums::header(h),
-        HeaderAnswer::Refused(_) => 0,
+        Ok(h) => sums::header(h),
+        Err(_) => 0,
     }
 }
 
@@ -81,27 +77,18 @@ fn walk_from(s: &[u8], from: ItemIter) -> u64 {
     let mut c = from;
     let mut indices: u64 = 0;
     let mut ends: u64 = 0;
-    loop {
-        match stream_item::iter::next(s, c) {
-            NextAnswer::Yielded(i, behind) => {
-                indices = add(indices, sums::index(i));
-                ends = add(ends, sums::end(i));
-                c = behind;
-            }
-            NextAnswer::Done => {
-                return add(indices, ends);
-            }
-            NextAnswer::Refused(_) => {
-                return add(indices, ends);
-            }
-        }
+    while let Ok(Some((i, behind))) = stream_item::iter::next(s, c) {
+        indices = add(indices, sums::index(i));
+        ends = add(ends, sums::end(i));
+        c = behind;
     }
+    add(indices, ends)
 }
 
 fn walk_once(s: &[u8]) -> u64 {
     match stream_item::iter::iter(Stream::Types, s) {
-        IterAnswer::Answered(c) => walk_from(s, c),
-        IterAnswer::Refused(_) => 0,
+        Ok(c) => walk_from(s, c),
+        Err(_) => 0,
     }
 }
 
@@ -109,52 +96,40 @@ fn walk_once(s: &[u8]) -> u64 {
 fn read_from(op: u8, s: &[u8], from: ItemIter) -> u64 {
     let mut c = from;
     let mut sum: u64 = 0;
-    loop {
-        match stream_item::iter::next(s, c) {
-            NextAnswer::Yielded(i, behind) => {
-                sum = add(sum, read(op, s, i));
-                c = behind;
-            }
-            NextAnswer::Done => {
-                return sum;
-            }
-            NextAnswer::Refused(_) => {
-                return sum;
-            }
-        }
+    while let Ok(Some((i, behind))) = stream_item::iter::next(s, c) {
+        sum = add(sum, read(op, s, i));
+        c = behind;
     }
+    sum
 }
 
 fn read_once(op: u8, stream: Stream, s: &[u8]) -> u64 {
     match stream_item::iter::iter(stream, s) {
-        IterAnswer::Answered(c) => read_from(op, s, c),
-        IterAnswer::Refused(_) => 0,
+        Ok(c) => read_from(op, s, c),
+        Err(_) => 0,
     }
 }
 
 fn read(op: u8, s: &[u8], i: Item) -> u64 {
     if op == PARSE {
-        if is_list(stream_view::raw_kind(s, s, Entry::Record(i))) {
+        if is_list(s, i) {
             return 0;
         }
     }
     record_read(s, i)
 }
 
-fn is_list(k: RawKindAnswer) -> bool {
-    match k {
-        RawKindAnswer::Answered(leaf) => match leaf {
-            0x1201 | 0x1203 | 0x1206 => true,
-            _ => false,
-        },
-        RawKindAnswer::Refused(_) => false,
-    }
+fn is_list(s: &[u8], i: Item) -> bool {
+    matches!(
+        stream_view::raw_kind(s, s, Entry::Record(i)),
+        Ok(0x1201 | 0x1203 | 0x1206)
+    )
 }
 
 // A record with the elements of its list. The one stream is lent as both: an item says by its index in which it lies.
 fn record_read(s: &[u8], i: Item) -> u64 {
     match record_parse::parse(s, s, Entry::Record(i)) {
-        ParseAnswer::Type(d) => match d {
+        Ok(EntryData::Type(d)) => match d {
             TypeData::Class(c) => sums::class(c),
             TypeData::MemberFunction(f) => sums::member_function(f),
             TypeData::Procedure(f) => sums::procedure(f),
@@ -178,7 +153,7 @@ fn record_read(s: &[u8], i: Item) -> u64 {
             ),
             _ => 0,
         },
-        ParseAnswer::Id(d) => match d {
+        Ok(EntryData::Id(d)) => match d {
             IdData::Function(f) => sums::function(f),
             IdData::MemberFunction(f) => sums::member_function_id(f),
             IdData::BuildInfo(_) => list_read(
@@ -198,8 +173,8 @@ fn record_read(s: &[u8], i: Item) -> u64 {
 
 fn list_read(stream: Stream, s: &[u8]) -> u64 {
     match record_list::start(stream, s) {
-        StartAnswer::Answered(c) => list_from(s, c),
-        StartAnswer::Refused(_) => 0,
+        Ok(c) => list_from(s, c),
+        Err(_) => 0,
     }
 }
 
@@ -208,15 +183,11 @@ fn list_from(s: &[u8], from: ListCursor) -> u64 {
     let mut c = from;
     let mut sum: u64 = 0;
     for _ in 0..65536 {
-        match record_list::step(s, c) {
-            StepAnswer::Answered(e, behind) => {
-                sum = add(sum, sums::element(e));
-                c = behind;
-            }
-            StepAnswer::Refused(_) => {
-                return sum;
-            }
-        }
+        let Ok((e, behind)) = record_list::step(s, c) else {
+            return sum;
+        };
+        sum = add(sum, sums::element(e));
+        c = behind;
     }
     sum
 }
@@ -224,8 +195,8 @@ fn list_from(s: &[u8], from: ListCursor) -> u64 {
 // The finder of the whole stream.
 fn indexed(s: &[u8], t: &mut [u32; PLACES]) -> ItemFinder {
     match stream_index::index_all(Stream::Types, s, t) {
-        IndexAnswer::Answered(tour) => tour.finder,
-        IndexAnswer::Refused(_) => ItemFinder {
+        Ok(tour) => tour.finder,
+        Err(_) => ItemFinder {
             minimum_index: 0,
             maximum_index: 0,
             held: 0,
@@ -242,11 +213,8 @@ fn index_once(s: &[u8], t: &mut [u32; PLACES]) -> u64 {
 
 fn places(t: &[u32; PLACES], held: usize) -> u64 {
     let mut sum: u64 = 0;
-    for i in 0..held {
-        if PLACES <= i {
-            return sum;
-        }
-        sum = add(sum, sums::wide(t[i]));
+    for place in t.iter().take(held) {
+        sum = add(sum, sums::wide(*place));
     }
     sum
 }
@@ -254,8 +222,8 @@ fn places(t: &[u32; PLACES], held: usize) -> u64 {
 // Loads the places of the stream from a file; the sum is over them.
 fn load_once(s: &[u8], file: &[u8], t: &mut [u32; PLACES]) -> u64 {
     match stream_places::load(s, file, t) {
-        FinderAnswer::Answered(f) => places(t, f.held),
-        FinderAnswer::Refused(_) => 0,
+        Ok(f) => places(t, f.held),
+        Err(_) => 0,
     }
 }
 
@@ -263,15 +231,15 @@ fn load_once(s: &[u8], file: &[u8], t: &mut [u32; PLACES]) -> u64 {
 fn report_once(s: &[u8]) -> u64 {
     let mut table = [0u64; 192];
     match stream_report::add(stream_report::new(), &mut table, s) {
-        ReportAnswer::Added(t) => add(sums::totals(t), rows(&table)),
-        ReportAnswer::Refused(_) => 0,
+        Ok(t) => add(sums::totals(t), rows(&table)),
+        Err(_) => 0,
     }
 }
 
 fn rows(table: &[u64; 192]) -> u64 {
     let mut sum: u64 = 0;
-    for i in 0..192 {
-        sum = add(sum, table[i]);
+    for number in table {
+        sum = add(sum, *number);
     }
     sum
 }
@@ -280,14 +248,8 @@ fn rows(table: &[u64; 192]) -> u64 {
 fn find_once(s: &[u8], t: &[u32; PLACES], f: ItemFinder) -> u64 {
     let mut sum: u64 = 0;
     for n in f.minimum_index..f.maximum_index {
-        match stream_finder::find_type(s, f, t, TypeIndex(n)) {
-            FindAnswer::Found(e, _) => match e {
-                Entry::Record(i) => {
-                    sum = add(sum, sums::item(i));
-                }
-                Entry::Marker(_) => {}
-            },
-            FindAnswer::Refused(_) => {}
+        if let Ok((Entry::Record(i), _)) = stream_finder::find_type(s, f, t, TypeIndex(n)) {
+            sum = add(sum, sums::item(i));
         }
     }
     sum
@@ -304,8 +266,8 @@ fn primitives_once(turned: u32) -> u64 {
 
 fn primitive_read(i: TypeIndex) -> u64 {
     match word_primitive::primitive(i) {
-        PrimitiveAnswer::Answered(p) => sums::primitive(p),
-        PrimitiveAnswer::Refused(_) => sums::wide(i.0),
+        Ok(p) => sums::primitive(p),
+        Err(_) => sums::wide(i.0),
     }
 }
 
@@ -347,7 +309,7 @@ fn repeat(op: u8, times: u64, at: usize, stream: &mut [u8], t: &mut [u32; PLACES
 
 // The same for `load`, whose file is made once.
 fn repeat_load(times: u64, stream: &mut [u8], file: &[u8], t: &mut [u32; PLACES]) -> u64 {
-    if stream.len() == 0 {
+    if stream.is_empty() {
         return 0;
     }
     let mut sum: u64 = 0;
@@ -360,7 +322,7 @@ fn repeat_load(times: u64, stream: &mut [u8], file: &[u8], t: &mut [u32; PLACES]
 
 // The same for `report`, apart from the others: beside them in `once` it cost a walk two instructions a record, and a header 16.
 fn repeat_report(times: u64, stream: &mut [u8]) -> u64 {
-    if stream.len() == 0 {
+    if stream.is_empty() {
         return 0;
     }
     let mut sum: u64 = 0;
@@ -454,18 +416,7 @@ fn run(
 
 // Whether the n letters of a word are those of a name.
 fn spells(word: &[u8; 16], n: usize, name: &[u8]) -> bool {
-    if n != name.len() {
-        return false;
-    }
-    for i in 0..name.len() {
-        if 16 <= i {
-            return false;
-        }
-        if word[i] != name[i] {
-            return false;
-        }
-    }
-    true
+    word.get(..n) == Some(name)
 }
 
 fn operation(word: &[u8; 16], n: usize) -> u8 {
@@ -511,11 +462,8 @@ fn number(rt: &impl Env, i: usize) -> u64 {
 
 fn numeral(digits: &[u8; 16], n: usize) -> u64 {
     let mut value: u64 = 0;
-    for i in 0..n {
-        if 16 <= i {
-            return value;
-        }
-        value = ten_times(value, digits[i]);
+    for digit in digits.iter().take(n) {
+        value = ten_times(value, *digit);
     }
     value
 }

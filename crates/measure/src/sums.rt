@@ -1,8 +1,8 @@
 // What an answer adds to the checksum: its numbers, each once. compare/driver/speed_data.rs has the same sums for the crate's answers, so
 // what only one of the two gives is left out: the shape of a table of virtual functions, the attributes of a nested type.
-use field::index::{OptIdIndex, OptTypeIndex};
+use field::index::{IdIndex, TypeIndex};
 use field_number::{Number, Variant};
-use field_text::{OptString, RawString};
+use field_text::RawString;
 use record_data::{
     ArrayType, BitfieldType, ClassKind, ClassType, EnumerationType, MemberFunctionType,
     ModifierType, PointerType, ProcedureType, UnionType,
@@ -11,7 +11,7 @@ use record_id::{
     FunctionId, MemberFunctionId, StringId, UserDefinedTypeSourceFileRef, UserDefinedTypeSourceId,
 };
 use record_list::Element;
-use record_member::{Member, MethodListEntry, MethodType, OptOffset, VirtualBaseClassType};
+use record_member::{Member, MethodListEntry, MethodType, VirtualBaseClassType};
 use stream_header::{Header, Slice};
 use stream_item::Item;
 use stream_report::Totals;
@@ -43,31 +43,31 @@ fn name(s: RawString) -> u64 {
     add(place(s.place), place(s.length))
 }
 
-fn opt_name(o: OptString) -> u64 {
+fn opt_name(o: Option<RawString>) -> u64 {
     match o {
-        OptString::None => 0,
-        OptString::Some(s) => name(s),
+        None => 0,
+        Some(s) => name(s),
     }
 }
 
-fn opt_type(o: OptTypeIndex) -> u64 {
+fn opt_type(o: Option<TypeIndex>) -> u64 {
     match o {
-        OptTypeIndex::None => 0,
-        OptTypeIndex::Some(i) => wide(i.0),
+        None => 0,
+        Some(i) => wide(i.0),
     }
 }
 
-fn opt_id(o: OptIdIndex) -> u64 {
+fn opt_id(o: Option<IdIndex>) -> u64 {
     match o {
-        OptIdIndex::None => 0,
-        OptIdIndex::Some(i) => wide(i.0),
+        None => 0,
+        Some(i) => wide(i.0),
     }
 }
 
-fn opt_offset(o: OptOffset) -> u64 {
+fn opt_offset(o: Option<u32>) -> u64 {
     match o {
-        OptOffset::None => 0,
-        OptOffset::Some(x) => wide(x),
+        None => 0,
+        Some(x) => wide(x),
     }
 }
 

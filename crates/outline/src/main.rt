@@ -5,55 +5,48 @@
 #![tactic(auto)]
 
 use answer::Refusal;
-use declare_type::DeclareAnswer;
-use field::index::{OptTypeIndex, Stream, TypeIndex};
+use field::index::{Stream, TypeIndex};
 use record_data::{ClassType, TypeData};
-use record_list::{Element, ListCursor, StartAnswer, StepAnswer};
+use record_list::{Element, ListCursor};
 use record_member::{Member, MemberType};
-use record_parse::ParseAnswer;
+use record_parse::EntryData;
 use std::io;
 use std::io::Read;
-use stream_finder::{FindAnswer, ItemFinder};
-use stream_index::{End, IndexAnswer};
+use stream_finder::ItemFinder;
 use stream_item::Entry;
 use stream_item::iter::ItemIter;
 
-fn put(rt: &impl Print, text: &[u8]) -> io::Result<()> {
-    rt.write_all(text)
+// A type stream and its finder, by which any of its types is found.
+#[derive(Clone, Copy)]
+struct Types<'a> {
+    tpi: &'a [u8],
+    places: &'a [u32],
+    finder: ItemFinder,
 }
 
-fn put_number(rt: &impl Print, n: u64) -> io::Result<()> {
-    print!(rt; "{n}")
-}
-
-fn put_index(rt: &impl Print, t: TypeIndex) -> io::Result<()> {
-    put(rt, b"#")?;
-    put_number(rt, t.0 as u64)
-}
-
-fn say(rt: &impl Eprint, text: &str) -> io::Result<()> {
-    eprint!(rt; "{text}")
-}
-
-// Letters and blanks, which escape_ascii leaves as they are.
-fn say_first(rt: &impl Eprint, text: &[u8], n: usize) -> io::Result<()> {
-    if n <= text.len() {
-        eprint!(rt; "{}", text[0..n].escape_ascii())?;
+impl<'a> Types<'a> {
+    fn find(self, t: TypeIndex) -> Result<Entry, Refusal> {
+        let (entry, _) = stream_finder::find_type(self.tpi, self.finder, self.places, t)?;
+        Ok(entry)
     }
-    Ok(())
+
+    // A record's bytes; the id stream is not at hand.
+    fn bytes_of(self, entry: Entry) -> &'a [u8] {
+        stream_view::bytes_of(self.tpi, &self.tpi[0..0], entry)
+    }
+
+    // The bytes of a list, and the cursor before its first element.
+    fn list(self, t: TypeIndex) -> Result<(&'a [u8], ListCursor), Refusal> {
+        let entry = self.find(t)?;
+        let fields = self.bytes_of(entry);
+        let c = record_list::start(Stream::Types, fields)?;
+        Ok((fields, c))
+    }
 }
 
-// A refusal's name.
-fn say_name_of(rt: &impl Eprint, e: Refusal) -> io::Result<()> {
-    let name = answer_name::name_of(e);
-    say_first(rt, &name.bytes, name.n)
-}
-
+// A refusal by its number and name.
 fn say_refused(rt: &impl Eprint, e: Refusal) -> io::Result<()> {
-    let number = e.number();
-    eprint!(rt; "refused {number} ")?;
-    say_name_of(rt, e)?;
-    say(rt, "\n")
+    eprintln!(rt; "refused {} {}", e.number(), answer_name::name_of(e))
 }
 
 // A refusal of the record of an index.
@@ -62,330 +55,143 @@ fn say_refused_at(rt: &impl Eprint, index: u32, e: Refusal) -> io::Result<()> {
     say_refused(rt, e)
 }
 
-// A record's bytes in the type stream; the id stream is not at hand.
-fn bytes_of<'a>(tpi: &'a [u8], entry: Entry) -> &'a [u8] {
-    stream_view::bytes_of(tpi, &tpi[0..0], entry)
+// A list ends by 15, "no such element"; any other refusal is one of its record.
+fn say_list_end(rt: &impl Eprint, t: TypeIndex, e: Refusal) -> io::Result<()> {
+    match e {
+        Refusal::NoSuchElement => Ok(()),
+        _ => say_refused_at(rt, t.0, e),
+    }
 }
 
 // A type by its declaration; by its index where it has none: a bit field, a class without a name, a text that is too long.
-fn put_text(rt: &impl Print, a: DeclareAnswer, text: &[u8], t: TypeIndex) -> io::Result<()> {
-    match a {
-        DeclareAnswer::Written(n) => {
-            if n == 0 {
-                return put_index(rt, t);
-            }
-            if n <= text.len() {
-                put(rt, &text[0..n])?;
-            }
-            Ok(())
-        }
-        DeclareAnswer::Refused(_) => put_index(rt, t),
-    }
-}
-
-fn put_declared(
-    rt: &impl Print,
-    tpi: &[u8],
-    places: &[u32],
-    f: ItemFinder,
-    t: TypeIndex,
-    room: &mut [u8],
-) -> io::Result<()> {
-    put_text(rt, declare_type::declare(tpi, f, places, t, room), room, t)
-}
-
-fn put_type(
-    rt: &impl Print,
-    tpi: &[u8],
-    places: &[u32],
-    f: ItemFinder,
-    t: TypeIndex,
-) -> io::Result<()> {
+fn put_type(rt: &impl Print, types: Types, t: TypeIndex) -> io::Result<()> {
     let mut room = [0u8; 4096];
-    put_declared(rt, tpi, places, f, t, &mut room[0..4096])
+    match declare_type::declare(types.tpi, types.finder, types.places, t, &mut room) {
+        Ok(n) if 0 < n && n <= room.len() => rt.write_all(&room[..n]),
+        _ => print!(rt; "#{}", t.0),
+    }
 }
 
 // A data member's line.
-fn put_member(
-    rt: &impl Print,
-    tpi: &[u8],
-    places: &[u32],
-    f: ItemFinder,
-    fields: &[u8],
-    m: MemberType,
-) -> io::Result<()> {
-    let name = m.name;
-    put(rt, b"    ")?;
-    put(rt, name.bytes(fields))?;
-    put(rt, b" at ")?;
-    put_number(rt, m.offset.value)?;
-    put(rt, b": ")?;
-    put_type(rt, tpi, places, f, m.field_type)?;
-    put(rt, b"\n")
+fn put_member(rt: &impl Print, types: Types, fields: &[u8], m: MemberType) -> io::Result<()> {
+    print!(rt; "    ")?;
+    rt.write_all(m.name.bytes(fields))?;
+    print!(rt; " at {}: ", m.offset.value)?;
+    put_type(rt, types, m.field_type)?;
+    println!(rt; "")
 }
 
-// What comes after the last element of a record: the list goes on in another one, or is over, or is refused.
-#[derive(Clone, Copy)]
-enum Rest {
-    In(TypeIndex),
-    Nothing,
-    Refused(Refusal),
-}
-
-// What comes after an element: the next one of this record, or its end.
-#[derive(Clone, Copy)]
-enum Onward {
-    To(ListCursor),
-    Over(Rest),
-}
-
-fn put_element(
-    rt: &impl Print,
-    tpi: &[u8],
-    places: &[u32],
-    f: ItemFinder,
-    fields: &[u8],
-    e: Element,
-    behind: ListCursor,
-) -> io::Result<Onward> {
-    match e {
-        Element::Member(m) => match m {
-            Member::Member(d) => {
-                put_member(rt, tpi, places, f, fields, d)?;
-                Ok(Onward::To(behind))
-            }
-            Member::Continuation(t) => Ok(Onward::Over(Rest::In(t))),
-            _ => Ok(Onward::To(behind)),
-        },
-        _ => Ok(Onward::To(behind)),
-    }
-}
-
-// A list ends by 15, "no such element"; any other refusal is one.
-fn list_end(e: Refusal) -> Rest {
-    match e {
-        Refusal::NoSuchElement => Rest::Nothing,
-        _ => Rest::Refused(e),
-    }
-}
-
-fn step(
-    rt: &impl Print,
-    tpi: &[u8],
-    places: &[u32],
-    f: ItemFinder,
-    fields: &[u8],
-    c: ListCursor,
-) -> io::Result<Onward> {
-    match record_list::step(fields, c) {
-        StepAnswer::Answered(e, behind) => put_element(rt, tpi, places, f, fields, e, behind),
-        StepAnswer::Refused(e) => Ok(Onward::Over(list_end(e))),
-    }
-}
-
-// The members of one record, and where the list goes on. Each member takes two bytes at least, so that 65,536 bytes end before the turns do.
+// The members of one record, and the record in which the list goes on. Each member takes two bytes at least, so that 65,536 bytes end before the
+// turns do.
 fn put_members(
-    rt: &impl Print,
-    tpi: &[u8],
-    places: &[u32],
-    f: ItemFinder,
+    rt: &(impl Print + Eprint),
+    types: Types,
+    t: TypeIndex,
     fields: &[u8],
     from: ListCursor,
-) -> io::Result<Rest> {
+) -> io::Result<Option<TypeIndex>> {
     let mut c = from;
     for _ in 0..65536 {
-        match step(rt, tpi, places, f, fields, c)? {
-            Onward::To(behind) => {
+        match record_list::step(fields, c) {
+            Ok((Element::Member(Member::Continuation(rest)), _)) => return Ok(Some(rest)),
+            Ok((Element::Member(Member::Member(m)), behind)) => {
+                put_member(rt, types, fields, m)?;
                 c = behind;
             }
-            Onward::Over(rest) => {
-                return Ok(rest);
+            Ok((_, behind)) => c = behind,
+            Err(e) => {
+                say_list_end(rt, t, e)?;
+                return Ok(None);
             }
         }
     }
-    Ok(Rest::Nothing)
-}
-
-fn put_list(
-    rt: &impl Print,
-    tpi: &[u8],
-    places: &[u32],
-    f: ItemFinder,
-    fields: &[u8],
-) -> io::Result<Rest> {
-    match record_list::start(Stream::Types, fields) {
-        StartAnswer::Answered(c) => put_members(rt, tpi, places, f, fields, c),
-        StartAnswer::Refused(e) => Ok(list_end(e)),
-    }
-}
-
-fn put_found(
-    rt: &impl Print,
-    tpi: &[u8],
-    places: &[u32],
-    f: ItemFinder,
-    t: TypeIndex,
-) -> io::Result<Rest> {
-    match stream_finder::find_type(tpi, f, places, t) {
-        FindAnswer::Found(entry, _) => put_list(rt, tpi, places, f, bytes_of(tpi, entry)),
-        FindAnswer::Refused(e) => Ok(list_end(e)),
-    }
+    Ok(None)
 }
 
 // The part of a list that the record of an index has, and where the list goes on.
 fn put_part(
     rt: &(impl Print + Eprint),
-    tpi: &[u8],
-    places: &[u32],
-    f: ItemFinder,
+    types: Types,
     t: TypeIndex,
-) -> io::Result<OptTypeIndex> {
-    match put_found(rt, tpi, places, f, t)? {
-        Rest::In(rest) => Ok(OptTypeIndex::Some(rest)),
-        Rest::Nothing => Ok(OptTypeIndex::None),
-        Rest::Refused(e) => {
-            say_refused_at(rt, t.0, e)?;
-            Ok(OptTypeIndex::None)
+) -> io::Result<Option<TypeIndex>> {
+    match types.list(t) {
+        Ok((fields, c)) => put_members(rt, types, t, fields, c),
+        Err(e) => {
+            say_list_end(rt, t, e)?;
+            Ok(None)
         }
     }
-}
-
-fn put_goes_on(rt: &impl Print, t: TypeIndex) -> io::Result<()> {
-    put(rt, b"    goes on in ")?;
-    put_index(rt, t)?;
-    put(rt, b"\n")
 }
 
 // A field list and the records in which it goes on, 64 in all: compilers go on where a record is full at 64 KiB, and a list that goes on in
 // itself has no end. What is not followed is said.
-fn put_fields(
-    rt: &(impl Print + Eprint),
-    tpi: &[u8],
-    places: &[u32],
-    f: ItemFinder,
-    first: TypeIndex,
-) -> io::Result<()> {
+fn put_fields(rt: &(impl Print + Eprint), types: Types, first: TypeIndex) -> io::Result<()> {
     let mut t = first;
     for _ in 0..64 {
-        match put_part(rt, tpi, places, f, t)? {
-            OptTypeIndex::Some(rest) => {
-                t = rest;
-            }
-            OptTypeIndex::None => {
-                return Ok(());
-            }
-        }
+        let Some(rest) = put_part(rt, types, t)? else {
+            return Ok(());
+        };
+        t = rest;
     }
-    put_goes_on(rt, t)
+    println!(rt; "    goes on in #{}", t.0)
 }
 
 // A structure's line, and under it its members; one that is only announced here is passed over.
 fn put_class(
     rt: &(impl Print + Eprint),
-    tpi: &[u8],
-    places: &[u32],
-    f: ItemFinder,
+    types: Types,
     record: &[u8],
     c: ClassType,
 ) -> io::Result<()> {
-    let properties = c.properties;
-    let name = c.name;
-    let fields = c.fields;
-    if properties.forward_reference() {
+    if c.properties.forward_reference() {
         return Ok(());
     }
-    put(rt, name.bytes(record))?;
-    put(rt, b", ")?;
-    put_number(rt, c.size.value)?;
-    put(rt, b" bytes\n")?;
-    match fields {
-        OptTypeIndex::Some(t) => put_fields(rt, tpi, places, f, t),
-        OptTypeIndex::None => Ok(()),
-    }
-}
-
-// A record that is refused is said by its index; a leaf that document 01 does not have is passed over.
-fn say_unread(rt: &impl Eprint, entry: Entry, e: Refusal) -> io::Result<()> {
-    match e {
-        Refusal::LeafUnknown(_) => Ok(()),
-        _ => {
-            let index = entry.index();
-            say_refused_at(rt, index.number(), e)
-        }
-    }
-}
-
-fn put_record(
-    rt: &(impl Print + Eprint),
-    tpi: &[u8],
-    places: &[u32],
-    f: ItemFinder,
-    entry: Entry,
-) -> io::Result<()> {
-    match record_parse::parse(tpi, &tpi[0..0], entry) {
-        ParseAnswer::Type(d) => match d {
-            TypeData::Class(c) => put_class(rt, tpi, places, f, bytes_of(tpi, entry), c),
-            _ => Ok(()),
-        },
-        ParseAnswer::Refused(e) => say_unread(rt, entry, e),
-        _ => Ok(()),
-    }
-}
-
-fn put_indexed(
-    rt: &(impl Print + Eprint),
-    tpi: &[u8],
-    places: &[u32],
-    f: ItemFinder,
-    t: TypeIndex,
-) -> io::Result<()> {
-    match stream_finder::find_type(tpi, f, places, t) {
-        FindAnswer::Found(entry, _) => put_record(rt, tpi, places, f, entry),
-        FindAnswer::Refused(_) => Ok(()),
-    }
-}
-
-// The last index is the header's or, where fewer records are there than it says, the last one that the walk came to.
-fn last_of(f: ItemFinder, c: ItemIter) -> u32 {
-    let named = f.maximum_index;
-    let walked = c.index;
-    if walked < named {
-        return walked;
-    }
-    named
-}
-
-fn outline(
-    rt: &(impl Print + Eprint),
-    tpi: &[u8],
-    places: &[u32],
-    f: ItemFinder,
-    c: ItemIter,
-) -> io::Result<()> {
-    let end = last_of(f, c);
-    for i in f.minimum_index..end {
-        put_indexed(rt, tpi, places, f, TypeIndex(i))?;
+    rt.write_all(c.name.bytes(record))?;
+    println!(rt; ", {} bytes", c.size.value)?;
+    if let Some(t) = c.fields {
+        put_fields(rt, types, t)?;
     }
     Ok(())
 }
 
-// Why the walk ended, where that is not the stream's end.
-fn say_end(rt: &impl Eprint, end: End) -> io::Result<()> {
-    match end {
-        End::Done => Ok(()),
-        End::Refused(e) => say_refused(rt, e),
+// A record that is refused is said by its index; a leaf that document 01 does not have is passed over.
+fn put_record(rt: &(impl Print + Eprint), types: Types, entry: Entry) -> io::Result<()> {
+    match record_parse::parse(types.tpi, &types.tpi[0..0], entry) {
+        Ok(EntryData::Type(TypeData::Class(c))) => {
+            put_class(rt, types, types.bytes_of(entry), c)
+        }
+        Ok(_) | Err(Refusal::LeafUnknown(_)) => Ok(()),
+        Err(e) => say_refused_at(rt, entry.index().number(), e),
     }
 }
 
-// The whole stream is indexed once; after that any type is found in at most eight steps.
+// The last index is the header's or, where fewer records are there than it says, the last one that the walk came to.
+fn outline(rt: &(impl Print + Eprint), types: Types, c: ItemIter) -> io::Result<()> {
+    let end = types.finder.maximum_index.min(c.index);
+    for i in types.finder.minimum_index..end {
+        if let Ok(entry) = types.find(TypeIndex(i)) {
+            put_record(rt, types, entry)?;
+        }
+    }
+    Ok(())
+}
+
+// The whole stream is indexed once; after that any type is found in at most eight steps. Why the walk ended is said, where that is not the stream's end.
 fn run(rt: &(impl Print + Eprint), tpi: &[u8], places: &mut [u32; 2048]) -> io::Result<()> {
     match stream_index::index_all(Stream::Types, tpi, places) {
-        IndexAnswer::Answered(tour) => {
-            let end = tour.end;
-            outline(rt, tpi, places, tour.finder, tour.cursor)?;
-            say_end(rt, end)
+        Ok(tour) => {
+            let types = Types {
+                tpi,
+                places,
+                finder: tour.finder,
+            };
+            outline(rt, types, tour.cursor)?;
+            match tour.end {
+                Ok(()) => Ok(()),
+                Err(e) => say_refused(rt, e),
+            }
         }
-        IndexAnswer::Refused(e) => say_refused(rt, e),
+        Err(e) => say_refused(rt, e),
     }
 }
 
@@ -394,7 +200,7 @@ fn at_end(rt: &impl Eprint, read: io::Result<usize>) -> io::Result<bool> {
     if read.is_ok() {
         return Ok(true);
     }
-    say(rt, "outline: standard input cannot be read\n")?;
+    eprintln!(rt; "outline: standard input cannot be read")?;
     Ok(false)
 }
 

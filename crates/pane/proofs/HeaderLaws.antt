@@ -6,12 +6,12 @@ use lib.IntN.{ℤ}
 use lib.Signed.{mag}
 use mir.Syntax.{w32}
 use mir.Val.{to_z, of_z}
+use mir.Facts.{to_z-of_z}
 use Rattle.stream_header.specs.declared.Header.{Header}
 use Rattle.pane.specs.Out.{bits32, header_numbers}
-use Rattle.pane.proofs.BitLaws.{back}
 
 pub offset-is : (x : ℤ) (n : ℕ) → mag x < 2 ^ 31 → n ≡ bits32 (to_z w32 (of_z w32 x)) → n ≡ bits32 x
-offset-is x n g e = e ∙ ap bits32 (back x g)
+offset-is x n g e = e ∙ ap bits32 (to_z-of_z {w = w32} {z = x} (record { sfits = g }))
 
 pub header_is : (h : Header) (x y z n : ℕ) → x ≡ bits32 h.hash_values.offset → y ≡ bits32 h.ti_off.offset → z ≡ bits32 h.hash_adj.offset
     → n ≡ h.maximum_index - h.minimum_index

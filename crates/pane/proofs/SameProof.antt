@@ -1,8 +1,8 @@
 -- Five functions are enough. Assumes nothing.
+use Rattle.std.specs.Prelude.{Option, None, Some}
 use Prim.Native.Nat.{ℕ, ◌+◌, ◌-◌, ◌/◌, ◌%◌, ◌^◌, ◌≤◌, ◌<◌}
 use mathlib.Core.Bool.{Bool, true, false}
 use mathlib.Core.List.{List, [], ◌∷◌}
-use mathlib.Core.Option.{Option, none, some}
 use mathlib.Core.Path.{◌≡◌, refl, sym, ap, ◌∙◌}
 use native.Mathlib.Nat.{zero-div, zero-mod}
 use native.Mathlib.Omega.{arith}
@@ -96,13 +96,13 @@ create-first shift s h t e l =
 -- ---- what an answered primitive says of the two lists
 named : (x : Bool) (i : ℕ) (d : Option Indirection) (k : Option PrimitiveKind) (p : PrimitiveType)
     → pick x (unknown i) (known i d (λ y. known i k (λ z. answered (record { kind = z; indirection = y })))) ≡ answered p
-    → (k ≡ some p.kind) × (d ≡ some p.indirection)
+    → (k ≡ Some p.kind) × (d ≡ Some p.indirection)
 named true i d k p e = let w : ◌≡◌ {A = ℕ} 0 1 = cc in absurd (omega arith)
-named false i none k p e = let w : ◌≡◌ {A = ℕ} 0 1 = cc in absurd (omega arith)
-named false i (some y) none p e = let w : ◌≡◌ {A = ℕ} 0 1 = cc in absurd (omega arith)
-named false i (some y) (some z) p e = let w : ◌≡◌ {A = PrimitiveType} (record { kind = z; indirection = y }) p = cc in (ap (λ (q : PrimitiveType). some q.kind) w, ap (λ (q : PrimitiveType). some q.indirection) w)
+named false i None k p e = let w : ◌≡◌ {A = ℕ} 0 1 = cc in absurd (omega arith)
+named false i (Some y) None p e = let w : ◌≡◌ {A = ℕ} 0 1 = cc in absurd (omega arith)
+named false i (Some y) (Some z) p e = let w : ◌≡◌ {A = PrimitiveType} (record { kind = z; indirection = y }) p = cc in (ap (λ (q : PrimitiveType). Some q.kind) w, ap (λ (q : PrimitiveType). Some q.indirection) w)
 
-primitive-named : (i : ℕ) (p : PrimitiveType) → primitive_of i ≡ answered p → (find (i % 2 ^ 8) kinds ≡ some p.kind) × (find (i / 2 ^ 8 % 2 ^ 4) indirections ≡ some p.indirection)
+primitive-named : (i : ℕ) (p : PrimitiveType) → primitive_of i ≡ answered p → (find (i % 2 ^ 8) kinds ≡ Some p.kind) × (find (i / 2 ^ 8 % 2 ^ 4) indirections ≡ Some p.indirection)
 unfolding primitive_of
 primitive-named i p e = named (leb 0x1000 i) i (find (i / 2 ^ 8 % 2 ^ 4) indirections) (find (i % 2 ^ 8) kinds) p e
 

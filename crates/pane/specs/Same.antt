@@ -1,7 +1,6 @@
 -- What makes five functions enough for C: they serve both streams, an update creates a finder, most updates can be left out, and the two numbers of a
 -- primitive name it.
-use Rattle.std.specs.Prelude.{ℕ, ◌/◌, ◌%◌, ◌^◌, ◌<◌, List, ◌≡◌}
-use Rattle.std.proofs.Math.Option.{some}
+use Rattle.std.specs.Prelude.{Some, ℕ, ◌/◌, ◌%◌, ◌^◌, ◌<◌, List, ◌≡◌}
 use Rattle.answer.specs.Answer.{answered}
 use Rattle.answer.specs.Tables.{find}
 use Rattle.stream_header.specs.Header.{header_of}
@@ -29,5 +28,5 @@ pub record SameForC : Type 0 where
   -- an update by a cursor that does not stand at the start of a block leaves finder and table, so that C may leave it out
   pub idle : (σ : State) (c : ItemIter) → (distance σ.finder c.index % block_of σ.finder ≡ 0 → ⊥) → after σ (update_of σ c) ≡ σ
   -- the numbers behind `out` are those of the kind and of the indirection in 01's lists
-  pub kind : (i : ℕ) (p : PrimitiveType) → primitive_of i ≡ answered p → find (i % 2 ^ 8) kinds ≡ some p.kind
-  pub indirection : (i : ℕ) (p : PrimitiveType) → primitive_of i ≡ answered p → find (i / 2 ^ 8 % 2 ^ 4) indirections ≡ some p.indirection
+  pub kind : (i : ℕ) (p : PrimitiveType) → primitive_of i ≡ answered p → find (i % 2 ^ 8) kinds ≡ Some p.kind
+  pub indirection : (i : ℕ) (p : PrimitiveType) → primitive_of i ≡ answered p → find (i / 2 ^ 8 % 2 ^ 4) indirections ≡ Some p.indirection

@@ -15,30 +15,23 @@ ghost use Rattle.word_primitive.specs.Primitive.{primitive_of};
 ghost use Rattle.pane_state.specs.Given.{cursor_at, finder_at};
 ghost use Rattle.pane.specs.Out.{bits32, header_numbers, type_at, out_header, out_next, out_update, out_find, out_primitive};
 
-use field::index::{Stream, TypeIndex};
-use stream_finder::{FindAnswer, FinderAnswer, ItemFinder};
-use stream_header::{Header, HeaderAnswer};
+use field::index::TypeIndex;
+use pane_out::refused;
+use pane_state::{cursor_given, finder_given};
+use stream_header::Header;
 use stream_item::Entry;
-use stream_item::iter::{ItemIter, NextAnswer};
-use word_primitive::PrimitiveAnswer;
 
 // The 32 bits of a signed number. Compiles to nothing.
 fn bits(x: i32) -> u64
     ensures { result ≡ bits32 x }
 {
-    if x < 0 {
-        return 0xffff_ffff - ((-1 - x) as u64);
-    }
-    x as u64
+    x.cast_unsigned() as u64
 }
 
 // What goes behind `out` for a header.
 fn header_out(h: Header) -> [u64; 18]
     ensures { result ≡ 0 ∷ 0 ∷ header_numbers h }
 {
-    let values = h.hash_values;
-    let offsets = h.ti_off;
-    let adjusters = h.hash_adj;
     [
         0,
         0,
@@ -51,12 +44,12 @@ fn header_out(h: Header) -> [u64; 18]
         h.tpi_hash_pad_stream as u64,
         h.hash_key_size as u64,
         h.hash_bucket_size as u64,
-        bits(values.offset),
-        values.size as u64,
-        bits(offsets.offset),
-        offsets.size as u64,
-        bits(adjusters.offset),
-        adjusters.size as u64,
+        bits(h.hash_values.offset),
+        h.hash_values.size as u64,
+        bits(h.ti_off.offset),
+        h.ti_off.size as u64,
+        bits(h.hash_adj.offset),
+        h.hash_adj.size as u64,
         h.count() as u64,
     ]
 }
@@ -68,33 +61,11 @@ pub extern "C" fn pdb_header(s: &[u8], out: &mut [u64; 18]) -> u32
     ensures { (result, out.new) ≡ out_header (header_of s.now) }
 {
     match Header::parse(s) {
-        HeaderAnswer::Answered(h) => {
+        Ok(h) => {
             *out = header_out(h);
             0
         }
-        HeaderAnswer::Refused(e) => {
-            *out = [
-                pane_out::first(e),
-                pane_out::second(e),
-                0,
-                0,
-                0,
-                0,
-                0,
-                0,
-                0,
-                0,
-                0,
-                0,
-                0,
-                0,
-                0,
-                0,
-                0,
-                0,
-            ];
-            e.number()
-        }
+        Err(e) => refused(e, out),
     }
 }
 
@@ -104,19 +75,13 @@ pub extern "C" fn pdb_header(s: &[u8], out: &mut [u64; 18]) -> u32
 pub extern "C" fn pdb_next(s: &[u8], at: usize, index: u32, out: &mut [u64; 8]) -> u32
     ensures { (result, out.new) ≡ out_next (next_of s.now (cursor_at at index)) }
 {
-    let c = ItemIter {
-        stream: Stream::Types,
-        at: at,
-        index: index,
-    };
-    match stream_item::iter::next(s, c) {
-        NextAnswer::Yielded(i, behind) => {
-            let named = i.index;
+    match stream_item::iter::next(s, cursor_given(at, index)) {
+        Ok(Some((i, behind))) => {
             *out = [
                 0,
                 0,
                 1,
-                named.number() as u64,
+                i.index.number() as u64,
                 i.place as u64,
                 i.length as u64,
                 behind.at as u64,
@@ -124,14 +89,11 @@ pub extern "C" fn pdb_next(s: &[u8], at: usize, index: u32, out: &mut [u64; 8]) 
             ];
             0
         }
-        NextAnswer::Done => {
+        Ok(None) => {
             *out = [0; 8];
             0
         }
-        NextAnswer::Refused(e) => {
-            *out = [pane_out::first(e), pane_out::second(e), 0, 0, 0, 0, 0, 0];
-            e.number()
-        }
+        Err(e) => refused(e, out),
     }
 }
 
@@ -150,26 +112,13 @@ pub extern "C" fn pdb_update(
 ) -> u32
     ensures { (result, out.new, table.new) ≡ out_update table.old (update_of (finder_at minimum maximum held shift table.old) (cursor_at at index)) }
 {
-    let f = ItemFinder {
-        minimum_index: minimum,
-        maximum_index: maximum,
-        held: held,
-        shift: shift,
-    };
-    let c = ItemIter {
-        stream: Stream::Types,
-        at: at,
-        index: index,
-    };
-    match stream_finder::update(f, table, c) {
-        FinderAnswer::Answered(g) => {
+    let f = finder_given(minimum, maximum, held, shift);
+    match stream_finder::update(f, table, cursor_given(at, index)) {
+        Ok(g) => {
             *out = [0, 0, g.held as u64];
             0
         }
-        FinderAnswer::Refused(e) => {
-            *out = [pane_out::first(e), pane_out::second(e), 0];
-            e.number()
-        }
+        Err(e) => refused(e, out),
     }
 }
 
@@ -188,27 +137,17 @@ pub extern "C" fn pdb_find(
 ) -> u32
     ensures { (result, out.new) ≡ out_find (find_of s.now (finder_at minimum maximum held shift table.now) (type_at index)) }
 {
-    let f = ItemFinder {
-        minimum_index: minimum,
-        maximum_index: maximum,
-        held: held,
-        shift: shift,
-    };
+    let f = finder_given(minimum, maximum, held, shift);
     match stream_finder::find_type(s, f, table, TypeIndex(index)) {
-        FindAnswer::Found(entry, passed) => match entry {
-            Entry::Record(i) => {
-                *out = [0, 0, 1, i.place as u64, i.length as u64, passed as u64];
-                0
-            }
-            Entry::Marker(_) => {
-                *out = [0, 0, 0, 0, 2, passed as u64];
-                0
-            }
-        },
-        FindAnswer::Refused(e) => {
-            *out = [pane_out::first(e), pane_out::second(e), 0, 0, 0, 0];
-            e.number()
+        Ok((Entry::Record(i), passed)) => {
+            *out = [0, 0, 1, i.place as u64, i.length as u64, passed as u64];
+            0
         }
+        Ok((Entry::Marker(_), passed)) => {
+            *out = [0, 0, 0, 0, 2, passed as u64];
+            0
+        }
+        Err(e) => refused(e, out),
     }
 }
 
@@ -218,13 +157,10 @@ pub extern "C" fn pdb_primitive(index: u32, out: &mut [u64; 4]) -> u32
     ensures { (result, out.new) ≡ out_primitive index (primitive_of index) }
 {
     match word_primitive::primitive(TypeIndex(index)) {
-        PrimitiveAnswer::Answered(_) => {
+        Ok(_) => {
             *out = [0, 0, (index % 256) as u64, (index / 256 % 16) as u64];
             0
         }
-        PrimitiveAnswer::Refused(e) => {
-            *out = [pane_out::first(e), pane_out::second(e), 0, 0];
-            e.number()
-        }
+        Err(e) => refused(e, out),
     }
 }

@@ -1,14 +1,13 @@
 // A type as a C declaration (R-5 of document 02), for C. What all exports have in common stands in pane_out, and what is said of a finder in pane_state.
-#![tactic(auto, using(crate::proofs::Used::laws))]
+#![tactic(auto)]
 
 ghost use Rattle.std.specs.Prelude.{◌≡◌, length};
 ghost use Rattle.declare_type.specs.Declares.{declare_of};
 ghost use Rattle.pane_state.specs.Given.{finder_at};
 ghost use Rattle.pane_declare.specs.Out.{out_declare};
 
-use declare_type::DeclareAnswer;
 use field::index::TypeIndex;
-use stream_finder::ItemFinder;
+use pane_state::finder_given;
 
 // The declaration of a type, in the first bytes of the buffer. Behind `out`: the details, and how many bytes it has. At a refusal the buffer is as it was.
 #[unsafe(no_mangle)]
@@ -25,20 +24,12 @@ pub extern "C" fn pdb_declare(
 ) -> u32
     ensures { (result, out.new, buffer.new) ≡ out_declare buffer.old (declare_of s.now (finder_at minimum maximum held shift table.now) index (length buffer.old)) }
 {
-    let f = ItemFinder {
-        minimum_index: minimum,
-        maximum_index: maximum,
-        held: held,
-        shift: shift,
-    };
+    let f = finder_given(minimum, maximum, held, shift);
     match declare_type::declare(s, f, table, TypeIndex(index), buffer) {
-        DeclareAnswer::Written(n) => {
+        Ok(n) => {
             *out = [0, 0, n as u64];
             0
         }
-        DeclareAnswer::Refused(e) => {
-            *out = [pane_out::first(e), pane_out::second(e), 0];
-            e.number()
-        }
+        Err(e) => pane_out::refused(e, out),
     }
 }

@@ -1,6 +1,6 @@
 // A stream's finder, for C: made and filled in one call, the highest index that it serves, an entry's bytes and leaf, and its places kept in a file (R-3 and
 // R-10 of document 02). What all exports have in common stands in pane_out, and what is said of a finder, a cursor and a walk in pane_state.
-#![tactic(auto, using(crate::proofs::Used::laws))]
+#![tactic(auto)]
 
 ghost use Rattle.std.specs.Prelude.{◌≡◌, length};
 ghost use Rattle.field.specs.declared.index.Stream.TheVariants.{Types};
@@ -14,11 +14,8 @@ ghost use Rattle.pane_state.specs.Walk.{index_all_by, out_walk};
 ghost use Rattle.pane_index.specs.Out.{out_view, out_kind, out_save};
 
 use field::index::Stream;
-use pane_state::entry_of;
-use stream_finder::{FinderAnswer, ItemFinder};
-use stream_index::IndexAnswer;
-use stream_places::SaveAnswer;
-use stream_view::{RawKindAnswer, ViewAnswer};
+use pane_out::refused;
+use pane_state::{entry_of, finder_given, finder_out, walk_out};
 
 // A fresh finder of a stream, with blocks of 2^shift. Behind `out`: the details, the finder's minimum and maximum, how many places it holds, and its
 // shift. The table has the first record's place first, or is as it was.
@@ -27,21 +24,11 @@ pub extern "C" fn pdb_create(s: &[u8], table: &mut [u32], shift: u32, out: &mut 
     ensures { (result, out.new, table.new) ≡ out_finder table.old (create_by shift s.now table.old) }
 {
     match stream_finder::create_by(s, table, shift) {
-        FinderAnswer::Answered(g) => {
-            *out = [
-                0,
-                0,
-                g.minimum_index as u64,
-                g.maximum_index as u64,
-                g.held as u64,
-                g.shift as u64,
-            ];
+        Ok(g) => {
+            *out = finder_out(g);
             0
         }
-        FinderAnswer::Refused(e) => {
-            *out = [pane_out::first(e), pane_out::second(e), 0, 0, 0, 0];
-            e.number()
-        }
+        Err(e) => refused(e, out),
     }
 }
 
@@ -53,26 +40,11 @@ pub extern "C" fn pdb_index(s: &[u8], table: &mut [u32], shift: u32, out: &mut [
     ensures { (result, out.new, table.new) ≡ out_walk table.old (index_all_by shift Types s.now table.old) }
 {
     match stream_index::index_all_by(Stream::Types, s, table, shift) {
-        IndexAnswer::Answered(t) => {
-            *out = pane_state::walk_out(t);
+        Ok(t) => {
+            *out = walk_out(t);
             0
         }
-        IndexAnswer::Refused(e) => {
-            *out = [
-                pane_out::first(e),
-                pane_out::second(e),
-                0,
-                0,
-                0,
-                0,
-                0,
-                0,
-                0,
-                0,
-                0,
-            ];
-            e.number()
-        }
+        Err(e) => refused(e, out),
     }
 }
 
@@ -81,14 +53,9 @@ pub extern "C" fn pdb_index(s: &[u8], table: &mut [u32], shift: u32, out: &mut [
 pub extern "C" fn pdb_max_index(minimum: u32, maximum: u32, held: usize, shift: u32) -> u32
     ensures { result ≡ max_index_of (finder_with minimum maximum held shift) }
 {
-    let f = ItemFinder {
-        minimum_index: minimum,
-        maximum_index: maximum,
-        held: held,
-        shift: shift,
-    };
-    let highest = f.max_type_index();
-    highest.0
+    finder_given(minimum, maximum, held, shift)
+        .max_type_index()
+        .0
 }
 
 // Where an entry's bytes lie, of the two streams in the one that its index names. Behind `out`: the details, their place and their length.
@@ -107,14 +74,11 @@ pub extern "C" fn pdb_view<'a>(
 {
     let entry = entry_of(ids, item, index, place, length);
     match stream_view::view_answer(tpi, ipi, entry) {
-        ViewAnswer::Answered(p, n) => {
+        Ok((p, n)) => {
             *out = [0, 0, p as u64, n as u64];
             0
         }
-        ViewAnswer::Refused(e) => {
-            *out = [pane_out::first(e), pane_out::second(e), 0, 0];
-            e.number()
-        }
+        Err(e) => refused(e, out),
     }
 }
 
@@ -134,14 +98,11 @@ pub extern "C" fn pdb_kind(
 {
     let entry = entry_of(ids, item, index, place, length);
     match stream_view::raw_kind(tpi, ipi, entry) {
-        RawKindAnswer::Answered(k) => {
+        Ok(k) => {
             *out = [0, 0, k as u64];
             0
         }
-        RawKindAnswer::Refused(e) => {
-            *out = [pane_out::first(e), pane_out::second(e), 0];
-            e.number()
-        }
+        Err(e) => refused(e, out),
     }
 }
 
@@ -152,21 +113,11 @@ pub extern "C" fn pdb_load(s: &[u8], file: &[u8], table: &mut [u32], out: &mut [
     ensures { (result, out.new, table.new) ≡ out_finder table.old (load_wide_of s.now file.now table.old) }
 {
     match stream_places::load_wide(s, file, table) {
-        FinderAnswer::Answered(g) => {
-            *out = [
-                0,
-                0,
-                g.minimum_index as u64,
-                g.maximum_index as u64,
-                g.held as u64,
-                g.shift as u64,
-            ];
+        Ok(g) => {
+            *out = finder_out(g);
             0
         }
-        FinderAnswer::Refused(e) => {
-            *out = [pane_out::first(e), pane_out::second(e), 0, 0, 0, 0];
-            e.number()
-        }
+        Err(e) => refused(e, out),
     }
 }
 
@@ -181,21 +132,11 @@ pub extern "C" fn pdb_load_short(
     ensures { (result, out.new, table.new) ≡ out_finder table.old (load_of s.now file.now table.old) }
 {
     match stream_places::load(s, file, table) {
-        FinderAnswer::Answered(g) => {
-            *out = [
-                0,
-                0,
-                g.minimum_index as u64,
-                g.maximum_index as u64,
-                g.held as u64,
-                g.shift as u64,
-            ];
+        Ok(g) => {
+            *out = finder_out(g);
             0
         }
-        FinderAnswer::Refused(e) => {
-            *out = [pane_out::first(e), pane_out::second(e), 0, 0, 0, 0];
-            e.number()
-        }
+        Err(e) => refused(e, out),
     }
 }
 
@@ -214,21 +155,13 @@ pub extern "C" fn pdb_save(
 ) -> u32
     ensures { (result, out.new, buffer.new) ≡ out_save buffer.old (save_wide_of s.now (finder_at minimum maximum held shift table.now) (length buffer.old)) }
 {
-    let f = ItemFinder {
-        minimum_index: minimum,
-        maximum_index: maximum,
-        held: held,
-        shift: shift,
-    };
+    let f = finder_given(minimum, maximum, held, shift);
     match stream_places::save_wide(s, f, table, buffer) {
-        SaveAnswer::Answered(n) => {
+        Ok(n) => {
             *out = [0, 0, n as u64];
             0
         }
-        SaveAnswer::Refused(e) => {
-            *out = [pane_out::first(e), pane_out::second(e), 0];
-            e.number()
-        }
+        Err(e) => refused(e, out),
     }
 }
 
@@ -246,20 +179,12 @@ pub extern "C" fn pdb_save_short(
 ) -> u32
     ensures { (result, out.new, buffer.new) ≡ out_save buffer.old (save_of s.now (finder_at minimum maximum held shift table.now) (length buffer.old)) }
 {
-    let f = ItemFinder {
-        minimum_index: minimum,
-        maximum_index: maximum,
-        held: held,
-        shift: shift,
-    };
+    let f = finder_given(minimum, maximum, held, shift);
     match stream_places::save(s, f, table, buffer) {
-        SaveAnswer::Answered(n) => {
+        Ok(n) => {
             *out = [0, 0, n as u64];
             0
         }
-        SaveAnswer::Refused(e) => {
-            *out = [pane_out::first(e), pane_out::second(e), 0];
-            e.number()
-        }
+        Err(e) => refused(e, out),
     }
 }

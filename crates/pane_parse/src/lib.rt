@@ -3,7 +3,7 @@
 //
 // The result is a refusal's number, 0 for an answer. Behind `out`, which is written whole by every call: the two detail values, then the answer's fields, 0
 // where there is none. Each contract is one equation with the definition that the plain function's contract cites (specs/Out.antt).
-#![tactic(auto, using(crate::proofs::Used::laws))]
+#![tactic(auto)]
 
 ghost use Rattle.std.specs.Prelude.{◌≡◌, ◌∷◌, ◌++◌, replicate};
 ghost use Rattle.record_data.specs.Said.{type_values};
@@ -15,12 +15,13 @@ ghost use Rattle.pane_row.specs.TypePlaces.{type_row};
 ghost use Rattle.pane_row.specs.IdPlaces.{id_row};
 ghost use Rattle.pane_parse.specs.Out.{record_at, out_read};
 
+use answer::Refusal;
 use field::index::{ItemIndex, TypeIndex};
-use pane_out::{first, second};
+use pane_out::refused;
 use pane_row::{id_row, type_row};
 use record_data::TypeData;
 use record_id::IdData;
-use record_parse::ParseAnswer;
+use record_parse::EntryData;
 use stream_item::{Entry, Item};
 
 // What goes behind `out` for a type record, and for an id record.
@@ -28,76 +29,43 @@ use stream_item::{Entry, Item};
 fn type_out(d: TypeData) -> [u64; 16]
     ensures { result ≡ 0 ∷ 0 ∷ 0 ∷ type_row (type_values d) }
 {
-    let r = type_row(d);
-    [
-        0, 0, 0, r[2], r[3], r[4], r[5], r[6], r[7], r[8], r[9], r[10], r[11], r[12], r[13], r[14],
-    ]
+    let mut out = [0; 16];
+    let row = type_row(d);
+    out[3..].copy_from_slice(&row[2..]);
+    out
 }
 
 fn id_out(d: IdData) -> [u64; 16]
     ensures { result ≡ 0 ∷ 0 ∷ 1 ∷ (id_row (id_values d) ++ replicate 3 0) }
 {
-    let r = id_row(d);
-    [
-        0, 0, 1, r[2], r[3], r[4], r[5], r[6], r[7], r[8], r[9], r[10], r[11], 0, 0, 0,
-    ]
+    let mut out = [0; 16];
+    let row = id_row(d);
+    out[2] = 1;
+    out[3..13].copy_from_slice(&row[2..]);
+    out
 }
 
 // What C gets of an entry with this index: the result, and all of `out`.
-fn hand_over(index: u32, answer: ParseAnswer, out: &mut [u64; 16]) -> u32
+fn hand_over(index: u32, answer: Result<EntryData, Refusal>, out: &mut [u64; 16]) -> u32
     ensures { (result, out.new) ≡ out_read index (said_parse answer) }
 {
     match answer {
-        ParseAnswer::Type(d) => {
+        Ok(EntryData::Type(d)) => {
             *out = type_out(d);
             0
         }
-        ParseAnswer::Id(d) => {
+        Ok(EntryData::Id(d)) => {
             *out = id_out(d);
             0
         }
-        ParseAnswer::Primitive(_) => {
-            *out = [
-                0,
-                0,
-                2,
-                (index % 256) as u64,
-                (index / 256 % 16) as u64,
-                0,
-                0,
-                0,
-                0,
-                0,
-                0,
-                0,
-                0,
-                0,
-                0,
-                0,
-            ];
+        Ok(EntryData::Primitive(_)) => {
+            *out = [0; 16];
+            out[2] = 2;
+            out[3] = (index % 256) as u64;
+            out[4] = (index / 256 % 16) as u64;
             0
         }
-        ParseAnswer::Refused(e) => {
-            *out = [
-                first(e),
-                second(e),
-                0,
-                0,
-                0,
-                0,
-                0,
-                0,
-                0,
-                0,
-                0,
-                0,
-                0,
-                0,
-                0,
-                0,
-            ];
-            e.number()
-        }
+        Err(e) => refused(e, out),
     }
 }
 
@@ -134,8 +102,8 @@ pub extern "C" fn pdb_section_read(
 {
     let item = Item {
         index: ItemIndex::Types(TypeIndex(index)),
-        place: place,
-        length: length,
+        place,
+        length,
     };
     hand_over(index, section_read::parse(s, Entry::Record(item)), out)
 }

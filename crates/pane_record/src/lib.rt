@@ -5,17 +5,16 @@
 // function's contract cites (specs/Out.antt). No reader is used by two exports: each is compiled into the one that uses it.
 #![tactic(auto, using(crate::proofs::Used::laws))]
 
-ghost use Rattle.std.specs.Prelude.{◌≡◌};
+ghost use Rattle.std.specs.Prelude.{◌≡◌, ◌∷◌};
 ghost use Rattle.record_layout.specs.Layouts.{record_of, type_leaves, id_leaves};
 ghost use Rattle.record_list.specs.Lists.{start_of, step_of};
-ghost use Rattle.pane_record.specs.Out.{stream_at, list_cursor_at, out_type, out_id, out_list, out_step};
+ghost use Rattle.record_list.specs.Said.{step_said};
+ghost use Rattle.pane_record.specs.Out.{stream_at, list_cursor_at, out_type, out_id, out_list, step_fields, out_step};
 
 use field::index::Stream;
-use pane_out::{first, flag, is_set, second};
+use pane_out::{flag, is_set, refused};
 use pane_row::{cursor_row, entry_row, id_row, index_row, member_row, type_row};
-use record_data::TypeAnswer;
-use record_id::IdAnswer;
-use record_list::{Element, ListCursor, StartAnswer, StepAnswer};
+use record_list::{Element, ListCursor};
 
 // The type record that these bytes are, its leaf first. Behind `out`: the details, leaf, count, word, type, list, other, last, size, form, name and its
 // length, unique name and its length.
@@ -24,14 +23,11 @@ pub extern "C" fn pdb_type(s: &[u8], out: &mut [u64; 15]) -> u32
     ensures { (result, out.new) ≡ out_type (record_of type_leaves s.now) }
 {
     match record_data::type_data(s) {
-        TypeAnswer::Answered(d) => {
+        Ok(d) => {
             *out = type_row(d);
             0
         }
-        TypeAnswer::Refused(e) => {
-            *out = [first(e), second(e), 0, 0, 0, 0, 0, 0, 0, 0, 0, 0, 0, 0, 0];
-            e.number()
-        }
+        Err(e) => refused(e, out),
     }
 }
 
@@ -41,14 +37,11 @@ pub extern "C" fn pdb_id(s: &[u8], out: &mut [u64; 12]) -> u32
     ensures { (result, out.new) ≡ out_id (record_of id_leaves s.now) }
 {
     match record_id::id_data(s) {
-        IdAnswer::Answered(d) => {
+        Ok(d) => {
             *out = id_row(d);
             0
         }
-        IdAnswer::Refused(e) => {
-            *out = [first(e), second(e), 0, 0, 0, 0, 0, 0, 0, 0, 0, 0];
-            e.number()
-        }
+        Err(e) => refused(e, out),
     }
 }
 
@@ -57,9 +50,10 @@ fn stream(ids: u32) -> Stream
     ensures { result ≡ stream_at ids }
 {
     if is_set(ids) {
-        return Stream::Ids;
+        Stream::Ids
+    } else {
+        Stream::Types
     }
-    Stream::Types
 }
 
 // The list of the record that these bytes are, at its first element. Behind `out`: the details, leaf, place, elements left, padded.
@@ -68,14 +62,24 @@ pub extern "C" fn pdb_list(s: &[u8], ids: u32, out: &mut [u64; 6]) -> u32
     ensures { (result, out.new) ≡ out_list (start_of (stream_at ids) s.now) }
 {
     match record_list::start(stream(ids), s) {
-        StartAnswer::Answered(c) => {
+        Ok(c) => {
             *out = cursor_row(c);
             0
         }
-        StartAnswer::Refused(e) => {
-            *out = [first(e), second(e), 0, 0, 0, 0];
-            e.number()
-        }
+        Err(e) => refused(e, out),
+    }
+}
+
+// What goes behind `out` for an element and the cursor behind it.
+fn step_out(x: Element, n: ListCursor) -> [u64; 15]
+    ensures { result ≡ 0 ∷ 0 ∷ step_fields (step_said (x, n)) }
+{
+    let (at, left, padded) = (n.at as u64, n.left as u64, flag(n.padded));
+    match x {
+        Element::Type(i) => index_row(at, left, padded, i.0),
+        Element::Id(i) => index_row(at, left, padded, i.0),
+        Element::Method(m) => entry_row(at, left, padded, m),
+        Element::Member(m) => member_row(at, left, padded, m),
     }
 }
 
@@ -93,36 +97,16 @@ pub extern "C" fn pdb_step(
     ensures { (result, out.new) ≡ out_step (step_of s.now (list_cursor_at leaf at left padded)) }
 {
     let c = ListCursor {
-        leaf: leaf,
-        at: at,
-        left: left,
+        leaf,
+        at,
+        left,
         padded: is_set(padded),
     };
     match record_list::step(s, c) {
-        StepAnswer::Answered(x, n) => {
-            let after = n.padded;
-            match x {
-                Element::Type(i) => {
-                    *out = index_row(n.at as u64, n.left as u64, flag(after), i.0);
-                    0
-                }
-                Element::Id(i) => {
-                    *out = index_row(n.at as u64, n.left as u64, flag(after), i.0);
-                    0
-                }
-                Element::Method(m) => {
-                    *out = entry_row(n.at as u64, n.left as u64, flag(after), m);
-                    0
-                }
-                Element::Member(m) => {
-                    *out = member_row(n.at as u64, n.left as u64, flag(after), m);
-                    0
-                }
-            }
+        Ok((x, n)) => {
+            *out = step_out(x, n);
+            0
         }
-        StepAnswer::Refused(e) => {
-            *out = [first(e), second(e), 0, 0, 0, 0, 0, 0, 0, 0, 0, 0, 0, 0, 0];
-            e.number()
-        }
+        Err(e) => refused(e, out),
     }
 }

@@ -1,11 +1,11 @@
 // A report over streams (R-12 of document 02), for C. What all exports have in common stands in pane_out.
-#![tactic(auto, using(crate::proofs::Used::laws))]
+#![tactic(auto)]
 
 ghost use Rattle.std.specs.Prelude.{◌≡◌};
 ghost use Rattle.stream_report.specs.Report.{report_in, add_of};
 ghost use Rattle.pane_report.specs.Out.{totals_at, out_report};
 
-use stream_report::{Largest, ReportAnswer, Totals};
+use stream_report::{Largest, Totals};
 
 // A stream added to a report, which is nine numbers and a lent table of 64 rows of leaf, records and payload bytes. Behind `out`: the details, and the
 // nine numbers after it, in the order that they are given. At a refusal the table is as it was, and so is the report that the caller has.
@@ -27,20 +27,20 @@ pub extern "C" fn pdb_report(
     ensures { (result, out.new, table.new) ≡ out_report table.old (add_of (report_in (totals_at taken refused headers records bytes length stream index rows) table.old) s.now) }
 {
     let totals = Totals {
-        taken: taken,
-        refused: refused,
-        headers: headers,
-        records: records,
-        bytes: bytes,
+        taken,
+        refused,
+        headers,
+        records,
+        bytes,
         largest: Largest {
-            length: length,
-            stream: stream,
-            index: index,
+            length,
+            stream,
+            index,
         },
-        rows: rows,
+        rows,
     };
     match stream_report::add(totals, table, s) {
-        ReportAnswer::Added(t) => {
+        Ok(t) => {
             let largest = t.largest;
             *out = [
                 0,
@@ -57,21 +57,6 @@ pub extern "C" fn pdb_report(
             ];
             0
         }
-        ReportAnswer::Refused(e) => {
-            *out = [
-                pane_out::first(e),
-                pane_out::second(e),
-                0,
-                0,
-                0,
-                0,
-                0,
-                0,
-                0,
-                0,
-                0,
-            ];
-            e.number()
-        }
+        Err(e) => pane_out::refused(e, out),
     }
 }

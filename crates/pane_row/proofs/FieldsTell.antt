@@ -1,10 +1,10 @@
 -- The value of a field that was read is told by its three numbers. Assumes nothing.
+use Rattle.std.specs.Prelude.{Option, None, Some}
 use Prim.Native.Nat.{ℕ, zero, suc, ◌+◌, ◌-◌, ◌*◌, ◌≤◌, ◌<◌, ◌^◌}
 use native.Mathlib.Omega.{arith}
 use mathlib.Core.Bool.{Bool, true, false}
 use mathlib.Core.Path.{◌≡◌, refl, sym, ap, subst}
 use mathlib.Core.List.{List, [], ◌∷◌}
-use mathlib.Core.Option.{Option, none, some}
 use lib.ListN.{length, drop}
 use lib.Dec.{leb, ltb}
 use lib.IntN.{ℤ, pos, negsuc}
@@ -120,7 +120,7 @@ left_out kind.integer = λ k. false-true k
 left_out kind.other = λ k. false-true k
 
 -- an index that is there is not 0
-none_or : (b : Bool) (m : ℕ) → Shows kind.optional (or_absent (pick b none (some (suc m))))
+none_or : (b : Bool) (m : ℕ) → Shows kind.optional (or_absent (pick b None (Some (suc m))))
 none_or true m = λ k. refl
 none_or false m = λ k. rw (lt-ltb 0 (suc m) (omega arith))
 
@@ -135,8 +135,8 @@ id-shows zero = λ k. refl
 id-shows (suc m) = none_or (among (suc m) no_id) m
 
 not-many : (p : ℕ) (o : Option ℕ) → Placed p (or_absent o)
-not-many p none = tt
-not-many p (some m) = tt
+not-many p None = tt
+not-many p (Some m) = tt
 
 -- each value of a layout is told by its three numbers
 unfoldable pub AllShow : Layout → List Shown → Type 0
@@ -182,8 +182,8 @@ module _ (s : List ℕ) where
   string-holds p = go (to_zero (drop p s) 0)
     where
       go : (o : Option ℕ) → Holds (λ (x : Part) (q : ℕ). (p ≤ x.place) × (p ≤ q)) (part_or o p)
-      go none = tt
-      go (some n) = (omega arith, omega arith)
+      go None = tt
+      go (Some n) = (omega arith, omega arith)
 
   integer-shows : (z : ℤ) (width : ℕ) → Back z width → Shows kind.integer (numeral z (form_of z width))
   unfolding form_of

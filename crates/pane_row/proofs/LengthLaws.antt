@@ -1,9 +1,9 @@
 -- A row is as long as it is said to be, and is its numbers one by one. Assumes nothing.
+use Rattle.std.specs.Prelude.{Option, None, Some}
 use Prim.Native.Nat.{ℕ, zero, suc}
 use native.Mathlib.Omega.{arith}
 use mathlib.Core.Path.{◌≡◌, refl, ap, ◌∙◌}
 use mathlib.Core.List.{List, [], ◌∷◌}
-use mathlib.Core.Option.{Option, none, some}
 use lib.ListN.{length, get_or, set, replicate, length-set, length-replicate}
 use Rattle.answer.specs.Tables.{Line, find}
 use Rattle.record_layout.specs.Fields.{Shown}
@@ -32,8 +32,8 @@ row-length table n [] = length-replicate n 0
 row-length table n (leaf ∷ vs) = go (find (number_in leaf) table) ∙ length-set (replicate n 0) 0 _ ∙ length-replicate n 0
   where
     go : (o : Option Slots) → length (puts_by o (set (replicate n 0) 0 (number_in leaf)) vs) ≡ length (set (replicate n 0) 0 (number_in leaf))
-    go none = refl
-    go (some ks) = puts-length (set (replicate n 0) 0 (number_in leaf)) ks vs
+    go None = refl
+    go (Some ks) = puts-length (set (replicate n 0) 0 (number_in leaf)) ks vs
 
 -- a list is its numbers one by one
 abbrev pub up_to : ℕ → (ℕ → ℕ) → List ℕ

@@ -1,10 +1,10 @@
 -- A row gives back the values of every record, and every element, that was read. Assumes nothing.
+use Rattle.std.specs.Prelude.{Option, None, Some}
 use Prim.Native.Nat.{ℕ, suc, ◌+◌, ◌≤◌, ◌<◌}
 use native.Mathlib.Omega.{arith}
 use mathlib.Core.Bool.{Bool, true, false}
 use mathlib.Core.Path.{◌≡◌, refl, sym, ap, ◌∙◌, subst}
 use mathlib.Core.List.{List, [], ◌∷◌, ◌++◌}
-use mathlib.Core.Option.{Option, none, some}
 use lib.ListN.{length, get_or, set, replicate, length-set, length-replicate}
 use lib.Seq.{get_or-set_same, get_or-set_other}
 use lib.Dec.{leb, ltb, eqb}
@@ -237,21 +237,21 @@ zeros-back n ks fs vs a e h = fields_back_lem n ks fs (replicate n 0) vs (length
 -- the slots of a leaf
 record Lined (n leaf : ℕ) (slots : List (Line Slots)) (fs : Layout) : Type 0 where
   places : Slots
-  there : find leaf slots ≡ some places
+  there : find leaf slots ≡ Some places
   fit : fitting places fs ≡ true
   alone : apart n (0 ∷ places_of places) ≡ true
 
-some_is : {A : Type 0} {a b : A} → ◌≡◌ {A = Option A} (some a) (some b) → a ≡ b
+some_is : {A : Type 0} {a b : A} → ◌≡◌ {A = Option A} (Some a) (Some b) → a ≡ b
 some_is {A} {a} {b} e = ap (or a) e
   where
     or : A → Option A → A
-    or d none = d
-    or d (some x) = x
+    or d None = d
+    or d (Some x) = x
 
-none-some : {X A : Type 0} {a : A} → ◌≡◌ {A = Option A} none (some a) → X
+none-some : {X A : Type 0} {a : A} → ◌≡◌ {A = Option A} None (Some a) → X
 none-some {X} {A} {a} h = let z : ◌≡◌ {A = ℕ} 0 1 = cc in absurd (omega arith)
 
-lines : (n leaf : ℕ) (table : Table) (slots : List (Line Slots)) (fs : Layout) → lined table slots ≡ true → stands n slots ≡ true → find leaf table ≡ some fs → Lined n leaf slots fs
+lines : (n leaf : ℕ) (table : Table) (slots : List (Line Slots)) (fs : Layout) → lined table slots ≡ true → stands n slots ≡ true → find leaf table ≡ Some fs → Lined n leaf slots fs
 unfolding lined stands find
 lines n leaf [] slots fs h s e = none-some e
 lines n leaf ((m is gs) ∷ ls) [] fs h s e = false-true h
@@ -261,8 +261,8 @@ lines n leaf ((m is gs) ∷ ls) ((j is ks) ∷ ks') fs h s e =
     let c = both_true (apart n (0 ∷ places_of ks)) _ s in
     go (eqb leaf m) (rw (sym (eqb-true m j a.0)) refl) b.0 c.0 e (lines n leaf ls ks' fs b.1 c.1)
   where
-    go : (t : Bool) → eqb leaf j ≡ t → fitting ks gs ≡ true → apart n (0 ∷ places_of ks) ≡ true → pick t (some gs) (find leaf ls) ≡ some fs
-        → (find leaf ls ≡ some fs → Lined n leaf ks' fs) → Lined n leaf ((j is ks) ∷ ks') fs
+    go : (t : Bool) → eqb leaf j ≡ t → fitting ks gs ≡ true → apart n (0 ∷ places_of ks) ≡ true → pick t (Some gs) (find leaf ls) ≡ Some fs
+        → (find leaf ls ≡ Some fs → Lined n leaf ks' fs) → Lined n leaf ((j is ks) ∷ ks') fs
     go true i f a d k = record { places = ks; there = rw i refl; fit = subst (λ (x : Layout). fitting ks x ≡ true) (some_is d) f; alone = a }
     go false i f a d k =
         let r = k d in
@@ -288,7 +288,7 @@ module _ (n : ℕ) (table : Table) (slots : List (Line Slots)) (beside : lined t
   abbrev Backed : List Shown → Type 0
   Backed vs = back_by table slots (row_by slots n vs) ≡ vs
 
-  line-back : (leaf : ℕ) (fs : Layout) (vs : List Shown) → find leaf table ≡ some fs → AllShow fs vs → Backed (number leaf ∷ vs)
+  line-back : (leaf : ℕ) (fs : Layout) (vs : List Shown) → find leaf table ≡ Some fs → AllShow fs vs → Backed (number leaf ∷ vs)
   unfolding row_by back_by
   line-back leaf fs vs e h =
       let r : Lined n leaf slots fs = lines n leaf table slots fs beside standing e in
@@ -305,8 +305,8 @@ module _ (n : ℕ) (table : Table) (slots : List (Line Slots)) (beside : lined t
   leaf-back leaf s p l = go (find leaf table) refl
     where
       go : (o : Option Layout) → find leaf table ≡ o → Holds (λ (vs : List Shown) (e : ℕ). Backed vs) (by_layout o leaf s p)
-      go none e = tt
-      go (some fs) e = after (λ (vs : List Shown) (q : ℕ). AllShow fs vs) _ (read_fields fs 0 s p) _ (fields-tell s fs 0 p l) (λ vs q h. line-back leaf fs vs e h)
+      go None e = tt
+      go (Some fs) e = after (λ (vs : List Shown) (q : ℕ). AllShow fs vs) _ (read_fields fs 0 s p) _ (fields-tell s fs 0 p l) (λ vs q h. line-back leaf fs vs e h)
 
   -- a record at any place, and the record that the bytes are
   record-back : (s : List ℕ) (p : ℕ) → Holds (λ (vs : List Shown) (e : ℕ). Backed vs) (read_record table s p)

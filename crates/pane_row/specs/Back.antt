@@ -1,6 +1,5 @@
 -- A row gives the values back, by the tables and nothing else: 0 is absent. For every record that was read; proofs/RowsTellProof.antt
-use Rattle.std.specs.Prelude.{ℕ, suc, ◌-◌, true, false, ◌≡◌, List, [], ◌∷◌, get_or, eqb, ltb, ℤ, pos, negsuc}
-use Rattle.std.proofs.Math.Option.{Option, none, some}
+use Rattle.std.specs.Prelude.{Option, None, Some, ℕ, suc, ◌-◌, true, false, ◌≡◌, List, [], ◌∷◌, get_or, eqb, ltb, ℤ, pos, negsuc}
 use Rattle.answer.specs.Answer.{answered, pick}
 use Rattle.answer.specs.Tables.{Line, find}
 use Rattle.field_number.specs.Forms.{Form}
@@ -62,9 +61,9 @@ fields_back (k ∷ ks) (f ∷ fs) row = told (slot_kind f) (first_at k row) (sec
 
 -- by the leaf's line of both tables
 abbrev pub line_back : Option Slots → Option Layout → List ℕ → List Shown
-line_back none o row = []
-line_back (some ks) none row = []
-line_back (some ks) (some fs) row = fields_back ks fs row
+line_back None o row = []
+line_back (Some ks) None row = []
+line_back (Some ks) (Some fs) row = fields_back ks fs row
 
 unfoldable pub back_by : Table → List (Line Slots) → List ℕ → List Shown
 back_by table slots row = number (get_or row 0 0) ∷ line_back (find (get_or row 0 0) slots) (find (get_or row 0 0) table) row

@@ -1,7 +1,6 @@
 -- A record's values as a row of numbers in which each role has one place, whatever the leaf. A table of places is 01's table of layouts once more, with the
 -- places of each field in the row.
-use Rattle.std.specs.Prelude.{ℕ, suc, ◌+◌, List, [], ◌∷◌, set, replicate}
-use Rattle.std.proofs.Math.Option.{Option, none, some}
+use Rattle.std.specs.Prelude.{Option, None, Some, ℕ, suc, ◌+◌, List, [], ◌∷◌, set, replicate}
 use Rattle.answer.specs.Answer.{pick}
 use Rattle.answer.specs.Tables.{Line, find}
 use Rattle.field_number.specs.Forms.{Form}
@@ -57,8 +56,8 @@ puts row (k ∷ ks) (v ∷ vs) = puts (put_slot row k v) ks vs
 
 -- by a table, the leaf in front: the row has zeros where nothing is put
 abbrev pub puts_by : Option Slots → List ℕ → List Shown → List ℕ
-puts_by none row vs = row
-puts_by (some ks) row vs = puts row ks vs
+puts_by None row vs = row
+puts_by (Some ks) row vs = puts row ks vs
 
 unfoldable pub row_by : List (Line Slots) → ℕ → List Shown → List ℕ
 row_by table n [] = replicate n 0

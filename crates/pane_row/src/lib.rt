@@ -6,7 +6,6 @@
 ghost use Rattle.std.specs.Prelude.{◌≡◌, [], ◌∷◌};
 ghost use Rattle.field.specs.Indices.{type_option, id_option};
 ghost use Rattle.field_number.specs.Numbers.{number_value};
-ghost use Rattle.field_number.specs.Forms.{size_form, variant_form};
 ghost use Rattle.record_layout.specs.Fields.{number, or_absent};
 ghost use Rattle.record_data.specs.Said.{string_value, kind_leaf, type_values};
 ghost use Rattle.record_id.specs.Said.{id_values};
@@ -18,9 +17,9 @@ ghost use Rattle.pane_row.specs.IdPlaces.{id_row};
 ghost use Rattle.pane_row.specs.ListPlaces.{cursor_row};
 ghost use Rattle.pane_row.specs.ElementPlaces.{index_row, method_row, member_row};
 
-use field::index::{OptIdIndex, OptTypeIndex, TypeIndex};
-use field_number::{Number, Size, Variant};
-use field_text::OptString;
+use field::index::{IdIndex, TypeIndex};
+use field_number::Number;
+use field_text::RawString;
 use pane_out::flag;
 use record_data::{
     ArgumentList, ArrayType, BitfieldType, ClassKind, ClassType, EnumerationType,
@@ -34,63 +33,62 @@ use record_id::{
 use record_list::ListCursor;
 use record_member::{
     BaseClassType, EnumerateType, Member, MemberType, MethodListEntry, MethodType, NestedType,
-    OptOffset, OverloadedMethodType, StaticMemberType, VirtualBaseClassType,
-    VirtualFunctionTablePointerType,
+    OverloadedMethodType, StaticMemberType, VirtualBaseClassType, VirtualFunctionTablePointerType,
 };
 
 // What may be absent, as numbers.
 
-fn index_or_0(o: OptTypeIndex) -> u64
+fn index_or_0(o: Option<TypeIndex>) -> u64
     ensures { result ≡ first_of (or_absent (type_option o)) }
 {
     match o {
-        OptTypeIndex::None => 0,
-        OptTypeIndex::Some(i) => i.0 as u64,
+        None => 0,
+        Some(i) => i.0 as u64,
     }
 }
 
-fn id_or_0(o: OptIdIndex) -> u64
+fn id_or_0(o: Option<IdIndex>) -> u64
     ensures { result ≡ first_of (or_absent (id_option o)) }
 {
     match o {
-        OptIdIndex::None => 0,
-        OptIdIndex::Some(i) => i.0 as u64,
+        None => 0,
+        Some(i) => i.0 as u64,
     }
 }
 
-fn place_or_0(o: OptString) -> u64
+fn place_or_0(o: Option<RawString>) -> u64
     ensures { result ≡ first_of (string_value o) }
 {
     match o {
-        OptString::None => 0,
-        OptString::Some(t) => t.place as u64,
+        None => 0,
+        Some(t) => t.place as u64,
     }
 }
 
-fn length_or_0(o: OptString) -> u64
+fn length_or_0(o: Option<RawString>) -> u64
     ensures { result ≡ second_of (string_value o) }
 {
     match o {
-        OptString::None => 0,
-        OptString::Some(t) => t.length as u64,
+        None => 0,
+        Some(t) => t.length as u64,
     }
 }
 
-fn offset_or_0(o: OptOffset) -> u64
+fn offset_or_0(o: Option<u32>) -> u64
     ensures { result ≡ first_of (or_absent (offset_option o)) }
 {
     match o {
-        OptOffset::None => 0,
-        OptOffset::Some(x) => x as u64,
+        None => 0,
+        Some(x) => x as u64,
     }
 }
 
-fn is_there(o: OptOffset) -> u64
+fn is_there(o: Option<u32>) -> u64
     ensures { result ≡ second_of (or_absent (offset_option o)) }
 {
     match o {
-        OptOffset::None => 0,
-        OptOffset::Some(_) => 1,
+        None => 0,
+        Some(_) => 1,
     }
 }
 
@@ -115,23 +113,14 @@ fn is_negative(n: Number) -> u64
 }
 
 // The form in which a numeric leaf stood: its bytes, and 256 more where a shorter form carries the number.
-
-fn form(v: Size) -> u64
-    ensures { result ≡ form_in (size_form v) }
+fn form(width: u8, shorter: bool) -> u64
+    ensures { result ≡ form_in (record { width = width; shorter = shorter }) }
 {
-    if v.shorter {
-        return 256 + (v.width as u64);
+    if shorter {
+        256 + width as u64
+    } else {
+        width as u64
     }
-    v.width as u64
-}
-
-fn number_form(v: Variant) -> u64
-    ensures { result ≡ form_in (variant_form v) }
-{
-    if v.shorter {
-        return 256 + (v.width as u64);
-    }
-    v.width as u64
 }
 
 // The leaf of each kind.
@@ -150,10 +139,7 @@ fn leaf_of(k: ClassKind) -> u64
 fn virtual_leaf(direct: bool) -> u64
     ensures { result ≡ virtual_leaf direct }
 {
-    if direct {
-        return 0x1401;
-    }
-    0x1402
+    if direct { 0x1401 } else { 0x1402 }
 }
 
 // The row of each type record.
@@ -161,35 +147,28 @@ fn virtual_leaf(direct: bool) -> u64
 fn class_row(d: ClassType) -> [u64; 15]
     ensures { result ≡ 0 ∷ 0 ∷ type_row (type_values (TypeData.Class d)) }
 {
-    let kind = d.kind;
-    let fields = d.fields;
-    let derived = d.derived_from;
-    let shape = d.vtable_shape;
-    let unique = d.unique_name;
-    let size = d.size;
     [
         0,
         0,
-        leaf_of(kind),
+        leaf_of(d.kind),
         d.count as u64,
         d.properties.0 as u64,
         0,
-        index_or_0(fields),
-        index_or_0(derived),
-        index_or_0(shape),
+        index_or_0(d.fields),
+        index_or_0(d.derived_from),
+        index_or_0(d.vtable_shape),
         d.size.value,
-        form(size),
+        form(d.size.width, d.size.shorter),
         d.name.place as u64,
         d.name.length as u64,
-        place_or_0(unique),
-        length_or_0(unique),
+        place_or_0(d.unique_name),
+        length_or_0(d.unique_name),
     ]
 }
 
 fn member_function_row(d: MemberFunctionType) -> [u64; 15]
     ensures { result ≡ 0 ∷ 0 ∷ type_row (type_values (TypeData.MemberFunction d)) }
 {
-    let this_pointer_type = d.this_pointer_type;
     [
         0,
         0,
@@ -199,7 +178,7 @@ fn member_function_row(d: MemberFunctionType) -> [u64; 15]
         d.return_type.0 as u64,
         d.argument_list.0 as u64,
         d.class_type.0 as u64,
-        index_or_0(this_pointer_type),
+        index_or_0(d.this_pointer_type),
         d.this_adjustment as u64,
         0,
         0,
@@ -212,14 +191,13 @@ fn member_function_row(d: MemberFunctionType) -> [u64; 15]
 fn procedure_row(d: ProcedureType) -> [u64; 15]
     ensures { result ≡ 0 ∷ 0 ∷ type_row (type_values (TypeData.Procedure d)) }
 {
-    let return_type = d.return_type;
     [
         0,
         0,
         0x1008,
         d.parameter_count as u64,
         d.attributes.0 as u64,
-        index_or_0(return_type),
+        index_or_0(d.return_type),
         d.argument_list.0 as u64,
         0,
         0,
@@ -235,7 +213,6 @@ fn procedure_row(d: ProcedureType) -> [u64; 15]
 fn pointer_row(d: PointerType) -> [u64; 15]
     ensures { result ≡ 0 ∷ 0 ∷ type_row (type_values (TypeData.Pointer d)) }
 {
-    let class = d.containing_class;
     [
         0,
         0,
@@ -244,7 +221,7 @@ fn pointer_row(d: PointerType) -> [u64; 15]
         d.attributes.0 as u64,
         d.underlying_type.0 as u64,
         0,
-        index_or_0(class),
+        index_or_0(d.containing_class),
         0,
         0,
         0,
@@ -280,7 +257,6 @@ fn modifier_row(d: ModifierType) -> [u64; 15]
 fn enumeration_row(d: EnumerationType) -> [u64; 15]
     ensures { result ≡ 0 ∷ 0 ∷ type_row (type_values (TypeData.Enumeration d)) }
 {
-    let unique_name = d.unique_name;
     [
         0,
         0,
@@ -295,15 +271,14 @@ fn enumeration_row(d: EnumerationType) -> [u64; 15]
         0,
         d.name.place as u64,
         d.name.length as u64,
-        place_or_0(unique_name),
-        length_or_0(unique_name),
+        place_or_0(d.unique_name),
+        length_or_0(d.unique_name),
     ]
 }
 
 fn array_row(d: ArrayType) -> [u64; 15]
     ensures { result ≡ 0 ∷ 0 ∷ type_row (type_values (TypeData.Array d)) }
 {
-    let size = d.size;
     [
         0,
         0,
@@ -315,7 +290,7 @@ fn array_row(d: ArrayType) -> [u64; 15]
         d.indexing_type.0 as u64,
         0,
         d.size.value,
-        form(size),
+        form(d.size.width, d.size.shorter),
         d.name.place as u64,
         d.name.length as u64,
         0,
@@ -326,8 +301,6 @@ fn array_row(d: ArrayType) -> [u64; 15]
 fn union_row(d: UnionType) -> [u64; 15]
     ensures { result ≡ 0 ∷ 0 ∷ type_row (type_values (TypeData.Union d)) }
 {
-    let size = d.size;
-    let unique_name = d.unique_name;
     [
         0,
         0,
@@ -339,11 +312,11 @@ fn union_row(d: UnionType) -> [u64; 15]
         0,
         0,
         d.size.value,
-        form(size),
+        form(d.size.width, d.size.shorter),
         d.name.place as u64,
         d.name.length as u64,
-        place_or_0(unique_name),
-        length_or_0(unique_name),
+        place_or_0(d.unique_name),
+        length_or_0(d.unique_name),
     ]
 }
 
@@ -439,7 +412,6 @@ pub fn type_row(d: TypeData) -> [u64; 15]
 fn function_id_row(d: FunctionId) -> [u64; 12]
     ensures { result ≡ 0 ∷ 0 ∷ id_row (id_values (IdData.Function d)) }
 {
-    let scope = d.scope;
     [
         0,
         0,
@@ -447,7 +419,7 @@ fn function_id_row(d: FunctionId) -> [u64; 12]
         0,
         d.function_type.0 as u64,
         0,
-        id_or_0(scope),
+        id_or_0(d.scope),
         0,
         0,
         0,
@@ -516,7 +488,6 @@ fn string_list_row(d: StringListId) -> [u64; 12]
 fn string_id_row(d: StringId) -> [u64; 12]
     ensures { result ≡ 0 ∷ 0 ∷ id_row (id_values (IdData.String d)) }
 {
-    let substrings = d.substrings;
     [
         0,
         0,
@@ -524,7 +495,7 @@ fn string_id_row(d: StringId) -> [u64; 12]
         0,
         0,
         0,
-        id_or_0(substrings),
+        id_or_0(d.substrings),
         0,
         0,
         0,
@@ -536,8 +507,7 @@ fn string_id_row(d: StringId) -> [u64; 12]
 fn source_row(d: UserDefinedTypeSourceId) -> [u64; 12]
     ensures { result ≡ 0 ∷ 0 ∷ id_row (id_values (IdData.UserDefinedTypeSource d)) }
 {
-    let source = d.source_file;
-    match source {
+    match d.source_file {
         UserDefinedTypeSourceFileRef::Local(file) => [
             0,
             0,
@@ -587,14 +557,13 @@ pub fn id_row(d: IdData) -> [u64; 12]
 pub fn cursor_row(c: ListCursor) -> [u64; 6]
     ensures { result ≡ 0 ∷ 0 ∷ cursor_row c }
 {
-    let padded = c.padded;
     [
         0,
         0,
         c.leaf as u64,
         c.at as u64,
         c.left as u64,
-        flag(padded),
+        flag(c.padded),
     ]
 }
 
@@ -604,7 +573,6 @@ pub fn cursor_row(c: ListCursor) -> [u64; 6]
 fn base_class_row(at: u64, left: u64, padded: u64, m: BaseClassType) -> [u64; 15]
     ensures { result ≡ 0 ∷ 0 ∷ at ∷ left ∷ padded ∷ member_row (member_values (Member.BaseClass m)) }
 {
-    let offset = m.offset;
     [
         0,
         0,
@@ -617,7 +585,7 @@ fn base_class_row(at: u64, left: u64, padded: u64, m: BaseClassType) -> [u64; 15
         0,
         m.offset.value,
         0,
-        form(offset),
+        form(m.offset.width, m.offset.shorter),
         0,
         0,
         0,
@@ -627,23 +595,20 @@ fn base_class_row(at: u64, left: u64, padded: u64, m: BaseClassType) -> [u64; 15
 fn virtual_base_row(at: u64, left: u64, padded: u64, m: VirtualBaseClassType) -> [u64; 15]
     ensures { result ≡ 0 ∷ 0 ∷ at ∷ left ∷ padded ∷ member_row (member_values (Member.VirtualBaseClass m)) }
 {
-    let direct = m.direct;
-    let first = m.base_pointer_offset;
-    let second = m.virtual_base_offset;
     [
         0,
         0,
         at,
         left,
         padded,
-        virtual_leaf(direct),
+        virtual_leaf(m.direct),
         m.attributes.0 as u64,
         m.base_class.0 as u64,
         m.base_pointer.0 as u64,
         m.base_pointer_offset.value,
         m.virtual_base_offset.value,
-        form(first),
-        form(second),
+        form(m.base_pointer_offset.width, m.base_pointer_offset.shorter),
+        form(m.virtual_base_offset.width, m.virtual_base_offset.shorter),
         0,
         0,
     ]
@@ -687,8 +652,6 @@ fn table_pointer_row(
 fn enumerate_row(at: u64, left: u64, padded: u64, m: EnumerateType) -> [u64; 15]
     ensures { result ≡ 0 ∷ 0 ∷ at ∷ left ∷ padded ∷ member_row (member_values (Member.Enumerate m)) }
 {
-    let v = m.value;
-    let n = v.value;
     [
         0,
         0,
@@ -699,9 +662,9 @@ fn enumerate_row(at: u64, left: u64, padded: u64, m: EnumerateType) -> [u64; 15]
         m.attributes.0 as u64,
         0,
         0,
-        bits(n),
-        is_negative(n),
-        number_form(v),
+        bits(m.value.value),
+        is_negative(m.value.value),
+        form(m.value.width, m.value.shorter),
         0,
         m.name.place as u64,
         m.name.length as u64,
@@ -711,7 +674,6 @@ fn enumerate_row(at: u64, left: u64, padded: u64, m: EnumerateType) -> [u64; 15]
 fn data_member_row(at: u64, left: u64, padded: u64, m: MemberType) -> [u64; 15]
     ensures { result ≡ 0 ∷ 0 ∷ at ∷ left ∷ padded ∷ member_row (member_values (Member.Member m)) }
 {
-    let offset = m.offset;
     [
         0,
         0,
@@ -724,7 +686,7 @@ fn data_member_row(at: u64, left: u64, padded: u64, m: MemberType) -> [u64; 15]
         0,
         m.offset.value,
         0,
-        form(offset),
+        form(m.offset.width, m.offset.shorter),
         0,
         m.name.place as u64,
         m.name.length as u64,
@@ -800,7 +762,6 @@ fn nested_row(at: u64, left: u64, padded: u64, m: NestedType) -> [u64; 15]
 fn method_row(at: u64, left: u64, padded: u64, m: MethodType) -> [u64; 15]
     ensures { result ≡ 0 ∷ 0 ∷ at ∷ left ∷ padded ∷ member_row (member_values (Member.Method m)) }
 {
-    let o = m.vtable_offset;
     [
         0,
         0,
@@ -811,8 +772,8 @@ fn method_row(at: u64, left: u64, padded: u64, m: MethodType) -> [u64; 15]
         m.attributes.0 as u64,
         m.method_type.0 as u64,
         0,
-        offset_or_0(o),
-        is_there(o),
+        offset_or_0(m.vtable_offset),
+        is_there(m.vtable_offset),
         0,
         0,
         m.name.place as u64,
@@ -842,7 +803,6 @@ pub fn member_row(at: u64, left: u64, padded: u64, m: Member) -> [u64; 15]
 pub fn entry_row(at: u64, left: u64, padded: u64, m: MethodListEntry) -> [u64; 15]
     ensures { result ≡ 0 ∷ 0 ∷ at ∷ left ∷ padded ∷ method_row (entry_values m) }
 {
-    let o = m.vtable_offset;
     [
         0,
         0,
@@ -853,8 +813,8 @@ pub fn entry_row(at: u64, left: u64, padded: u64, m: MethodListEntry) -> [u64; 1
         m.attributes.0 as u64,
         m.method_type.0 as u64,
         0,
-        offset_or_0(o),
-        is_there(o),
+        offset_or_0(m.vtable_offset),
+        is_there(m.vtable_offset),
         0,
         0,
         0,

@@ -17,15 +17,9 @@ ghost use Rattle.pane_state.specs.Finders.{out_finder};
 ghost use Rattle.pane_state.specs.Walk.{out_walk};
 ghost use Rattle.pane_section.specs.Out.{out_start, out_count, section_index_by, out_stream, out_section_list};
 
-use pane_out::{first, second};
+use pane_out::refused;
 use pane_row::cursor_row;
-use pane_state::walk_out;
-use record_list::StartAnswer;
-use stream_finder::FinderAnswer;
-use stream_index::IndexAnswer;
-use stream_item::information::LenAnswer;
-use stream_item::iter::IterAnswer;
-use write_pieces::WriteAnswer;
+use pane_state::{finder_out, walk_out};
 
 // The fresh cursor of a section. Behind `out`: the details, its place and its index.
 #[unsafe(no_mangle)]
@@ -33,14 +27,11 @@ pub extern "C" fn pdb_section_start(s: &[u8], out: &mut [u64; 4]) -> u32
     ensures { (result, out.new) ≡ out_start (section.section_start s.now) }
 {
     match section_item::iter(s) {
-        IterAnswer::Answered(c) => {
+        Ok(c) => {
             *out = [0, 0, c.at as u64, c.index as u64];
             0
         }
-        IterAnswer::Refused(e) => {
-            *out = [first(e), second(e), 0, 0];
-            e.number()
-        }
+        Err(e) => refused(e, out),
     }
 }
 
@@ -50,14 +41,11 @@ pub extern "C" fn pdb_section_count(s: &[u8], out: &mut [u64; 3]) -> u32
     ensures { (result, out.new) ≡ out_count (section.count_of s.now) }
 {
     match section_item::len(s) {
-        LenAnswer::Answered(n) => {
+        Ok(n) => {
             *out = [0, 0, n as u64];
             0
         }
-        LenAnswer::Refused(e) => {
-            *out = [first(e), second(e), 0];
-            e.number()
-        }
+        Err(e) => refused(e, out),
     }
 }
 
@@ -73,21 +61,11 @@ pub extern "C" fn pdb_section_create(
     ensures { (result, out.new, table.new) ≡ out_finder table.old (section_create_by shift s.now table.old) }
 {
     match section_finder::create_by(s, table, shift) {
-        FinderAnswer::Answered(g) => {
-            *out = [
-                0,
-                0,
-                g.minimum_index as u64,
-                g.maximum_index as u64,
-                g.held as u64,
-                g.shift as u64,
-            ];
+        Ok(g) => {
+            *out = finder_out(g);
             0
         }
-        FinderAnswer::Refused(e) => {
-            *out = [first(e), second(e), 0, 0, 0, 0];
-            e.number()
-        }
+        Err(e) => refused(e, out),
     }
 }
 
@@ -103,14 +81,11 @@ pub extern "C" fn pdb_section_index(
     ensures { (result, out.new, table.new) ≡ out_walk table.old (section_index_by shift s.now table.old) }
 {
     match section_finder::index_all_by(s, table, shift) {
-        IndexAnswer::Answered(t) => {
+        Ok(t) => {
             *out = walk_out(t);
             0
         }
-        IndexAnswer::Refused(e) => {
-            *out = [first(e), second(e), 0, 0, 0, 0, 0, 0, 0, 0, 0];
-            e.number()
-        }
+        Err(e) => refused(e, out),
     }
 }
 
@@ -121,14 +96,11 @@ pub extern "C" fn pdb_section_stream(s: &[u8], buffer: &mut [u8], out: &mut [u64
     ensures { (result, out.new, buffer.new) ≡ out_stream buffer.old (lay (section_stream s.now) buffer.old 0) }
 {
     match section_stream::to_stream(s, buffer) {
-        WriteAnswer::Written(n) => {
+        Ok(n) => {
             *out = [0, 0, n as u64];
             0
         }
-        WriteAnswer::Refused(e) => {
-            *out = [first(e), second(e), 0];
-            e.number()
-        }
+        Err(e) => refused(e, out),
     }
 }
 
@@ -139,13 +111,10 @@ pub extern "C" fn pdb_section_list(s: &[u8], out: &mut [u64; 6]) -> u32
     ensures { (result, out.new) ≡ out_section_list (start_of (reader_at s.now 0) s.now) }
 {
     match section_read::start(s) {
-        StartAnswer::Answered(c) => {
+        Ok(c) => {
             *out = cursor_row(c);
             0
         }
-        StartAnswer::Refused(e) => {
-            *out = [first(e), second(e), 0, 0, 0, 0];
-            e.number()
-        }
+        Err(e) => refused(e, out),
     }
 }

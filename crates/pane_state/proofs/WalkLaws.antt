@@ -1,7 +1,8 @@
 -- A walk by its contract in stream_index, so many turns and then none, ends where `walk_of` says; and where `walk_of` ends, so many turns have led. Assumes nothing.
+use Rattle.std.specs.Prelude.{Result, Ok, Err}
 use Prim.Native.Nat.{ℕ, zero, suc, ◌+◌, ◌-◌, ◌≤◌}
 use mathlib.Core.Bool.{false}
-use mathlib.Core.Path.{◌≡◌, refl, sym, ap, ◌∙◌, subst}
+use mathlib.Core.Path.{◌≡◌, refl, sym, ap, ◌∙◌}
 use mathlib.Core.List.{List}
 use native.Mathlib.Omega.{arith}
 use lib.ListN.{length}
@@ -12,13 +13,10 @@ use Rattle.stream_item.specs.Iterator.{iter_of}
 use Rattle.stream_item.specs.declared.iter.ItemIter.{ItemIter}
 use Rattle.stream_finder.specs.Finder.{State, state}
 use Rattle.stream_index.specs.Walk.{Turn, over, moved, turn_of, Turns, none, more, said_end, Walks, IndexesBy}
-use Rattle.stream_index.specs.declared.End.{End}
-use Rattle.stream_index.specs.declared.End.TheVariants as end
 use Rattle.stream_index.specs.declared.Tour.{Tour}
-use Rattle.stream_index.specs.declared.IndexAnswer.{IndexAnswer}
-use Rattle.stream_index.specs.declared.IndexAnswer.TheVariants as walk
 use Rattle.stream_index.proofs.WalkLaws.{Further, turn-further}
-use Rattle.pane_state.specs.Walk.{Arrived, arrived, after_turn, walk_up_to, walk_of, index_all_by, said_index, moves, LedTo}
+use Rattle.pane_out.specs.Handed.{refused_out}
+use Rattle.pane_state.specs.Walk.{Arrived, arrived, after_turn, walk_up_to, walk_of, index_all_by, said_index, tour_out, out_walk, moves, LedTo}
 
 -- ---- there are no more turns than bytes
 turns-on : (s : List ℕ) (c : ItemIter) (σ : State) (n : ℕ) (d : ItemIter) (τ : State) → Turns s c σ n d τ → c.at + n ≤ d.at
@@ -45,11 +43,11 @@ walk-turns m s c σ zero d τ none = ap (λ (k : ℕ). walk_up_to k s d τ) (ome
 walk-turns m s c σ (suc n) d τ (more {d = d₀} {τ = τ₀} w e) =
     ap (λ (k : ℕ). walk_up_to k s c σ) (omega arith) ∙ walk-turns (suc m) s c σ n d₀ τ₀ w ∙ walk_turn m s d₀ τ₀ τ d e
 
-walk_ends : (m : ℕ) (s : List ℕ) (c : ItemIter) (σ : State) (x : End) → turn_of s σ c ≡ said_end x → walk_up_to m s c σ ≡ arrived c σ (said_end x)
+walk_ends : (m : ℕ) (s : List ℕ) (c : ItemIter) (σ : State) (x : Result Unit Refusal) → turn_of s σ c ≡ said_end x → walk_up_to m s c σ ≡ arrived c σ (said_end x)
 unfolding walk_up_to
 walk_ends zero s c σ x e = ap (arrived c σ) e
-walk_ends (suc m) s c σ end.Done e = ap (after_turn (walk_up_to m s) c σ) e
-walk_ends (suc m) s c σ (end.Refused r) e = ap (after_turn (walk_up_to m s) c σ) e
+walk_ends (suc m) s c σ (Ok tt) e = ap (after_turn (walk_up_to m s) c σ) e
+walk_ends (suc m) s c σ (Err r) e = ap (after_turn (walk_up_to m s) c σ) e
 
 pub walk_is : (s : List ℕ) (c : ItemIter) (σ : State) (r : Tour) (t' : List ℕ) → Walks s c σ r t' → walk_of s c σ ≡ arrived r.cursor (state r.finder t') (said_end r.end)
 walk_is s c σ r t' w =
@@ -122,18 +120,24 @@ module _ (s : List ℕ) (c : ItemIter) (σ : State) where
   walk-back = walk-led (length s) 0 c σ none (omega arith)
 
 -- ---- a whole stream's
-index_is : (shift : ℕ) (tag : Stream) (s t : List ℕ) (r : IndexAnswer) (t' : List ℕ) → IndexesBy shift tag s t r t' → index_all_by shift tag s t ≡ said_index r t'
+pub index_done : (shift : ℕ) (tag : Stream) (s t : List ℕ) (r : Tour) (t' : List ℕ) → IndexesBy shift tag s t (Ok r) t' → index_all_by shift tag s t ≡ said_index (Ok r) t'
 unfolding index_all_by
-index_is shift tag s t (walk.Answered r) t' w =
+index_done shift tag s t r t' w =
     ap (λ (a : Answer State). then a (λ σ. then (iter_of tag s) (λ c. answered (walk_of s c σ)))) w.created
     ∙ ap (λ (a : Answer ItemIter). then a (λ c. answered (walk_of s c w.fresh))) w.begun
     ∙ ap (λ (a : Arrived). answered a) (walk_is s w.first w.fresh r t' w.walks)
-index_is shift tag s t (walk.Refused e) t' w = ap (λ (a : Answer State). then a (λ σ. then (iter_of tag s) (λ c. answered (walk_of s c σ)))) w.0
 
--- at the case x that the answer is known to be
-pub index-told : (shift : ℕ) (tag : Stream) (s t : List ℕ) (r : IndexAnswer) (t' : List ℕ) (x : IndexAnswer) → IndexesBy shift tag s t r t' → r ≡ x → index_all_by shift tag s t ≡ said_index x t'
-index-told shift tag s t r t' x w e = index_is shift tag s t r t' w ∙ ap (λ (y : IndexAnswer). said_index y t') e
+pub index_refused : (shift : ℕ) (tag : Stream) (s t : List ℕ) (e : Refusal) (t' : List ℕ) → IndexesBy shift tag s t (Err e) t' → index_all_by shift tag s t ≡ said_index (Err e) t'
+unfolding index_all_by
+index_refused shift tag s t e t' w = ap (λ (a : Answer State). then a (λ σ. then (iter_of tag s) (λ c. answered (walk_of s c σ)))) w.0
 
--- a refused one leaves the table
-pub index_kept : (shift : ℕ) (tag : Stream) (s t : List ℕ) (r : IndexAnswer) (t' : List ℕ) (e : Refusal) → IndexesBy shift tag s t r t' → r ≡ walk.Refused e → t' ≡ t
-index_kept shift tag s t r t' e w h = (subst (λ (x : IndexAnswer). IndexesBy shift tag s t x t') h w).1
+-- ---- what C gets of a walk with the answer a, m being what stands behind `out`; a refused one leaves the table
+pub out-done : (a : Answer Arrived) (t : List ℕ) (r : Tour) (m t' : List ℕ) → a ≡ said_index (Ok r) t' → m ≡ tour_out r → (0, m, t') ≡ out_walk t a
+out-done a t r m t' w h = ap (λ (x : List ℕ). (0, x, t')) h ∙ ap (out_walk t) (sym w)
+
+pub out-refused : (a : Answer Arrived) (t : List ℕ) (e : Refusal) (n k : ℕ) (m t' : List ℕ)
+    → a ≡ said_index (Err e) t' → t' ≡ t → (n, m) ≡ refused_out k e → k ≡ 11 → (n, m, t') ≡ out_walk t a
+out-refused a t e n k m t' w u h l =
+    ap (λ (x : ℕ × List ℕ). (x.0, x.1, t')) (h ∙ ap (λ (j : ℕ). refused_out j e) l)
+    ∙ ap (λ (v : List ℕ). ((refused_out 11 e).0, (refused_out 11 e).1, v)) u
+    ∙ ap (out_walk t) (sym w)

@@ -1,6 +1,7 @@
 -- A walk as C gets it. Of a walk stream_index says that so many turns lead to where it ended, and that from there the next turn is over or refused; here is
 -- where that is, as a function of what the walk started from: so a walk's contract is one equation too. `SameWalk` has that both say the same.
-use Rattle.std.specs.Prelude.{ℕ, zero, suc, ◌≤◌, Bool, true, false, ◌≡◌, List, [], ◌∷◌, ◌++◌, length, get_or}
+use Rattle.std.specs.Prelude.{Result, Ok, Err, ℕ, zero, suc, ◌≤◌, Bool, true, false, ◌≡◌, List, [], ◌∷◌, ◌++◌, length, get_or}
+use Rattle.answer.specs.declared.Refusal.{Refusal}
 use Rattle.answer.specs.Answer.{Answer, answered, refused, then}
 use Rattle.answer.specs.Refusals.{no}
 use Rattle.field.specs.declared.index.Stream.{Stream}
@@ -11,8 +12,6 @@ use Rattle.stream_finder.specs.Finder.{State, state, create_by}
 use Rattle.stream_finder.specs.declared.ItemFinder.{ItemFinder}
 use Rattle.stream_index.specs.Walk.{Turn, over, moved, turn_of, Turns, said_end, Walks}
 use Rattle.stream_index.specs.declared.Tour.{Tour}
-use Rattle.stream_index.specs.declared.IndexAnswer.{IndexAnswer}
-use Rattle.stream_index.specs.declared.IndexAnswer.TheVariants as walk
 use Rattle.pane_out.specs.Handed.{handed}
 use Rattle.pane_state.specs.Finders.{finder_fields}
 
@@ -46,9 +45,9 @@ unfoldable pub index_all_by : ℕ → Stream → List ℕ → List ℕ → Answe
 index_all_by shift tag s t = then (create_by shift s t) (λ σ. then (iter_of tag s) (λ c. answered (walk_of s c σ)))
 
 -- ---- what the function says, t' being the table after it
-abbrev pub said_index : IndexAnswer → List ℕ → Answer Arrived
-said_index (walk.Answered r) t' = answered (arrived r.cursor (state r.finder t') (said_end r.end))
-said_index (walk.Refused e) t' = no e
+abbrev pub said_index : Result Tour Refusal → List ℕ → Answer Arrived
+said_index (Ok r) t' = answered (arrived r.cursor (state r.finder t') (said_end r.end))
+said_index (Err e) t' = no e
 
 -- ---- what C gets
 

@@ -1,8 +1,8 @@
 -- What stands behind `out` for an attribute word, from what was computed for it; and that a pointer's kind and mode are named by their numbers. Assumes nothing.
+use Rattle.std.specs.Prelude.{Option, None, Some}
 use Prim.Native.Nat.{ℕ}
 use mathlib.Core.Bool.{Bool}
 use mathlib.Core.List.{List, [], ◌∷◌}
-use mathlib.Core.Option.{Option, none, some}
 use mathlib.Core.Path.{◌≡◌, ap, ◌∙◌}
 use native.Mathlib.Omega.{arith}
 use Rattle.answer.specs.Answer.{Answer, answered}
@@ -26,15 +26,15 @@ pub properties-are : (w x0 x1 x2 x3 x4 x5 x6 x7 x8 x9 x10 x11 x12 x13 : ℕ)
 properties-are w x0 x1 x2 x3 x4 x5 x6 x7 x8 x9 x10 x11 x12 x13 e0 e1 e2 e3 e4 e5 e6 e7 e8 e9 e10 e11 e12 e13 = rw (e0, e1, e2, e3, e4, e5, e6, e7, e8, e9, e10, e11, e12, e13)
 
 -- ---- a good kind or mode stands in its list
-listed : {A : Type 0} (o : Option A) (a : A) → good_or_12 o ≡ answered a → o ≡ some a
-listed (some b) a e = cc
-listed none a e = let z : ◌≡◌ {A = ℕ} 0 1 = cc in absurd (omega arith)
+listed : {A : Type 0} (o : Option A) (a : A) → good_or_12 o ≡ answered a → o ≡ Some a
+listed (Some b) a e = cc
+listed None a e = let z : ◌≡◌ {A = ℕ} 0 1 = cc in absurd (omega arith)
 
-kind-named : (w : ℕ) (k : PointerKind) → kind_of w ≡ answered k → find (kind_field w) pointer_kinds ≡ some k
+kind-named : (w : ℕ) (k : PointerKind) → kind_of w ≡ answered k → find (kind_field w) pointer_kinds ≡ Some k
 unfolding kind_of
 kind-named w k e = ap (λ (a : Answer PointerKind). find (or_zero (λ k. bits 0 4 w) a) pointer_kinds) e ∙ listed (find (bits 0 4 w) pointer_kinds) k e
 
-mode-named : (w : ℕ) (m : PointerMode) → mode_of w ≡ answered m → find (mode_field w) pointer_modes ≡ some m
+mode-named : (w : ℕ) (m : PointerMode) → mode_of w ≡ answered m → find (mode_field w) pointer_modes ≡ Some m
 unfolding mode_of
 mode-named w m e = ap (λ (a : Answer PointerMode). find (or_zero (λ m. bits 5 7 w) a) pointer_modes) e ∙ listed (find (bits 5 7 w) pointer_modes) m e
 

@@ -1,6 +1,5 @@
 -- What C gets of a string, padding, a numeric leaf and an optional index, at a place of some bytes.
-use Rattle.std.specs.Prelude.{ℕ, List, [], ◌∷◌, ℤ}
-use Rattle.std.proofs.Math.Option.{Option, none, some}
+use Rattle.std.specs.Prelude.{Option, None, Some, ℕ, List, [], ◌∷◌, ℤ}
 use Rattle.answer.specs.Answer.{Answer, Got, Read}
 use Rattle.field_text.specs.Texts.{Part}
 use Rattle.field_number.specs.Forms.{Form, Numeral}
@@ -38,5 +37,5 @@ out_number = handed 5 number_fields
 
 -- 1 where an optional index is there, 0 where its number reads as none
 abbrev pub present : Option ℕ → ℕ
-present none = 0
-present (some i) = 1
+present None = 0
+present (Some i) = 1

@@ -1,6 +1,5 @@
 -- What C gets of an attribute word: every field of it at once. No word is refused; what a pointer word may refuse, it refuses field by field.
-use Rattle.std.specs.Prelude.{ℕ, List, [], ◌∷◌, ◌≡◌, eqb}
-use Rattle.std.proofs.Math.Option.{some}
+use Rattle.std.specs.Prelude.{Some, ℕ, List, [], ◌∷◌, ◌≡◌, eqb}
 use Rattle.answer.specs.Answer.{Answer, answered, refused}
 use Rattle.answer.specs.Tables.{find}
 use Rattle.word_attributes.specs.Bits.{bit, bits}
@@ -64,5 +63,5 @@ out_pointer w = handed 14 pointer_fields (answered w)
 
 pub record KindsNamed : Type 0 where
   -- the number of a kind or a mode names it in 01's list
-  pub kind : (w : ℕ) (k : PointerKind) → kind_of w ≡ answered k → find (kind_field w) pointer_kinds ≡ some k
-  pub mode : (w : ℕ) (m : PointerMode) → mode_of w ≡ answered m → find (mode_field w) pointer_modes ≡ some m
+  pub kind : (w : ℕ) (k : PointerKind) → kind_of w ≡ answered k → find (kind_field w) pointer_kinds ≡ Some k
+  pub mode : (w : ℕ) (m : PointerMode) → mode_of w ≡ answered m → find (mode_field w) pointer_modes ≡ Some m

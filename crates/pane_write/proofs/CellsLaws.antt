@@ -4,6 +4,8 @@ use mathlib.Core.Path.{◌≡◌, refl, sym, ap, ◌∙◌}
 use mathlib.Core.List.{List, [], ◌∷◌}
 use lib.ListN.{get_or}
 use Rattle.answer.specs.Answer.{Answer, answered, refused, Read, got, and_then}
+use Rattle.answer.specs.declared.Refusal.{Refusal}
+use Rattle.answer.specs.Refusals.{no}
 use Rattle.answer.specs.Tables.{find}
 use Rattle.field.specs.Fields.{fixed_at}
 use Rattle.record_layout.specs.Fields.{Shown, number}
@@ -11,6 +13,7 @@ use Rattle.record_layout.specs.Layouts.{Table, leaf_of, record_of}
 use Rattle.record_cells.specs.Cells.{cells_of}
 use Rattle.record_cells.specs.Filled.{fields_by, cells_after}
 use Rattle.record_cells.proofs.CellsTell.{cells-tell}
+use Rattle.pane_out.specs.Handed.{refused_out}
 use Rattle.pane_write.specs.Read.{out_cells}
 
 abbrev fields_only : ℕ → Read (List Shown) → Answer (List Shown)
@@ -48,3 +51,14 @@ pub cells_out : (table : Table) (leaf : ℕ) (s : List ℕ) (p : ℕ) (x : Answe
     → out_by leaf after x ≡ out_cells before (record_of table s)
 cells_out table leaf s p x before after e h f =
     ap (out_by leaf after) (sym h) ∙ by-fields leaf (fields_by (find leaf table) leaf s p) before after f ∙ ap (out_cells before) (sym (record_is table leaf s p e))
+
+-- where it is refused, n and m being what the refusal gives
+pub cells_refused : (table : Table) (leaf : ℕ) (s : List ℕ) (p : ℕ) (e : Refusal) (n k : ℕ) (m before after : List ℕ)
+    → fixed_at 2 s 0 ≡ got leaf p
+    → and_then (fields_by (find leaf table) leaf s p) (λ vs q. answered q) ≡ no e
+    → after ≡ cells_after (cells_of 9) (fields_by (find leaf table) leaf s p) before
+    → (n, m) ≡ refused_out k e
+    → k ≡ 3
+    → (n, m, after) ≡ out_cells before (record_of table s)
+cells_refused table leaf s p e n k m before after a h f r l =
+    ap (λ (x : ℕ × List ℕ). (x.0, x.1, after)) (r ∙ ap (λ (j : ℕ). refused_out j e) l) ∙ cells_out table leaf s p (no e) before after a h f

@@ -1,2 +1,1 @@
 pub mod CellsLaws
-pub mod Used

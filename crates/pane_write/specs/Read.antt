@@ -1,6 +1,5 @@
 -- What C gets of a record that is read into cells, and which table a layout is of.
-use Rattle.std.specs.Prelude.{ℕ, Bool, true, false, List, [], ◌∷◌, eqb, get_or}
-use Rattle.std.proofs.Math.Option.{Option, some}
+use Rattle.std.specs.Prelude.{Option, Some, ℕ, Bool, true, false, List, [], ◌∷◌, eqb, get_or}
 use Rattle.answer.specs.Answer.{Answer, answered, refused, pick}
 use Rattle.answer.specs.Tables.{find}
 use Rattle.record_layout.specs.Fields.{Shown}
@@ -34,7 +33,7 @@ leaves_of which leaf =
     pick (eqb which 0) (find leaf type_leaves)
     (pick (eqb which 1) (find leaf id_leaves)
     (pick (eqb which 2) (find leaf member_leaves)
-    (some method)))
+    (Some method)))
 
 -- and its number
 abbrev pub codes_of : ℕ → ℕ → ℕ

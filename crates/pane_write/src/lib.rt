@@ -4,7 +4,7 @@
 // The result is the number of 01 or 02, 0 for an answer. Behind `out`, which is written whole by every call, stand the two details and the place behind
 // what was written. Everything else of the buffer stays as it was, and at a refusal all of it. Each contract is one equation with the definition that the
 // plain function's contract cites (specs/Written.antt).
-#![tactic(auto, using(crate::proofs::Used::laws), unfolding(record_layout::specs::Layouts::record_of))]
+#![tactic(auto, unfolding(record_layout::specs::Layouts::record_of))]
 
 ghost use Rattle.std.specs.Prelude.{◌≡◌};
 ghost use Rattle.answer.specs.Tables.{find};
@@ -26,10 +26,9 @@ ghost use Rattle.pane_write.specs.Read.{table_of, leaves_of, codes_of, out_cells
 
 use answer::Refusal;
 use field::fixed;
-use field::fixed::Read16;
-use record_cells::{CellsAnswer, layout};
+use pane_out::{is_set, refused};
+use record_cells::layout;
 use stream_header::{Header, Slice};
-use write_pieces::WriteAnswer;
 
 // A type record from its leaf and its cells. Lists of members and of methods are written by their own functions.
 #[unsafe(no_mangle)]
@@ -44,14 +43,11 @@ pub extern "C" fn pdb_write_type(
     ensures { (result, out.new, buffer.new) ≡ out_write buffer.old (lay (write_record written_leaves (given_all text.now (cell_values leaf cells.now))) buffer.old at) }
 {
     match write_cells::write_type(text, leaf, *cells, buffer, at) {
-        WriteAnswer::Written(p) => {
+        Ok(p) => {
             *out = [0, 0, p as u64];
             0
         }
-        WriteAnswer::Refused(e) => {
-            *out = [pane_out::first(e), pane_out::second(e), 0];
-            e.number()
-        }
+        Err(e) => refused(e, out),
     }
 }
 
@@ -68,14 +64,11 @@ pub extern "C" fn pdb_write_id(
     ensures { (result, out.new, buffer.new) ≡ out_write buffer.old (lay (write_record id_leaves (given_all text.now (cell_values leaf cells.now))) buffer.old at) }
 {
     match write_cells::write_id(text, leaf, *cells, buffer, at) {
-        WriteAnswer::Written(p) => {
+        Ok(p) => {
             *out = [0, 0, p as u64];
             0
         }
-        WriteAnswer::Refused(e) => {
-            *out = [pane_out::first(e), pane_out::second(e), 0];
-            e.number()
-        }
+        Err(e) => refused(e, out),
     }
 }
 
@@ -91,14 +84,11 @@ pub extern "C" fn pdb_write_fields(
     ensures { (result, out.new, buffer.new) ≡ out_write buffer.old (lay (field_list_bytes (member_rows text.now rows.now)) buffer.old at) }
 {
     match write_list::write_field_list(text, rows, buffer, at) {
-        WriteAnswer::Written(p) => {
+        Ok(p) => {
             *out = [0, 0, p as u64];
             0
         }
-        WriteAnswer::Refused(e) => {
-            *out = [pane_out::first(e), pane_out::second(e), 0];
-            e.number()
-        }
+        Err(e) => refused(e, out),
     }
 }
 
@@ -114,14 +104,11 @@ pub extern "C" fn pdb_write_methods(
     ensures { (result, out.new, buffer.new) ≡ out_write buffer.old (lay (method_list_bytes (method_rows text.now rows.now)) buffer.old at) }
 {
     match write_list::write_method_list(text, rows, buffer, at) {
-        WriteAnswer::Written(p) => {
+        Ok(p) => {
             *out = [0, 0, p as u64];
             0
         }
-        WriteAnswer::Refused(e) => {
-            *out = [pane_out::first(e), pane_out::second(e), 0];
-            e.number()
-        }
+        Err(e) => refused(e, out),
     }
 }
 
@@ -129,10 +116,7 @@ pub extern "C" fn pdb_write_methods(
 fn signed(n: u32) -> i32
     ensures { result ≡ signed32 n }
 {
-    if n < 0x8000_0000 {
-        return n as i32;
-    }
-    -1 - ((0xffff_ffff - n) as i32)
+    n.cast_signed()
 }
 
 fn slice(offset: u32, size: u32) -> Slice
@@ -140,16 +124,13 @@ fn slice(offset: u32, size: u32) -> Slice
 {
     Slice {
         offset: signed(offset),
-        size: size,
+        size,
     }
 }
 
 fn header_of(fields: &[u32; 13], stream: u16, pad: u16) -> Header
     ensures { result ≡ header_in fields.now stream pad }
 {
-    let values = slice(fields[7], fields[8]);
-    let offsets = slice(fields[9], fields[10]);
-    let adjusters = slice(fields[11], fields[12]);
     Header {
         version: fields[0],
         header_size: fields[1],
@@ -160,9 +141,9 @@ fn header_of(fields: &[u32; 13], stream: u16, pad: u16) -> Header
         tpi_hash_pad_stream: pad,
         hash_key_size: fields[5],
         hash_bucket_size: fields[6],
-        hash_values: values,
-        ti_off: offsets,
-        hash_adj: adjusters,
+        hash_values: slice(fields[7], fields[8]),
+        ti_off: slice(fields[9], fields[10]),
+        hash_adj: slice(fields[11], fields[12]),
     }
 }
 
@@ -180,25 +161,29 @@ pub extern "C" fn pdb_write_header(
 {
     let h = header_of(fields, stream, pad);
     match write_header::write_header(h, buffer, at) {
-        WriteAnswer::Written(p) => {
+        Ok(p) => {
             *out = [0, 0, p as u64];
             0
         }
-        WriteAnswer::Refused(e) => {
-            *out = [pane_out::first(e), pane_out::second(e), 0];
-            e.number()
-        }
+        Err(e) => refused(e, out),
     }
 }
 
 // The fields of a record at a place as cells, by the table of types or of ids.
-fn cells_by(s: &[u8], ids: bool, leaf: u16, p: usize, cells: &mut [u64; 27]) -> CellsAnswer
+fn cells_by(
+    s: &[u8],
+    ids: bool,
+    leaf: u16,
+    p: usize,
+    cells: &mut [u64; 27],
+) -> Result<usize, Refusal>
     ensures { FillsCells (cells_of 9) (fields_by (find leaf (table_of ids)) leaf s.now p) result cells.old cells.new }
 {
     if ids {
-        return record_cells::id_cells(s, leaf, p, cells);
+        record_cells::id_cells(s, leaf, p, cells)
+    } else {
+        record_cells::type_cells(s, leaf, p, cells)
     }
-    record_cells::type_cells(s, leaf, p, cells)
 }
 
 // The record that these bytes are, its leaf first, as nine cells; `ids` is set for an id record. Behind `out`: the details, and the leaf.
@@ -206,19 +191,16 @@ fn cells_by(s: &[u8], ids: bool, leaf: u16, p: usize, cells: &mut [u64; 27]) -> 
 pub extern "C" fn pdb_cells(s: &[u8], ids: u32, cells: &mut [u64; 27], out: &mut [u64; 3]) -> u32
     ensures { (result, out.new, cells.new) ≡ out_cells cells.old (record_of (table_of (is_set ids)) s.now) }
 {
-    let Read16::Got(leaf, p) = fixed::u16_at(s, 0) else {
-        *out = [0, 0, 0];
-        return Refusal::Ended.number();
+    let (leaf, p) = match fixed::u16_at(s, 0) {
+        Ok((leaf, p)) => (leaf, p),
+        Err(e) => return refused(e, out),
     };
-    match cells_by(s, pane_out::is_set(ids), leaf, p, cells) {
-        CellsAnswer::Filled(_) => {
+    match cells_by(s, is_set(ids), leaf, p, cells) {
+        Ok(_) => {
             *out = [0, 0, leaf as u64];
             0
         }
-        CellsAnswer::Refused(e) => {
-            *out = [pane_out::first(e), pane_out::second(e), 0];
-            e.number()
-        }
+        Err(e) => refused(e, out),
     }
 }
 
@@ -228,14 +210,10 @@ pub extern "C" fn pdb_cells(s: &[u8], ids: u32, cells: &mut [u64; 27], out: &mut
 pub extern "C" fn pdb_layout(which: u32, leaf: u16) -> u64
     ensures { (layout_in result ≡ leaves_of which leaf) × (result ≡ codes_of which leaf) }
 {
-    if which == 0 {
-        return layout::type_layout(leaf);
+    match which {
+        0 => layout::type_layout(leaf),
+        1 => layout::id_layout(leaf),
+        2 => layout::member_layout(leaf),
+        _ => layout::method_layout(),
     }
-    if which == 1 {
-        return layout::id_layout(leaf);
-    }
-    if which == 2 {
-        return layout::member_layout(leaf);
-    }
-    layout::method_layout()
 }

@@ -1,10 +1,10 @@
 -- A row tells the values that it was filled from. Assumes nothing.
+use Rattle.std.specs.Prelude.{Option, None, Some}
 use Prim.Native.Nat.{ℕ, zero, suc, ◌/◌, ◌%◌, ◌+◌, ◌≤◌}
 use native.Mathlib.Omega.{arith}
 use mathlib.Core.Bool.{Bool, true, false}
 use mathlib.Core.Path.{◌≡◌, refl, ap, sym, ◌∙◌}
 use mathlib.Core.List.{List, [], ◌∷◌}
-use mathlib.Core.Option.{Option, none, some}
 use lib.IntN.{pos, negsuc}
 use lib.ListN.{length}
 use lib.Dec.{eqb}
@@ -93,8 +93,8 @@ row_told n s p vs q e =
     row_back 9 vs (omega (arith, decoded 9 n))
 
 by-leaf : (o : Option Layout) (leaf : ℕ) (s : List ℕ) (p : ℕ) → and_then (fields_by o leaf s p) (λ vs e. got (number leaf ∷ vs) e) ≡ by_layout o leaf s p
-by-leaf none leaf s p = refl
-by-leaf (some fs) leaf s p = refl
+by-leaf None leaf s p = refl
+by-leaf (Some fs) leaf s p = refl
 
 leaf-read : (table : Table) (leaf : ℕ) (s : List ℕ) (p : ℕ) → and_then (fields_by (find leaf table) leaf s p) (λ vs e. got (number leaf ∷ vs) e) ≡ read_leaf table leaf s p
 unfolding read_leaf

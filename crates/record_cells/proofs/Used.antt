@@ -1,7 +1,4 @@
 -- What the proofs of this crate cite, by one name. Assumes nothing.
-use Rattle.answer.proofs.TableLaws.{missed}
-use Rattle.answer.proofs.Told.{told}
-use Rattle.record_cells.proofs.FilledLaws.{ends, fills, full, goes, refuses, stops}
-use borrow.Author.Tests.{eq-eqb, ne_eqb}
+use Rattle.record_cells.proofs.FilledLaws.{bad-kind-field, bad-mode-field, filling-on}
 
-pub ruleset laws = (ends, eq-eqb, fills, full, goes, missed, ne_eqb, refuses, stops, told)
+pub ruleset laws = (bad-kind-field, bad-mode-field, filling-on)

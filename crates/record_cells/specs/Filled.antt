@@ -1,18 +1,14 @@
 -- Reading a record's fields into a row.
-use Rattle.std.specs.Prelude.{ℕ, ◌≤◌, ◌≡◌, List, [], ◌∷◌, length}
-use Rattle.std.proofs.Math.Option.{Option, none, some}
-use Rattle.answer.specs.Answer.{Answer, answered, refused, Read, got, and_then}
-use Rattle.answer.specs.Refusals.{no}
+use Rattle.std.specs.Prelude.{Result, Option, None, Some, ℕ, ◌≤◌, ◌≡◌, List, [], ◌∷◌, length}
+use Rattle.answer.specs.declared.Refusal.{Refusal}
+use Rattle.answer.specs.Answer.{answered, refused, Got, Read, got, and_then}
+use Rattle.answer.specs.Refusals.{itself, said}
 use Rattle.answer.specs.Tables.{find}
 use Rattle.record_layout.specs.Fields.{Shown, number, Field, read_field, read_fields, word_after}
 use Rattle.record_layout.specs.Layouts.{Layout, Table, read_leaf}
 use Rattle.record_cells.specs.Codes.{decode, layout_of}
 use Rattle.record_cells.specs.Cells.{cell_of, cells_of, values_in, fill}
 use Rattle.record_cells.specs.declared.Cell.{Cell}
-use Rattle.record_cells.specs.declared.FieldAnswer.{FieldAnswer}
-use Rattle.record_cells.specs.declared.FieldAnswer.TheVariants as field
-use Rattle.record_cells.specs.declared.CellsAnswer.{CellsAnswer}
-use Rattle.record_cells.specs.declared.CellsAnswer.TheVariants as answer
 
 -- a field that was read: its cell, and the word after it
 pub record CellStep : Type 0 where
@@ -25,36 +21,33 @@ step v w = record { cell = cell_of v; word = w }
 unfoldable pub cell_step_by : Field → ℕ → List ℕ → ℕ → Read CellStep
 cell_step_by f w s p = and_then (read_field f w s p) (λ v q. got (step v (word_after f v w)) q)
 
-abbrev pub said_field : FieldAnswer → Read CellStep
-said_field (field.Got c w q) = got (record { cell = c; word = w }) q
-said_field (field.Refused e) = no e
+abbrev pub field_value : Cell × ℕ × ℕ → Got CellStep
+field_value (c, w, q) = record { value = record { cell = c; word = w }; next = q }
+
+abbrev pub said_field : Result (Cell × ℕ × ℕ) Refusal → Read CellStep
+said_field = said field_value
 
 -- the same for a field that becomes the word, whatever the word was
-abbrev pub AnyWord : FieldAnswer → Field → List ℕ → ℕ → Type 0
+abbrev pub AnyWord : Result (Cell × ℕ × ℕ) Refusal → Field → List ℕ → ℕ → Type 0
 AnyWord r f s p = (w : ℕ) → said_field r ≡ cell_step_by f w s p
 
 -- what is left to do, where at most k fields are left and n is what is left of the layout
 unfoldable pub cells_from : ℕ → ℕ → ℕ → List ℕ → ℕ → List ℕ → Read (List ℕ)
 cells_from k n w s p cells = and_then (read_fields (decode k n) w s p) (λ vs q. got (fill k cells vs) q)
 
--- what the answer says: the place after the last field
-abbrev pub said_cells : CellsAnswer → Answer ℕ
-said_cells (answer.Filled q) = answered q
-said_cells (answer.Refused e) = no e
-
 -- what stands behind `out` after a reading: the row of what it gave; what stood there, if it was refused
 abbrev pub cells_after : {A : Type 0} → (A → List ℕ) → Read A → List ℕ → List ℕ
 cells_after row (answered g) before = row g.value
 cells_after row (refused n d) before = before
 
-pub record FillsCells {A : Type 0} (row : A → List ℕ) (reading : Read A) (r : CellsAnswer) (before after : List ℕ) : Type 0 where
-  pub said : said_cells r ≡ and_then reading (λ x q. answered q)
+pub record FillsCells {A : Type 0} (row : A → List ℕ) (reading : Read A) (r : Result ℕ Refusal) (before after : List ℕ) : Type 0 where
+  pub said : (said itself) r ≡ and_then reading (λ x q. answered q)
   pub filled : after ≡ cells_after row reading before
 
 -- by a table: the fields of this leaf; 10 if the table does not have it
 abbrev pub fields_by : Option Layout → ℕ → List ℕ → ℕ → Read (List Shown)
-fields_by none leaf s p = refused 10 (leaf ∷ [])
-fields_by (some fs) leaf s p = read_fields fs 0 s p
+fields_by None leaf s p = refused 10 (leaf ∷ [])
+fields_by (Some fs) leaf s p = read_fields fs 0 s p
 
 -- A row tells the values that it was filled from, and so does not confuse two records; proofs/CellsTell.antt
 pub record CellsTell : Type 0 where

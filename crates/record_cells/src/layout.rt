@@ -1,7 +1,6 @@
 // The layouts of document 01 as numbers: five bits a field, the first field lowest. specs/Codes.antt says which field a code is.
 // tools/leaves writes the layouts and the tables below from record_layout/specs/Layouts.antt.
-ghost use Rattle.std.specs.Prelude.{◌≡◌};
-ghost use Rattle.std.proofs.Math.Option.{some};
+ghost use Rattle.std.specs.Prelude.{◌≡◌, Some};
 ghost use Rattle.answer.specs.Tables.{find};
 ghost use Rattle.record_layout.specs.Layouts.{type_leaves, member_leaves, id_leaves, method};
 ghost use Rattle.record_cells.specs.Codes.{layout_in, code_in, type_codes, member_codes, id_codes, method_code};
@@ -167,7 +166,7 @@ pub fn member_layout(leaf: u16) -> u64
 
 // The layout of a method of a method list.
 pub fn method_layout() -> u64
-    ensures { (layout_in result ≡ some method) × (result ≡ method_code) }
+    ensures { (layout_in result ≡ Some method) × (result ≡ method_code) }
 {
     LIST_METHOD
 }

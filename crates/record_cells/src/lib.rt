@@ -13,13 +13,9 @@ ghost use Rattle.record_cells.specs.Cells.{numeral_cell, cells_of};
 ghost use Rattle.record_cells.specs.Filled.{step, cell_step_by, said_field, AnyWord, FillsCells, fields_by};
 
 use answer::Refusal;
-use field::fixed::{Read8, Read16, Read32};
-use field::index::{OptIdIndex, OptTypeIndex, ReadOptId, ReadOptType};
-use field::run::After;
 use field::{fixed, index};
-use field_number::{Number, ReadSize, ReadVariant};
-use field_text::ReadString;
-use word_attributes::{FlagAnswer, KindAnswer, ModeAnswer, PointerAttributes};
+use field_number::Number;
+use word_attributes::PointerAttributes;
 
 pub mod layout;
 
@@ -32,29 +28,13 @@ pub struct Cell {
     pub more: u64,
 }
 
-#[derive(Clone, Copy)]
-enum FieldAnswer {
-    // The cell, the word that later fields look at, and the place after the field.
-    Got(Cell, u32, usize),
-    Refused(Refusal),
-}
-
-#[derive(Clone, Copy)]
-pub enum CellsAnswer {
-    // The place after the last field.
-    Filled(usize),
-    Refused(Refusal),
-}
-
 // A field of each kind, at place p, where w is the word.
 
-fn byte_field(s: &[u8], p: usize, w: u32) -> FieldAnswer
+fn byte_field(s: &[u8], p: usize, w: u32) -> Result<(Cell, u32, usize), Refusal>
     ensures { said_field result ≡ cell_step_by (fixed 1) w s.now p }
 {
-    let Read8::Got(n, q) = fixed::u8_at(s, p) else {
-        return FieldAnswer::Refused(Refusal::Ended);
-    };
-    FieldAnswer::Got(
+    let (n, q) = fixed::u8_at(s, p)?;
+    Ok((
         Cell {
             kind: 2,
             value: n as u64,
@@ -62,16 +42,14 @@ fn byte_field(s: &[u8], p: usize, w: u32) -> FieldAnswer
         },
         w,
         q,
-    )
+    ))
 }
 
-fn half_field(s: &[u8], p: usize, w: u32) -> FieldAnswer
+fn half_field(s: &[u8], p: usize, w: u32) -> Result<(Cell, u32, usize), Refusal>
     ensures { said_field result ≡ cell_step_by (fixed 2) w s.now p }
 {
-    let Read16::Got(n, q) = fixed::u16_at(s, p) else {
-        return FieldAnswer::Refused(Refusal::Ended);
-    };
-    FieldAnswer::Got(
+    let (n, q) = fixed::u16_at(s, p)?;
+    Ok((
         Cell {
             kind: 2,
             value: n as u64,
@@ -79,16 +57,14 @@ fn half_field(s: &[u8], p: usize, w: u32) -> FieldAnswer
         },
         w,
         q,
-    )
+    ))
 }
 
-fn whole_field(s: &[u8], p: usize, w: u32) -> FieldAnswer
+fn whole_field(s: &[u8], p: usize, w: u32) -> Result<(Cell, u32, usize), Refusal>
     ensures { said_field result ≡ cell_step_by (fixed 4) w s.now p }
 {
-    let Read32::Got(n, q) = fixed::u32_at(s, p) else {
-        return FieldAnswer::Refused(Refusal::Ended);
-    };
-    FieldAnswer::Got(
+    let (n, q) = fixed::u32_at(s, p)?;
+    Ok((
         Cell {
             kind: 2,
             value: n as u64,
@@ -96,17 +72,15 @@ fn whole_field(s: &[u8], p: usize, w: u32) -> FieldAnswer
         },
         w,
         q,
-    )
+    ))
 }
 
-fn optional_type_field(s: &[u8], p: usize, w: u32) -> FieldAnswer
+fn optional_type_field(s: &[u8], p: usize, w: u32) -> Result<(Cell, u32, usize), Refusal>
     ensures { said_field result ≡ cell_step_by optional_type w s.now p }
 {
-    let ReadOptType::Got(o, q) = index::optional_type_at(s, p) else {
-        return FieldAnswer::Refused(Refusal::Ended);
-    };
+    let (o, q) = index::optional_type_at(s, p)?;
     match o {
-        OptTypeIndex::None => FieldAnswer::Got(
+        None => Ok((
             Cell {
                 kind: 1,
                 value: 0,
@@ -114,8 +88,8 @@ fn optional_type_field(s: &[u8], p: usize, w: u32) -> FieldAnswer
             },
             w,
             q,
-        ),
-        OptTypeIndex::Some(t) => FieldAnswer::Got(
+        )),
+        Some(t) => Ok((
             Cell {
                 kind: 2,
                 value: t.0 as u64,
@@ -123,18 +97,16 @@ fn optional_type_field(s: &[u8], p: usize, w: u32) -> FieldAnswer
             },
             w,
             q,
-        ),
+        )),
     }
 }
 
-fn optional_id_field(s: &[u8], p: usize, w: u32) -> FieldAnswer
+fn optional_id_field(s: &[u8], p: usize, w: u32) -> Result<(Cell, u32, usize), Refusal>
     ensures { said_field result ≡ cell_step_by optional_id w s.now p }
 {
-    let ReadOptId::Got(o, q) = index::optional_id_at(s, p) else {
-        return FieldAnswer::Refused(Refusal::Ended);
-    };
+    let (o, q) = index::optional_id_at(s, p)?;
     match o {
-        OptIdIndex::None => FieldAnswer::Got(
+        None => Ok((
             Cell {
                 kind: 1,
                 value: 0,
@@ -142,8 +114,8 @@ fn optional_id_field(s: &[u8], p: usize, w: u32) -> FieldAnswer
             },
             w,
             q,
-        ),
-        OptIdIndex::Some(i) => FieldAnswer::Got(
+        )),
+        Some(i) => Ok((
             Cell {
                 kind: 2,
                 value: i.0 as u64,
@@ -151,18 +123,16 @@ fn optional_id_field(s: &[u8], p: usize, w: u32) -> FieldAnswer
             },
             w,
             q,
-        ),
+        )),
     }
 }
 
 // A u16 that becomes the word.
-fn word16_field(s: &[u8], p: usize) -> FieldAnswer
+fn word16_field(s: &[u8], p: usize) -> Result<(Cell, u32, usize), Refusal>
     ensures { AnyWord result count16 s.now p }
 {
-    let Read16::Got(n, q) = fixed::u16_at(s, p) else {
-        return FieldAnswer::Refused(Refusal::Ended);
-    };
-    FieldAnswer::Got(
+    let (n, q) = fixed::u16_at(s, p)?;
+    Ok((
         Cell {
             kind: 2,
             value: n as u64,
@@ -170,17 +140,15 @@ fn word16_field(s: &[u8], p: usize) -> FieldAnswer
         },
         n as u32,
         q,
-    )
+    ))
 }
 
 // A u32 that becomes the word.
-fn word32_field(s: &[u8], p: usize) -> FieldAnswer
+fn word32_field(s: &[u8], p: usize) -> Result<(Cell, u32, usize), Refusal>
     ensures { AnyWord result count32 s.now p }
 {
-    let Read32::Got(n, q) = fixed::u32_at(s, p) else {
-        return FieldAnswer::Refused(Refusal::Ended);
-    };
-    FieldAnswer::Got(
+    let (n, q) = fixed::u32_at(s, p)?;
+    Ok((
         Cell {
             kind: 2,
             value: n as u64,
@@ -188,23 +156,17 @@ fn word32_field(s: &[u8], p: usize) -> FieldAnswer
         },
         n,
         q,
-    )
+    ))
 }
 
 // The pointer word, with kind and mode; 12 if one of them is bad.
-fn pointer_field(s: &[u8], p: usize) -> FieldAnswer
+fn pointer_field(s: &[u8], p: usize) -> Result<(Cell, u32, usize), Refusal>
     ensures { AnyWord result pointer s.now p }
 {
-    let Read32::Got(n, q) = fixed::u32_at(s, p) else {
-        return FieldAnswer::Refused(Refusal::Ended);
-    };
-    let KindAnswer::Answered(_) = PointerAttributes(n).pointer_kind() else {
-        return FieldAnswer::Refused(Refusal::PointerWord);
-    };
-    let ModeAnswer::Answered(_) = PointerAttributes(n).pointer_mode() else {
-        return FieldAnswer::Refused(Refusal::PointerWord);
-    };
-    FieldAnswer::Got(
+    let (n, q) = fixed::u32_at(s, p)?;
+    PointerAttributes(n).pointer_kind()?;
+    PointerAttributes(n).pointer_mode()?;
+    Ok((
         Cell {
             kind: 2,
             value: n as u64,
@@ -212,16 +174,14 @@ fn pointer_field(s: &[u8], p: usize) -> FieldAnswer
         },
         n,
         q,
-    )
+    ))
 }
 
-fn gap_field(s: &[u8], p: usize, w: u32) -> FieldAnswer
+fn gap_field(s: &[u8], p: usize, w: u32) -> Result<(Cell, u32, usize), Refusal>
     ensures { said_field result ≡ cell_step_by (gap 2) w s.now p }
 {
-    let Read16::Got(_, q) = fixed::u16_at(s, p) else {
-        return FieldAnswer::Refused(Refusal::Ended);
-    };
-    FieldAnswer::Got(
+    let (_, q) = fixed::u16_at(s, p)?;
+    Ok((
         Cell {
             kind: 1,
             value: 0,
@@ -229,7 +189,7 @@ fn gap_field(s: &[u8], p: usize, w: u32) -> FieldAnswer
         },
         w,
         q,
-    )
+    ))
 }
 
 // The cell of a numeric leaf n, and of -1 - n.
@@ -268,47 +228,28 @@ fn negative_cell(n: u64, width: u8, shorter: bool) -> Cell
     }
 }
 
-fn number_field(s: &[u8], p: usize, w: u32) -> FieldAnswer
+fn number_field(s: &[u8], p: usize, w: u32) -> Result<(Cell, u32, usize), Refusal>
     ensures { said_field result ≡ cell_step_by numeric w s.now p }
 {
-    match field_number::number_at(s, p) {
-        ReadVariant::Refused(e) => {
-            return FieldAnswer::Refused(e);
-        }
-        ReadVariant::Got(v, q) => {
-            let n = v.value;
-            match n {
-                Number::Natural(x) => {
-                    return FieldAnswer::Got(natural_cell(x, v.width, v.shorter), w, q);
-                }
-                Number::Negative(x) => {
-                    return FieldAnswer::Got(negative_cell(x, v.width, v.shorter), w, q);
-                }
-            }
-        }
+    let (v, q) = field_number::number_at(s, p)?;
+    match v.value {
+        Number::Natural(x) => Ok((natural_cell(x, v.width, v.shorter), w, q)),
+        Number::Negative(x) => Ok((negative_cell(x, v.width, v.shorter), w, q)),
     }
 }
 
-fn size_field(s: &[u8], p: usize, w: u32) -> FieldAnswer
+fn size_field(s: &[u8], p: usize, w: u32) -> Result<(Cell, u32, usize), Refusal>
     ensures { said_field result ≡ cell_step_by size w s.now p }
 {
-    match field_number::size_at(s, p) {
-        ReadSize::Refused(e) => {
-            return FieldAnswer::Refused(e);
-        }
-        ReadSize::Got(v, q) => {
-            return FieldAnswer::Got(natural_cell(v.value, v.width, v.shorter), w, q);
-        }
-    }
+    let (v, q) = field_number::size_at(s, p)?;
+    Ok((natural_cell(v.value, v.width, v.shorter), w, q))
 }
 
-fn text_field(s: &[u8], p: usize, w: u32) -> FieldAnswer
+fn text_field(s: &[u8], p: usize, w: u32) -> Result<(Cell, u32, usize), Refusal>
     ensures { said_field result ≡ cell_step_by string w s.now p }
 {
-    let ReadString::Got(t, q) = field_text::string_at(s, p) else {
-        return FieldAnswer::Refused(Refusal::Ended);
-    };
-    FieldAnswer::Got(
+    let (t, q) = field_text::string_at(s, p)?;
+    Ok((
         Cell {
             kind: 7,
             value: t.place as u64,
@@ -316,18 +257,16 @@ fn text_field(s: &[u8], p: usize, w: u32) -> FieldAnswer
         },
         w,
         q,
-    )
+    ))
 }
 
 // As many type indices as the word says.
-fn indices_field(s: &[u8], p: usize, w: u32) -> FieldAnswer
+fn indices_field(s: &[u8], p: usize, w: u32) -> Result<(Cell, u32, usize), Refusal>
     ensures { said_field result ≡ cell_step_by (run types) w s.now p }
 {
     let n = 4 * (w as usize);
-    let After::At(q) = field::run::after_bytes(s, p, n) else {
-        return FieldAnswer::Refused(Refusal::Ended);
-    };
-    FieldAnswer::Got(
+    let q = field::run::after_bytes(s, p, n)?;
+    Ok((
         Cell {
             kind: 7,
             value: p as u64,
@@ -335,18 +274,16 @@ fn indices_field(s: &[u8], p: usize, w: u32) -> FieldAnswer
         },
         w,
         q,
-    )
+    ))
 }
 
 // As many slots of four bits as the word says.
-fn slots_field(s: &[u8], p: usize, w: u32) -> FieldAnswer
+fn slots_field(s: &[u8], p: usize, w: u32) -> Result<(Cell, u32, usize), Refusal>
     ensures { said_field result ≡ cell_step_by (run slots) w s.now p }
 {
     let n = ((w as usize) + 1) / 2;
-    let After::At(q) = field::run::after_bytes(s, p, n) else {
-        return FieldAnswer::Refused(Refusal::Ended);
-    };
-    FieldAnswer::Got(
+    let q = field::run::after_bytes(s, p, n)?;
+    Ok((
         Cell {
             kind: 7,
             value: p as u64,
@@ -354,14 +291,14 @@ fn slots_field(s: &[u8], p: usize, w: u32) -> FieldAnswer
         },
         w,
         q,
-    )
+    ))
 }
 
 // A field of no bytes.
-fn no_field(p: usize, w: u32) -> FieldAnswer
+fn no_field(p: usize, w: u32) -> Result<(Cell, u32, usize), Refusal>
     ensures { said_field result ≡ got (step absent w) p }
 {
-    FieldAnswer::Got(
+    Ok((
         Cell {
             kind: 1,
             value: 0,
@@ -369,11 +306,11 @@ fn no_field(p: usize, w: u32) -> FieldAnswer
         },
         w,
         p,
-    )
+    ))
 }
 
 // A second string, if the properties say so.
-fn second_text_field(s: &[u8], p: usize, w: u32) -> FieldAnswer
+fn second_text_field(s: &[u8], p: usize, w: u32) -> Result<(Cell, u32, usize), Refusal>
     ensures { said_field result ≡ cell_step_by second_string w s.now p }
 {
     if w / 0x200 % 2 == 1 {
@@ -383,10 +320,10 @@ fn second_text_field(s: &[u8], p: usize, w: u32) -> FieldAnswer
 }
 
 // The class of a pointer to member.
-fn member_class_field(s: &[u8], p: usize, w: u32) -> FieldAnswer
+fn member_class_field(s: &[u8], p: usize, w: u32) -> Result<(Cell, u32, usize), Refusal>
     ensures { said_field result ≡ cell_step_by member_class w s.now p }
 {
-    let FlagAnswer::Answered(to_member) = PointerAttributes(w).pointer_to_member() else {
+    let Ok(to_member) = PointerAttributes(w).pointer_to_member() else {
         return no_field(p, w);
     };
     if to_member {
@@ -410,7 +347,7 @@ fn introduces(w: u32) -> bool
 }
 
 // The offset of a method that introduces a virtual one.
-fn offset_field(s: &[u8], p: usize, w: u32) -> FieldAnswer
+fn offset_field(s: &[u8], p: usize, w: u32) -> Result<(Cell, u32, usize), Refusal>
     ensures { said_field result ≡ cell_step_by offset w s.now p }
 {
     if introduces(w) {
@@ -420,7 +357,7 @@ fn offset_field(s: &[u8], p: usize, w: u32) -> FieldAnswer
 }
 
 // The field of this code at place p, where w is the word.
-fn field_at(s: &[u8], p: usize, code: u64, w: u32) -> FieldAnswer
+fn field_at(s: &[u8], p: usize, code: u64, w: u32) -> Result<(Cell, u32, usize), Refusal>
     ensures { said_field result ≡ cell_step_by (field_of code) w s.now p }
 {
     match code {
@@ -451,7 +388,7 @@ fn field_at(s: &[u8], p: usize, code: u64, w: u32) -> FieldAnswer
 }
 
 // The fields of a layout at a place, as a row of nine cells; `out` stays as it is where a field is refused.
-fn cells_at(s: &[u8], at: usize, layout: u64, out: &mut [u64; 27]) -> CellsAnswer
+fn cells_at(s: &[u8], at: usize, layout: u64, out: &mut [u64; 27]) -> Result<usize, Refusal>
     ensures { FillsCells (cells_of 9) (read_fields (layout_of layout) 0 s.now at) result out.old out.new }
 {
     let mut row = [0u64; 27];
@@ -462,46 +399,46 @@ fn cells_at(s: &[u8], at: usize, layout: u64, out: &mut [u64; 27]) -> CellsAnswe
     while 0 < rest {
         if 24 < k {
             *out = row;
-            return CellsAnswer::Filled(here);
+            return Ok(here);
         }
-        match field_at(s, here, rest % 32, word) {
-            FieldAnswer::Refused(e) => {
-                return CellsAnswer::Refused(e);
-            }
-            FieldAnswer::Got(c, w, q) => {
-                row[k] = c.kind;
-                row[k + 1] = c.value;
-                row[k + 2] = c.more;
-                k += 3;
-                rest /= 32;
-                here = q;
-                word = w;
-            }
-        }
+        let (c, w, q) = field_at(s, here, rest % 32, word)?;
+        row[k] = c.kind;
+        row[k + 1] = c.value;
+        row[k + 2] = c.more;
+        k += 3;
+        rest /= 32;
+        here = q;
+        word = w;
     }
     *out = row;
-    CellsAnswer::Filled(here)
+    Ok(here)
 }
 
 // The fields of a leaf whose layout is this, 0 for none; 10 if it is none.
-fn cells_by(s: &[u8], leaf: u16, at: usize, layout: u64, out: &mut [u64; 27]) -> CellsAnswer
+fn cells_by(
+    s: &[u8],
+    leaf: u16,
+    at: usize,
+    layout: u64,
+    out: &mut [u64; 27],
+) -> Result<usize, Refusal>
     ensures { FillsCells (cells_of 9) (fields_by (layout_in layout) leaf s.now at) result out.old out.new }
 {
     if layout == 0 {
-        return CellsAnswer::Refused(Refusal::LeafUnknown(leaf));
+        return Err(Refusal::LeafUnknown(leaf));
     }
     cells_at(s, at, layout, out)
 }
 
 // The fields of a type record, and of an id record, by the leaf.
 
-pub fn type_cells(s: &[u8], leaf: u16, at: usize, out: &mut [u64; 27]) -> CellsAnswer
+pub fn type_cells(s: &[u8], leaf: u16, at: usize, out: &mut [u64; 27]) -> Result<usize, Refusal>
     ensures { FillsCells (cells_of 9) (fields_by (find leaf type_leaves) leaf s.now at) result out.old out.new }
 {
     cells_by(s, leaf, at, layout::type_layout(leaf), out)
 }
 
-pub fn id_cells(s: &[u8], leaf: u16, at: usize, out: &mut [u64; 27]) -> CellsAnswer
+pub fn id_cells(s: &[u8], leaf: u16, at: usize, out: &mut [u64; 27]) -> Result<usize, Refusal>
     ensures { FillsCells (cells_of 9) (fields_by (find leaf id_leaves) leaf s.now at) result out.old out.new }
 {
     cells_by(s, leaf, at, layout::id_layout(leaf), out)

@@ -1,40 +1,38 @@
 -- What a type's answer says fixes the answer: the record is read back from its leaf and its values. Assumes nothing.
-use mathlib.Core.Path.{◌≡◌, refl, ap}
+use Rattle.std.specs.Prelude.{Result, Option, None, Some}
+use Rattle.field_text.specs.declared.RawString.{RawString}
+use Rattle.answer.specs.declared.Refusal.{Refusal}
+use Rattle.field.specs.declared.index.TypeIndex.{TypeIndex}
+use mathlib.Core.Path.{◌≡◌, refl}
 use mathlib.Core.List.{List, [], ◌∷◌}
-use mathlib.Core.Option.{Option, none, some}
-use Rattle.answer.specs.Answer.{Answer, answered, refused}
 use Rattle.answer.specs.Tables.{Line, ◌is◌, find}
-use Rattle.answer.proofs.OneOutcome.{one_of, refusal_in, refusal-back}
+use Rattle.answer.proofs.OneOutcome.{one_of, one_said}
 use Rattle.field.proofs.OneOutcome.{hear_optional_type}
-use Rattle.field.specs.declared.index.OptTypeIndex.{OptTypeIndex}
 use Rattle.record_layout.specs.Fields.{number, numeral, absent, many, Shown}
 use Rattle.record_layout.specs.Values.{nth, number_in, string_in, option_in}
 use Rattle.record_layout.proofs.OneOutcome.{size_in, type-back}
-use Rattle.record_data.specs.Said.{string_value, kind_values, type_values, said_type_data}
+use Rattle.record_data.specs.Said.{string_value, kind_values, type_values}
 use Rattle.record_data.specs.declared.ClassKind.{ClassKind}
 use Rattle.record_data.specs.declared.ClassKind.TheVariants as kind
-use Rattle.field_text.specs.declared.OptString.{OptString}
-use Rattle.field_text.specs.declared.OptString.TheVariants as opt
 use Rattle.record_data.specs.declared.ClassType.{ClassType}
 use Rattle.record_data.specs.declared.TypeData.{TypeData}
 use Rattle.record_data.specs.declared.TypeData.TheVariants as type
-use Rattle.record_data.specs.declared.TypeAnswer.{TypeAnswer}
-use Rattle.record_data.specs.declared.TypeAnswer.TheVariants as answer
+use Rattle.answer.specs.Refusals.{said}
 
-abbrev opt_in : Shown → OptString
-opt_in (many x) = opt.Some (record { place = x.place; length = x.length })
-opt_in (number n) = opt.None
-opt_in (numeral z f) = opt.None
-opt_in absent = opt.None
+abbrev opt_in : Shown → Option RawString
+opt_in (many x) = Some (record { place = x.place; length = x.length })
+opt_in (number n) = None
+opt_in (numeral z f) = None
+opt_in absent = None
 
-opt-back : (t : OptString) → opt_in (string_value t) ≡ t
-opt-back opt.None = refl
-opt-back (opt.Some t) = refl
+opt-back : (t : Option RawString) → opt_in (string_value t) ≡ t
+opt-back None = refl
+opt-back (Some t) = refl
 
-pub one_name : (r q : OptString) → string_value r ≡ string_value q → r ≡ q
+pub one_name : (r q : Option RawString) → string_value r ≡ string_value q → r ≡ q
 one_name = one_of string_value opt_in opt-back
 
-abbrev type_in : Shown → OptTypeIndex
+abbrev type_in : Shown → Option TypeIndex
 type_in v = hear_optional_type (option_in v)
 
 abbrev class_in : ClassKind → List Shown → TypeData
@@ -85,8 +83,8 @@ backs =
     ∷ []
 
 abbrev back_by : Option (List Shown → TypeData) → List Shown → TypeData
-back_by none vs = type.FieldList
-back_by (some f) vs = f vs
+back_by None vs = type.FieldList
+back_by (Some f) vs = f vs
 
 abbrev pub data_in : List Shown → TypeData
 data_in vs = back_by (find (number_in (nth 0 vs)) backs) vs
@@ -127,13 +125,5 @@ data-back type.FieldList = refl
 data-back (type.ArgumentList r) = refl
 data-back type.MethodList = refl
 
-abbrev hear_data : Answer (List Shown) → TypeAnswer
-hear_data (answered vs) = answer.Answered (data_in vs)
-hear_data (refused n d) = answer.Refused (refusal_in n d)
-
-back-data : (r : TypeAnswer) → hear_data (said_type_data r) ≡ r
-back-data (answer.Answered d) = ap answer.Answered (data-back d)
-back-data (answer.Refused e) = ap answer.Refused (refusal-back e)
-
-pub one-type-data : (r q : TypeAnswer) → said_type_data r ≡ said_type_data q → r ≡ q
-one-type-data = one_of said_type_data hear_data back-data
+pub one-type-data : (r q : Result TypeData Refusal) → said type_values r ≡ said type_values q → r ≡ q
+one-type-data = one_said type_values data_in data-back

@@ -1,10 +1,10 @@
 -- Written by tools/leaves.
 -- The leaf of a record says its case of `TypeData`, so where a `match` has left some cases over, their leaves are not there. Assumes nothing.
+use Rattle.std.specs.Prelude.{Some}
 use Prim.Native.Nat.{ℕ}
 use mathlib.Core.Bool.{Bool, true, false, not}
 use mathlib.Core.Path.{◌≡◌, refl, sym, ap, subst, ◌∙◌}
 use mathlib.Core.List.{List, [], ◌∷◌}
-use mathlib.Core.Option.{some, some-injective}
 use lib.Dec.{T, eqb}
 use borrow.Author.Tests.{eqb-true}
 use denote.Enum.Declared.{tag_of}
@@ -41,14 +41,14 @@ leaf_tags =
     ∷ (0x1206 is 12)
     ∷ []
 
-class-tag : (k : ClassKind) (r : ClassType) → find (number_in (nth 0 (kind_values k r))) leaf_tags ≡ some 0
+class-tag : (k : ClassKind) (r : ClassType) → find (number_in (nth 0 (kind_values k r))) leaf_tags ≡ Some 0
 unfolding find leaf_tags
 class-tag kind.Class r = refl
 class-tag kind.Struct r = refl
 class-tag kind.Interface r = refl
 class-tag kind.Struct19 r = refl
 
-pub leaf-tag : (d : TypeData) → find (number_in (nth 0 (type_values d))) leaf_tags ≡ some (tag_of the_type d)
+pub leaf-tag : (d : TypeData) → find (number_in (nth 0 (type_values d))) leaf_tags ≡ Some (tag_of the_type d)
 unfolding find leaf_tags
 leaf-tag (type.Class r) = class-tag r.kind r
 leaf-tag (type.MemberFunction r) = refl
@@ -73,12 +73,13 @@ abbrev pub others : List ℕ → List ℕ
 others known = leave known (0 ∷ 1 ∷ 2 ∷ 3 ∷ 4 ∷ 5 ∷ 6 ∷ 7 ∷ 8 ∷ 9 ∷ 10 ∷ 11 ∷ 12 ∷ [])
 
 -- a record whose case is left over has no leaf of a case that is not
-pub not-leaf : (known : List ℕ) (d : TypeData) → OneOf (others known) (tag_of the_type d) → (leaf tag : ℕ) → find leaf leaf_tags ≡ some tag → T (not (has_key (others known) tag))
+pub not-leaf : (known : List ℕ) (d : TypeData) → OneOf (others known) (tag_of the_type d) → (leaf tag : ℕ) → find leaf leaf_tags ≡ Some tag → T (not (has_key (others known) tag))
     → eqb (number_in (nth 0 (type_values d))) leaf ≡ false
 not-leaf known d left leaf tag e there = go (eqb (number_in (nth 0 (type_values d))) leaf) refl
   where
     go : (b : Bool) → eqb (number_in (nth 0 (type_values d))) leaf ≡ b → b ≡ false
     go false h = refl
     go true h =
-        let same = some-injective (tag_of the_type d) tag (sym (leaf-tag d) ∙ ap (λ (n : ℕ). find n leaf_tags) (eqb-true _ _ h) ∙ e) in
+        let both : Some (tag_of the_type d) ≡ Some tag = sym (leaf-tag d) ∙ ap (λ (n : ℕ). find n leaf_tags) (eqb-true _ _ h) ∙ e in
+        let same : tag_of the_type d ≡ tag = cc in
         absurd (miss (others known) tag there (subst (OneOf (others known)) same left))

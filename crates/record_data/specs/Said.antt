@@ -1,44 +1,29 @@
 -- What a type record says: its leaf, and the values of its layout in the layout's order. To be read against the table type_leaves of
 -- record_layout/specs/Layouts.antt.
-use Rattle.std.specs.Prelude.{ℕ, suc, ◌+◌, ◌*◌, ◌/◌, ◌≡◌, List, [], ◌∷◌}
-use Rattle.std.proofs.Math.Option.{Option, none, some}
-use Rattle.answer.specs.Answer.{Answer, answered, Read, got, ended, and_then}
-use Rattle.answer.specs.Refusals.{no}
+use Rattle.std.specs.Prelude.{Option, None, Some, ℕ, suc, ◌+◌, ◌*◌, ◌/◌, ◌≡◌, List, [], ◌∷◌}
+use Rattle.field_text.specs.declared.RawString.{RawString}
+use Rattle.field.specs.declared.index.TypeIndex.{TypeIndex}
+use Rattle.answer.specs.Answer.{Answer, answered, and_then}
 use Rattle.answer.specs.Tables.{Line, ◌is◌, find}
 use Rattle.field_text.specs.Texts.{part}
 use Rattle.field.specs.Indices.{type_option}
-use Rattle.field.specs.declared.index.ReadOptType.{ReadOptType}
-use Rattle.field.specs.declared.index.ReadOptType.TheVariants as rtype
 use Rattle.record_layout.specs.Fields.{number, absent, many, or_absent, Shown}
 use Rattle.record_layout.specs.Layouts.{class, by_layout}
 use Rattle.record_layout.specs.Values.{nth, number_in, size_value}
 use Rattle.record_data.specs.declared.ClassKind.{ClassKind}
 use Rattle.record_data.specs.declared.ClassKind.TheVariants as kind
-use Rattle.field_text.specs.declared.OptString.{OptString}
-use Rattle.field_text.specs.declared.OptString.TheVariants as opt
-use Rattle.record_data.specs.declared.ReadOptString.{ReadOptString}
-use Rattle.record_data.specs.declared.ReadOptString.TheVariants as ropt
 use Rattle.record_data.specs.declared.ClassType.{ClassType}
-use Rattle.record_data.specs.declared.OptKind.{OptKind}
-use Rattle.record_data.specs.declared.OptKind.TheVariants as opt_kind
 use Rattle.record_data.specs.declared.TypeData.{TypeData}
 use Rattle.record_data.specs.declared.TypeData.TheVariants as type
-use Rattle.record_data.specs.declared.TypeAnswer.{TypeAnswer}
-use Rattle.record_data.specs.declared.TypeAnswer.TheVariants as answer
 
 -- a string that may be absent
-abbrev pub string_value : OptString → Shown
-string_value opt.None = absent
-string_value (opt.Some t) = many (part t)
-
-abbrev pub said_opt_string : ReadOptString → Read Shown
-said_opt_string (ropt.Got t p) = got (string_value t) p
-said_opt_string ropt.Ended = ended
+abbrev pub string_value : Option RawString → Shown
+string_value None = absent
+string_value (Some t) = many (part t)
 
 -- a pointer's class that may be absent
-abbrev pub said_containing : ReadOptType → Read Shown
-said_containing (rtype.Got t p) = got (or_absent (type_option t)) p
-said_containing rtype.Ended = ended
+abbrev pub class_value : Option TypeIndex → Shown
+class_value t = or_absent (type_option t)
 
 -- count, properties, O, O, O, N, S, and a second S
 abbrev pub class_values : ClassType → List Shown
@@ -70,14 +55,9 @@ class_kinds = (0x1504 is kind.Class) ∷ (0x1505 is kind.Struct) ∷ (0x1519 is 
 abbrev pub Plain : ClassKind → Type 0
 Plain k = (r : ClassType) → kind_values k r ≡ number (kind_leaf k) ∷ class_values r
 
--- what `class_kind` answers
-abbrev pub kind_option : OptKind → Option ClassKind
-kind_option opt_kind.None = none
-kind_option (opt_kind.Some k) = some k
-
 -- what a record with such a leaf says, its fields at p: all the values of a class's layout, wherever the last one ends
 abbrev pub class_of : ℕ → List ℕ → ℕ → Answer (List Shown)
-class_of leaf s p = and_then (by_layout (some class) leaf s p) (λ vs e. answered vs)
+class_of leaf s p = and_then (by_layout (Some class) leaf s p) (λ vs e. answered vs)
 
 abbrev pub type_values : TypeData → List Shown
 type_values (type.Class r) = kind_values r.kind r
@@ -99,10 +79,6 @@ type_values type.FieldList = number 0x1203 ∷ absent ∷ []
 type_values (type.ArgumentList r) = number 0x1201 ∷ number r.count ∷ many (record { place = r.place; length = 4 * r.count }) ∷ []
 type_values type.MethodList = number 0x1206 ∷ absent ∷ []
 
-abbrev pub said_type_data : TypeAnswer → Answer (List Shown)
-said_type_data (answer.Answered d) = answered (type_values d)
-said_type_data (answer.Refused e) = no e
-
 -- Names ------------------------------------------------------------------------------------------------------------------------
 
 -- the leaves whose name the crate's `name` gives, and at which place of its line in type_leaves it stands, counted from 0; 0x1503 has one, and it
@@ -112,8 +88,8 @@ name_places = (0x1504 is 6) ∷ (0x1505 is 6) ∷ (0x1519 is 6) ∷ (0x1506 is 4
 
 -- value k of a line stands behind the leaf and k values
 abbrev pub name_by : Option ℕ → List Shown → Shown
-name_by none vs = absent
-name_by (some k) vs = nth (suc k) vs
+name_by None vs = absent
+name_by (Some k) vs = nth (suc k) vs
 
 -- the name of a type, by the leaf that its values begin with
 unfoldable pub type_data_name : List Shown → Shown

@@ -1,21 +1,22 @@
 -- What an id's answer says fixes the answer: the record is read back from its leaf and its values. Assumes nothing.
+use Rattle.std.specs.Prelude.{Result}
+use Rattle.answer.specs.declared.Refusal.{Refusal}
 use Prim.Native.Nat.{ℕ}
-use mathlib.Core.Path.{◌≡◌, refl, ap}
+use mathlib.Core.Path.{◌≡◌, refl}
 use mathlib.Core.List.{List}
 use lib.Dec.{eqb}
-use Rattle.answer.specs.Answer.{Answer, answered, refused, pick}
-use Rattle.answer.proofs.OneOutcome.{one_of, refusal_in, refusal-back}
+use Rattle.answer.specs.Answer.{pick}
+use Rattle.answer.proofs.OneOutcome.{one_said}
 use Rattle.field.proofs.OneOutcome.{hear_optional_id}
 use Rattle.record_layout.specs.Fields.{Shown}
 use Rattle.record_layout.specs.Values.{nth, number_in, string_in, option_in}
 use Rattle.record_layout.proofs.OneOutcome.{id-back}
-use Rattle.record_id.specs.Said.{source_values, id_values, said_id_data}
+use Rattle.record_id.specs.Said.{source_values, id_values}
 use Rattle.record_id.specs.declared.UserDefinedTypeSourceFileRef.{UserDefinedTypeSourceFileRef}
 use Rattle.record_id.specs.declared.UserDefinedTypeSourceFileRef.TheVariants as file
 use Rattle.record_id.specs.declared.IdData.{IdData}
 use Rattle.record_id.specs.declared.IdData.TheVariants as id
-use Rattle.record_id.specs.declared.IdAnswer.{IdAnswer}
-use Rattle.record_id.specs.declared.IdAnswer.TheVariants as answer
+use Rattle.answer.specs.Refusals.{said}
 
 abbrev pub id_in : List Shown → IdData
 id_in vs =
@@ -43,13 +44,5 @@ id-data-back (id.StringList r) = refl
 id-data-back (id.String r) = rw (id-back r.substrings)
 id-data-back (id.UserDefinedTypeSource r) = source-back r.udt.0 r.source_file r.line
 
-abbrev hear_id : Answer (List Shown) → IdAnswer
-hear_id (answered vs) = answer.Answered (id_in vs)
-hear_id (refused n d) = answer.Refused (refusal_in n d)
-
-back-id : (r : IdAnswer) → hear_id (said_id_data r) ≡ r
-back-id (answer.Answered d) = ap answer.Answered (id-data-back d)
-back-id (answer.Refused e) = ap answer.Refused (refusal-back e)
-
-pub one-id : (r q : IdAnswer) → said_id_data r ≡ said_id_data q → r ≡ q
-one-id = one_of said_id_data hear_id back-id
+pub one-id : (r q : Result IdData Refusal) → said id_values r ≡ said id_values q → r ≡ q
+one-id = one_said id_values id_in id-data-back

@@ -1,8 +1,6 @@
 -- What an id record says: its leaf, and the values of its layout in the layout's order. To be read against the table id_leaves of
 -- record_layout/specs/Layouts.antt.
 use Rattle.std.specs.Prelude.{ℕ, ◌*◌, List, [], ◌∷◌}
-use Rattle.answer.specs.Answer.{Answer, answered}
-use Rattle.answer.specs.Refusals.{no}
 use Rattle.field_text.specs.Texts.{part}
 use Rattle.field.specs.Indices.{id_option}
 use Rattle.record_layout.specs.Fields.{number, many, or_absent, Shown}
@@ -10,8 +8,6 @@ use Rattle.record_id.specs.declared.UserDefinedTypeSourceFileRef.{UserDefinedTyp
 use Rattle.record_id.specs.declared.UserDefinedTypeSourceFileRef.TheVariants as file
 use Rattle.record_id.specs.declared.IdData.{IdData}
 use Rattle.record_id.specs.declared.IdData.TheVariants as id
-use Rattle.record_id.specs.declared.IdAnswer.{IdAnswer}
-use Rattle.record_id.specs.declared.IdAnswer.TheVariants as answer
 
 abbrev pub source_values : ℕ → UserDefinedTypeSourceFileRef → ℕ → List Shown
 source_values udt (file.Local f) line = number 0x1606 ∷ number udt ∷ number f.0 ∷ number line ∷ []
@@ -24,7 +20,3 @@ id_values (id.BuildInfo r) = number 0x1603 ∷ number r.count ∷ many (record {
 id_values (id.StringList r) = number 0x1604 ∷ number r.count ∷ many (record { place = r.place; length = 4 * r.count }) ∷ []
 id_values (id.String r) = number 0x1605 ∷ or_absent (id_option r.substrings) ∷ many (part r.name) ∷ []
 id_values (id.UserDefinedTypeSource r) = source_values r.udt.0 r.source_file r.line
-
-abbrev pub said_id_data : IdAnswer → Answer (List Shown)
-said_id_data (answer.Answered d) = answered (id_values d)
-said_id_data (answer.Refused e) = no e

@@ -1,19 +1,16 @@
 // The records of the IPI stream: the seven id leaves of document 01, by the names of the crate's id.rs, each read by its line of the table
 // in record_layout/specs/Layouts.antt.
-#![tactic(auto, using(crate::proofs::Used::laws), unfolding(answer::specs::Tables::find, record_layout::specs::Fields::read_field_by, record_layout::specs::Fields::read_fields_by, record_layout::specs::Layouts::id_leaves, record_layout::specs::Layouts::leaf_of, record_layout::specs::Layouts::read_leaf, record_layout::specs::Layouts::record_of))]
+#![tactic(auto, unfolding(answer::specs::Tables::find, record_layout::specs::Fields::read_field_by, record_layout::specs::Fields::read_fields_by, record_layout::specs::Layouts::id_leaves, record_layout::specs::Layouts::leaf_of, record_layout::specs::Layouts::read_leaf, record_layout::specs::Layouts::record_of))]
 
 ghost use Rattle.std.specs.Prelude.{◌≡◌};
 ghost use Rattle.record_layout.specs.Layouts.{leaf_of, record_of, id_leaves};
-ghost use Rattle.record_id.specs.Said.{said_id_data};
+ghost use Rattle.answer.specs.Refusals.{said};
+ghost use Rattle.record_id.specs.Said.{id_values};
 
 use answer::Refusal;
-use field::fixed::{Read16, Read32};
-use field::index::{
-    IdIndex, OptIdIndex, ReadId, ReadOptId, ReadStringRef, ReadType, StringRef, TypeIndex,
-};
-use field::run::After;
-use field::{fixed, index};
-use field_text::{RawString, ReadString};
+use field::index::{IdIndex, StringRef, TypeIndex};
+use field::reader::Reader;
+use field_text::RawString;
 use record_layout::{
     LF_BUILDINFO, LF_FUNC_ID, LF_MFUNC_ID, LF_STRING_ID, LF_SUBSTR_LIST, LF_UDT_MOD_SRC_LINE,
     LF_UDT_SRC_LINE,
@@ -22,7 +19,7 @@ use record_layout::{
 // 0x1601: a global function, usually inlined.
 #[derive(Clone, Copy)]
 pub struct FunctionId {
-    pub scope: OptIdIndex,
+    pub scope: Option<IdIndex>,
     pub function_type: TypeIndex,
     pub name: RawString,
 }
@@ -52,7 +49,7 @@ pub struct StringListId {
 // 0x1605: a string, usually the full namespace of a function.
 #[derive(Clone, Copy)]
 pub struct StringId {
-    pub substrings: OptIdIndex,
+    pub substrings: Option<IdIndex>,
     pub name: RawString,
 }
 
@@ -83,165 +80,101 @@ pub enum IdData {
     UserDefinedTypeSource(UserDefinedTypeSourceId),
 }
 
-#[derive(Clone, Copy)]
-pub enum IdAnswer {
-    Answered(IdData),
-    Refused(Refusal),
-}
-
 // The fields of each leaf, at the place after it.
 
-fn function_at(s: &[u8], p: usize) -> IdAnswer
-    ensures { said_id_data result ≡ leaf_of id_leaves 0x1601 s.now p }
+fn read_function(r: &mut Reader<'_>) -> Result<IdData, Refusal>
+    ensures { said id_values result ≡ leaf_of id_leaves 0x1601 r.old.bytes.now r.old.at }
 {
-    let ReadOptId::Got(scope, p1) = index::optional_id_at(s, p) else {
-        return IdAnswer::Refused(Refusal::Ended);
-    };
-    let ReadType::Got(function_type, p2) = index::type_at(s, p1) else {
-        return IdAnswer::Refused(Refusal::Ended);
-    };
-    let ReadString::Got(name, _) = field_text::string_at(s, p2) else {
-        return IdAnswer::Refused(Refusal::Ended);
-    };
-    IdAnswer::Answered(IdData::Function(FunctionId {
-        scope: scope,
-        function_type: function_type,
-        name: name,
+    let scope = r.optional()?;
+    let function_type = r.index()?;
+    let name = field_text::read_string(r)?;
+    Ok(IdData::Function(FunctionId {
+        scope,
+        function_type,
+        name,
     }))
 }
 
-fn member_function_at(s: &[u8], p: usize) -> IdAnswer
-    ensures { said_id_data result ≡ leaf_of id_leaves 0x1602 s.now p }
+fn read_member_function(r: &mut Reader<'_>) -> Result<IdData, Refusal>
+    ensures { said id_values result ≡ leaf_of id_leaves 0x1602 r.old.bytes.now r.old.at }
 {
-    let ReadType::Got(parent, p1) = index::type_at(s, p) else {
-        return IdAnswer::Refused(Refusal::Ended);
-    };
-    let ReadType::Got(function_type, p2) = index::type_at(s, p1) else {
-        return IdAnswer::Refused(Refusal::Ended);
-    };
-    let ReadString::Got(name, _) = field_text::string_at(s, p2) else {
-        return IdAnswer::Refused(Refusal::Ended);
-    };
-    IdAnswer::Answered(IdData::MemberFunction(MemberFunctionId {
-        parent: parent,
-        function_type: function_type,
-        name: name,
+    let parent = r.index()?;
+    let function_type = r.index()?;
+    let name = field_text::read_string(r)?;
+    Ok(IdData::MemberFunction(MemberFunctionId {
+        parent,
+        function_type,
+        name,
     }))
 }
 
-fn build_info_at(s: &[u8], p: usize) -> IdAnswer
-    ensures { said_id_data result ≡ leaf_of id_leaves 0x1603 s.now p }
+fn read_build_info(r: &mut Reader<'_>) -> Result<IdData, Refusal>
+    ensures { said id_values result ≡ leaf_of id_leaves 0x1603 r.old.bytes.now r.old.at }
 {
-    let Read16::Got(count, p1) = fixed::u16_at(s, p) else {
-        return IdAnswer::Refused(Refusal::Ended);
-    };
-    let After::At(_) = field::run::after_bytes(s, p1, 4 * (count as usize)) else {
-        return IdAnswer::Refused(Refusal::Ended);
-    };
-    IdAnswer::Answered(IdData::BuildInfo(BuildInfoId {
-        place: p1,
-        count: count,
-    }))
+    let count = r.u16()?;
+    let place = r.at;
+    r.skip(4 * (count as usize))?;
+    Ok(IdData::BuildInfo(BuildInfoId { place, count }))
 }
 
-fn string_list_at(s: &[u8], p: usize) -> IdAnswer
-    ensures { said_id_data result ≡ leaf_of id_leaves 0x1604 s.now p }
+fn read_string_list(r: &mut Reader<'_>) -> Result<IdData, Refusal>
+    ensures { said id_values result ≡ leaf_of id_leaves 0x1604 r.old.bytes.now r.old.at }
 {
-    let Read32::Got(count, p1) = fixed::u32_at(s, p) else {
-        return IdAnswer::Refused(Refusal::Ended);
-    };
-    let After::At(_) = field::run::after_bytes(s, p1, 4 * (count as usize)) else {
-        return IdAnswer::Refused(Refusal::Ended);
-    };
-    IdAnswer::Answered(IdData::StringList(StringListId {
-        place: p1,
-        count: count,
-    }))
+    let count = r.u32()?;
+    let place = r.at;
+    r.skip(4 * (count as usize))?;
+    Ok(IdData::StringList(StringListId { place, count }))
 }
 
-fn string_id_at(s: &[u8], p: usize) -> IdAnswer
-    ensures { said_id_data result ≡ leaf_of id_leaves 0x1605 s.now p }
+fn read_string_id(r: &mut Reader<'_>) -> Result<IdData, Refusal>
+    ensures { said id_values result ≡ leaf_of id_leaves 0x1605 r.old.bytes.now r.old.at }
 {
-    let ReadOptId::Got(substrings, p1) = index::optional_id_at(s, p) else {
-        return IdAnswer::Refused(Refusal::Ended);
-    };
-    let ReadString::Got(name, _) = field_text::string_at(s, p1) else {
-        return IdAnswer::Refused(Refusal::Ended);
-    };
-    IdAnswer::Answered(IdData::String(StringId {
-        substrings: substrings,
-        name: name,
-    }))
+    let substrings = r.optional()?;
+    let name = field_text::read_string(r)?;
+    Ok(IdData::String(StringId { substrings, name }))
 }
 
-fn local_source_at(s: &[u8], p: usize) -> IdAnswer
-    ensures { said_id_data result ≡ leaf_of id_leaves 0x1606 s.now p }
+fn read_local_source(r: &mut Reader<'_>) -> Result<IdData, Refusal>
+    ensures { said id_values result ≡ leaf_of id_leaves 0x1606 r.old.bytes.now r.old.at }
 {
-    let ReadType::Got(udt, p1) = index::type_at(s, p) else {
-        return IdAnswer::Refused(Refusal::Ended);
-    };
-    let ReadId::Got(file, p2) = index::id_at(s, p1) else {
-        return IdAnswer::Refused(Refusal::Ended);
-    };
-    let Read32::Got(line, _) = fixed::u32_at(s, p2) else {
-        return IdAnswer::Refused(Refusal::Ended);
-    };
-    IdAnswer::Answered(IdData::UserDefinedTypeSource(UserDefinedTypeSourceId {
-        udt: udt,
+    let udt = r.index()?;
+    let file = r.index()?;
+    let line = r.u32()?;
+    Ok(IdData::UserDefinedTypeSource(UserDefinedTypeSourceId {
+        udt,
         source_file: UserDefinedTypeSourceFileRef::Local(file),
-        line: line,
+        line,
     }))
 }
 
-fn remote_source_at(s: &[u8], p: usize) -> IdAnswer
-    ensures { said_id_data result ≡ leaf_of id_leaves 0x1607 s.now p }
+fn read_remote_source(r: &mut Reader<'_>) -> Result<IdData, Refusal>
+    ensures { said id_values result ≡ leaf_of id_leaves 0x1607 r.old.bytes.now r.old.at }
 {
-    let ReadType::Got(udt, p1) = index::type_at(s, p) else {
-        return IdAnswer::Refused(Refusal::Ended);
-    };
-    let ReadStringRef::Got(file, p2) = index::string_ref_at(s, p1) else {
-        return IdAnswer::Refused(Refusal::Ended);
-    };
-    let Read32::Got(line, p3) = fixed::u32_at(s, p2) else {
-        return IdAnswer::Refused(Refusal::Ended);
-    };
-    let Read16::Got(module, _) = fixed::u16_at(s, p3) else {
-        return IdAnswer::Refused(Refusal::Ended);
-    };
-    IdAnswer::Answered(IdData::UserDefinedTypeSource(UserDefinedTypeSourceId {
-        udt: udt,
+    let udt = r.index()?;
+    let file = r.index()?;
+    let line = r.u32()?;
+    let module = r.u16()?;
+    Ok(IdData::UserDefinedTypeSource(UserDefinedTypeSourceId {
+        udt,
         source_file: UserDefinedTypeSourceFileRef::Remote(module, file),
-        line: line,
+        line,
     }))
 }
 
 // The id record that these bytes are, its leaf first.
-pub fn id_data(s: &[u8]) -> IdAnswer
-    ensures { said_id_data result ≡ record_of id_leaves s.now }
+pub fn id_data(s: &[u8]) -> Result<IdData, Refusal>
+    ensures { said id_values result ≡ record_of id_leaves s.now }
 {
-    let Read16::Got(leaf, p) = fixed::u16_at(s, 0) else {
-        return IdAnswer::Refused(Refusal::Ended);
-    };
-    if leaf == LF_FUNC_ID {
-        return function_at(s, p);
+    let r = &mut Reader { bytes: s, at: 0 };
+    let leaf = r.u16()?;
+    match leaf {
+        LF_FUNC_ID => read_function(r),
+        LF_MFUNC_ID => read_member_function(r),
+        LF_BUILDINFO => read_build_info(r),
+        LF_SUBSTR_LIST => read_string_list(r),
+        LF_STRING_ID => read_string_id(r),
+        LF_UDT_SRC_LINE => read_local_source(r),
+        LF_UDT_MOD_SRC_LINE => read_remote_source(r),
+        _ => Err(Refusal::LeafUnknown(leaf)),
     }
-    if leaf == LF_MFUNC_ID {
-        return member_function_at(s, p);
-    }
-    if leaf == LF_BUILDINFO {
-        return build_info_at(s, p);
-    }
-    if leaf == LF_SUBSTR_LIST {
-        return string_list_at(s, p);
-    }
-    if leaf == LF_STRING_ID {
-        return string_id_at(s, p);
-    }
-    if leaf == LF_UDT_SRC_LINE {
-        return local_source_at(s, p);
-    }
-    if leaf == LF_UDT_MOD_SRC_LINE {
-        return remote_source_at(s, p);
-    }
-    IdAnswer::Refused(Refusal::LeafUnknown(leaf))
 }

@@ -1,9 +1,9 @@
 -- Values, places and refusals of every layout are those of 01, whatever is said of a number's form. Assumes nothing.
+use Rattle.std.specs.Prelude.{Option, None, Some}
 use Prim.Native.Nat.{ℕ, ◌-◌}
 use mathlib.Core.Bool.{Bool, true, false}
 use mathlib.Core.Path.{◌≡◌, refl, ap, ◌∙◌}
 use mathlib.Core.List.{List, [], ◌∷◌, map}
-use mathlib.Core.Option.{Option, none, some}
 use lib.IntN.{ℤ, pos}
 use Rattle.answer.specs.Answer.{Answer, answered, refused, Read, got, pick, then, and_then}
 use Rattle.field.specs.Fields.{fixed_at}
@@ -33,8 +33,8 @@ made_then f g h (answered x) = h x
 made_then f g h (refused n d) = refl
 
 optional : (o : Option ℕ) (q : ℕ) → bare (got (or_absent o) q) ≡ got (or_absent o) q
-optional none q = refl
-optional (some n) q = refl
+optional None q = refl
+optional (Some n) q = refl
 
 -- the word after a field is the same too
 word_kept : (f : Field) (v : Shown) (w : ℕ) → word_after f v w ≡ word_after f (plain v) w

@@ -1,4 +1,5 @@
--- An answered 0x1002 record has kind and mode answered. Assumes nothing.
+-- An answered 0x1002 record has kind and mode answered, and a bad kind or mode is 12. Assumes nothing.
+use Rattle.std.specs.Prelude.{Option, None, Some}
 use Prim.Native.Nat.{ℕ}
 use native.Mathlib.Omega.{arith}
 use mathlib.Core.Bool.{Bool, true, false}
@@ -7,7 +8,8 @@ use mathlib.Core.List.{List, []}
 use Rattle.answer.specs.Answer.{Answer, answered, refused, Got, Read, both}
 use Rattle.answer.specs.Tables.{find}
 use Rattle.field.specs.Fields.{fixed_at}
-use Rattle.word_attributes.specs.Pointers.{kind_of, mode_of}
+use Rattle.word_attributes.specs.Bits.{bits}
+use Rattle.word_attributes.specs.Pointers.{good_or_12, kind_of, mode_of, pointer_kinds, pointer_modes}
 use Rattle.record_layout.specs.Fields.{Shown, read_field, read_field_by, read_fields_by}
 use Rattle.record_layout.specs.Values.{nth, number_in}
 use Rattle.record_layout.specs.Layouts.{is_answered, member_class, type_leaves, read_leaf, leaf_of}
@@ -48,3 +50,16 @@ pointer-answered s p vs e = type-read (fixed_at 4 s p) refl
     type-read : (a : Read ℕ) → fixed_at 4 s p ≡ a → Good (number_in (nth 2 vs))
     type-read (answered t) h = word_read t h (fixed_at 4 s t.next) refl
     type-read (refused n d) h = never n d vs (rw h at e)
+
+-- a pointer word whose kind or mode is not in its list is 12
+listed-or-12 : {A B : Type 0} (n : ℕ) (d : List ℕ) (o : Option B) → refused n d ≡ good_or_12 o → ◌≡◌ {A = Answer A} (refused n d) (refused 12 [])
+listed-or-12 n d None h = cc
+listed-or-12 n d (Some b) h = cc
+
+pub bad-kind : {A : Type 0} (n : ℕ) (d : List ℕ) (w : ℕ) → refused n d ≡ kind_of w → ◌≡◌ {A = Answer A} (refused n d) (refused 12 [])
+unfolding kind_of
+bad-kind n d w = listed-or-12 n d (find (bits 0 4 w) pointer_kinds)
+
+pub bad-mode : {A : Type 0} (n : ℕ) (d : List ℕ) (w : ℕ) → refused n d ≡ mode_of w → ◌≡◌ {A = Answer A} (refused n d) (refused 12 [])
+unfolding mode_of
+bad-mode n d w = listed-or-12 n d (find (bits 5 7 w) pointer_modes)

@@ -2,8 +2,7 @@
 --
 -- A layout is a list of fields. `read_fields` reads any layout: fields in order, the first refusal given, bytes after the last not read.
 -- Whatever else is said of a record is said of its layout.
-use Rattle.std.specs.Prelude.{ℕ, ◌+◌, ◌*◌, ◌/◌, Bool, ◌≡◌, List, [], ◌∷◌, map, ℤ, pos}
-use Rattle.std.proofs.Math.Option.{Option, none, some}
+use Rattle.std.specs.Prelude.{Option, None, Some, ℕ, ◌+◌, ◌*◌, ◌/◌, Bool, ◌≡◌, List, [], ◌∷◌, map, ℤ, pos}
 use Rattle.answer.specs.Answer.{refused, Read, got, pick, then, and_then}
 use Rattle.field.specs.Fields.{fixed_at}
 use Rattle.field.specs.Indices.{no_type, no_id, optional_at}
@@ -61,8 +60,8 @@ pub data Field : Type 0 where
   when : (ℕ → Bool) → Field → Field
 
 abbrev pub or_absent : {S W : Type 0} → Option ℕ → Value S W
-or_absent none = absent
-or_absent (some n) = number n
+or_absent None = absent
+or_absent (Some n) = number n
 
 -- the field at place p of s, where w is the word; `form` is what to say of a number and the bytes that it took
 unfoldable pub read_field_by : {W : Type 0} → (ℤ → ℕ → W) → Field → ℕ → List ℕ → ℕ → Read (Value Part W)

@@ -1,6 +1,5 @@
 -- Document 01, "Layouts": the tables. Each line is 01's line; the names of the fields are 01's too.
-use Rattle.std.specs.Prelude.{ℕ, Bool, true, false, List, [], ◌∷◌}
-use Rattle.std.proofs.Math.Option.{Option, none, some}
+use Rattle.std.specs.Prelude.{Option, None, Some, ℕ, Bool, true, false, List, [], ◌∷◌}
 use Rattle.answer.specs.Answer.{Answer, answered, refused, Read, got, both, and_then}
 use Rattle.answer.specs.Tables.{Line, ◌is◌, find}
 use Rattle.field.specs.Fields.{fixed_at}
@@ -156,8 +155,8 @@ id_leaves =
 -- Reading by a table ---------------------------------------------------------------------------------------------------------
 
 abbrev pub by_layout : Option Layout → ℕ → List ℕ → ℕ → Read (List Shown)
-by_layout none leaf s p = refused 10 (leaf ∷ [])
-by_layout (some fs) leaf s p = and_then (read_fields fs 0 s p) (λ vs e. got (number leaf ∷ vs) e)
+by_layout None leaf s p = refused 10 (leaf ∷ [])
+by_layout (Some fs) leaf s p = and_then (read_fields fs 0 s p) (λ vs e. got (number leaf ∷ vs) e)
 
 -- the record of this leaf whose fields stand at p: the leaf and the values of its fields; 10 if the table does not have the leaf
 unfoldable pub read_leaf : Table → ℕ → List ℕ → ℕ → Read (List Shown)

@@ -1,6 +1,5 @@
 -- A record's values by their number, and what a value holds.
-use Rattle.std.specs.Prelude.{ℕ, List, get_or, pos}
-use Rattle.std.proofs.Math.Option.{Option, none, some}
+use Rattle.std.specs.Prelude.{Option, None, Some, ℕ, List, get_or, pos}
 use Rattle.field_text.specs.declared.RawString.{RawString}
 use Rattle.field_number.specs.Numbers.{number_value}
 use Rattle.field_number.specs.Forms.{variant_form, size_form}
@@ -22,10 +21,10 @@ string_in (numeral z f) = record { place = 0; length = 0 }
 string_in absent = record { place = 0; length = 0 }
 
 abbrev pub option_in : Shown → Option ℕ
-option_in (number n) = some n
-option_in (numeral z f) = none
-option_in absent = none
-option_in (many x) = none
+option_in (number n) = Some n
+option_in (numeral z f) = None
+option_in absent = None
+option_in (many x) = None
 
 -- the value of a numeric leaf, and of one that may not be negative
 abbrev pub variant_value : Variant → Shown

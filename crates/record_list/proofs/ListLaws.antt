@@ -1,20 +1,12 @@
 -- The laws of lists, over every list, whatever its step: element k + 1 is element k of the step's next cursor; an answered element has every
 -- earlier one answered; a refused element refuses every later one alike. Assumes nothing.
-use Prim.Native.Nat.{ℕ, zero, suc, ◌+◌}
+use Prim.Native.Nat.{ℕ, zero, suc, ◌+◌, ◌-◌, ◌<◌}
 use native.Mathlib.Omega.{arith}
-use mathlib.Core.Bool.{Bool, true, false}
 use mathlib.Core.Path.{◌≡◌, refl, ap, sym, ◌∙◌}
-use mathlib.Core.List.{List, [], ◌∷◌}
+use mathlib.Core.List.{List}
 use Rattle.answer.specs.Answer.{Answer, answered, refused, then}
-use Rattle.record_layout.specs.Fields.{number}
-use Rattle.record_member.specs.Said.{virtual_leaf}
 use Rattle.record_list.specs.declared.ListCursor.{ListCursor}
-use Rattle.record_list.specs.Lists.{ElementValues, Step, left_after, element_by}
-
--- a virtual base class does not end a list, direct or not
-pub virtual-goes-on : (direct : Bool) → left_after (number (virtual_leaf direct) ∷ []) ≡ 1
-virtual-goes-on true = refl
-virtual-goes-on false = refl
+use Rattle.record_list.specs.Lists.{ElementValues, Step, element_by}
 
 module _ (step : ListCursor → Answer Step) (c : ListCursor) where
   -- element k + 1 is element k of the step's next cursor
@@ -32,6 +24,20 @@ module _ (step : ListCursor → Answer Step) (c : ListCursor) where
   unfolding element_by
   element-refused zero n d e = rw e
   element-refused (suc k) n d e = rw e
+
+  -- a step goes from an element to the one before it of the step's next cursor
+  pub element-on : (e : ElementValues) (next : ListCursor) (left : ℕ) (a : Answer ElementValues) → 0 < left → answered (record { element = e; next = next }) ≡ step c
+      → element_by step left c ≡ a → element_by step (left - 1) next ≡ a
+  element-on e next left a more e_step there =
+      let f : left - 1 + 1 ≡ left = omega (arith, more) in
+      sym (element-next (left - 1) _ (sym e_step)) ∙ rw f there
+
+  -- the same where the element wanted is number k, and i have been passed
+  pub element-turn : (e : ElementValues) (next : ListCursor) (k i : ℕ) (a : Answer ElementValues) → i < k → answered (record { element = e; next = next }) ≡ step c
+      → element_by step (k - i) c ≡ a → element_by step (k - (i + 1)) next ≡ a
+  element-turn e next k i a more e_step there =
+      let f : k - (i + 1) ≡ k - i - 1 = omega arith in
+      rw f (element-on e next (k - i) a (omega (arith, more)) e_step there)
 
 abbrev flag : Answer ElementValues → ℕ
 flag (answered e) = 1

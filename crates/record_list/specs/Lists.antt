@@ -1,6 +1,5 @@
 -- Document 01, "Layouts": where a list starts, one element at a time, and element k, for the lists of both streams.
-use Rattle.std.specs.Prelude.{ℕ, zero, suc, ◌-◌, Bool, true, false, List, [], ◌∷◌, length, leb, eqb}
-use Rattle.std.proofs.Math.Option.{Option, none, some}
+use Rattle.std.specs.Prelude.{Option, None, Some, ℕ, zero, suc, ◌-◌, Bool, true, false, List, [], ◌∷◌, length, leb, eqb}
 use Rattle.answer.specs.Answer.{Answer, answered, refused, pick, stop, then, and_then}
 use Rattle.answer.specs.Tables.{find}
 use Rattle.field.specs.Fields.{fixed_at}
@@ -46,8 +45,8 @@ counted_by fs leaf s p =
     answered (in_counted leaf (string_in (nth 1 vs)).place (number_in (nth 0 vs))))
 
 abbrev pub by_line : Option Layout → ℕ → List ℕ → ℕ → Answer ListCursor
-by_line none leaf s p = refused 10 (leaf ∷ [])
-by_line (some fs) leaf s p = counted_by fs leaf s p
+by_line None leaf s p = refused 10 (leaf ∷ [])
+by_line (Some fs) leaf s p = counted_by fs leaf s p
 
 -- by the leaf's line of the table
 unfoldable pub counted_list : Table → ℕ → List ℕ → ℕ → Answer ListCursor

@@ -1,9 +1,9 @@
 -- Examples of members, computed on the definitions that the contracts cite.
+use Rattle.std.specs.Prelude.{None, Some}
 use Prim.Native.Nat.{ℕ}
 use mathlib.Core.Bool.{false}
 use mathlib.Core.Path.{◌≡◌, refl}
 use mathlib.Core.List.{[], ◌∷◌}
-use mathlib.Core.Option.{none, some}
 use lib.IntN.{pos, negsuc}
 use Rattle.answer.specs.Answer.{refused, got}
 use Rattle.answer.specs.Tables.{find, among}
@@ -63,7 +63,7 @@ without-offset = refl
 
 -- the name of an enumerator is given, that of a method is not
 pub names :
-    (member_name (number 0x1502 ∷ number 3 ∷ numeral (pos 2) (in_its_shortest 2) ∷ many (record { place = 7; length = 1 }) ∷ []) ≡ some (record { place = 7; length = 1 }))
-    × (member_name (number 0x1511 ∷ number 3 ∷ number 0x1000 ∷ absent ∷ many (record { place = 7; length = 1 }) ∷ []) ≡ none)
+    (member_name (number 0x1502 ∷ number 3 ∷ numeral (pos 2) (in_its_shortest 2) ∷ many (record { place = 7; length = 1 }) ∷ []) ≡ Some (record { place = 7; length = 1 }))
+    × (member_name (number 0x1511 ∷ number 3 ∷ number 0x1000 ∷ absent ∷ many (record { place = 7; length = 1 }) ∷ []) ≡ None)
 unfolding member_name among named_leaves string_among
 names = (refl, refl)

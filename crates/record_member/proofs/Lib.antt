@@ -1,4 +1,2 @@
 pub mod OneOutcome
 pub mod Examples
-pub mod SaidLaws
-pub mod Used

@@ -1,32 +1,20 @@
 -- What a member and a method of a list say: the leaf of the member, and the values of its layout in the layout's order. To be read against
 -- the table member_leaves of record_layout/specs/Layouts.antt.
-use Rattle.std.specs.Prelude.{ℕ, Bool, List, [], ◌∷◌}
-use Rattle.std.proofs.Math.Option.{Option, none, some}
-use Rattle.answer.specs.Answer.{Read, got, ended, pick}
-use Rattle.answer.specs.Refusals.{no}
+use Rattle.std.specs.Prelude.{Option, None, Some, ℕ, Bool, List, [], ◌∷◌}
+use Rattle.answer.specs.Answer.{pick}
 use Rattle.answer.specs.Tables.{among}
 use Rattle.field_text.specs.Texts.{Part, part}
 use Rattle.record_layout.specs.Fields.{number, numeral, absent, many, number_or, or_absent, Shown}
 use Rattle.record_layout.specs.Values.{variant_value, size_value}
-use Rattle.record_member.specs.declared.OptOffset.{OptOffset}
-use Rattle.record_member.specs.declared.OptOffset.TheVariants as offset
-use Rattle.record_member.specs.declared.ReadOffset.{ReadOffset}
-use Rattle.record_member.specs.declared.ReadOffset.TheVariants as roffset
 use Rattle.record_member.specs.declared.Member.{Member}
 use Rattle.record_member.specs.declared.Member.TheVariants as a
-use Rattle.record_member.specs.declared.ReadMember.{ReadMember}
-use Rattle.record_member.specs.declared.ReadMember.TheVariants as rmember
 use Rattle.record_member.specs.declared.MethodListEntry.{MethodListEntry}
-use Rattle.record_member.specs.declared.ReadMethodEntry.{ReadMethodEntry}
-use Rattle.record_member.specs.declared.ReadMethodEntry.TheVariants as rentry
 
-abbrev pub offset_option : OptOffset → Option ℕ
-offset_option offset.None = none
-offset_option (offset.Some n) = some n
+abbrev pub offset_option : Option ℕ → Option ℕ
+offset_option o = o
 
-abbrev pub said_offset : ReadOffset → Read Shown
-said_offset (roffset.Got o p) = got (or_absent (offset_option o)) p
-said_offset roffset.Ended = ended
+abbrev pub offset_value : Option ℕ → Shown
+offset_value o = or_absent (offset_option o)
 
 -- a virtual base class is direct or indirect
 abbrev pub virtual_leaf : Bool → ℕ
@@ -49,16 +37,8 @@ member_values (a.Method m) =
     number 0x1511 ∷ number m.attributes.0 ∷ number m.method_type.0 ∷ or_absent (offset_option m.vtable_offset)
     ∷ many (part m.name) ∷ []
 
-abbrev pub said_member : ReadMember → Read (List Shown)
-said_member (rmember.Got m p) = got (member_values m) p
-said_member (rmember.Refused e) = no e
-
 abbrev pub entry_values : MethodListEntry → List Shown
 entry_values m = number m.attributes.0 ∷ absent ∷ number m.method_type.0 ∷ or_absent (offset_option m.vtable_offset) ∷ []
-
-abbrev pub said_entry : ReadMethodEntry → Read (List Shown)
-said_entry (rentry.Got m p) = got (entry_values m) p
-said_entry rentry.Ended = ended
 
 -- Names ------------------------------------------------------------------------------------------------------------------------
 
@@ -73,11 +53,11 @@ named_leaves = 0x1502 ∷ 0x150d ∷ 0x150e ∷ 0x150f ∷ 0x1510 ∷ []
 
 -- the first string among the values
 unfoldable pub string_among : List Shown → Option Part
-string_among [] = none
-string_among (many x ∷ vs) = some x
+string_among [] = None
+string_among (many x ∷ vs) = Some x
 string_among (number n ∷ vs) = string_among vs
 string_among (numeral z f ∷ vs) = string_among vs
 string_among (absent ∷ vs) = string_among vs
 
 unfoldable pub member_name : List Shown → Option Part
-member_name vs = pick (among (member_leaf vs) named_leaves) (string_among vs) none
+member_name vs = pick (among (member_leaf vs) named_leaves) (string_among vs) None

@@ -1,22 +1,24 @@
 -- What an entry's answer says fixes the answer. Assumes nothing.
+use Rattle.record_parse.specs.declared.EntryData.TheVariants as entry_data
+use Rattle.std.specs.Prelude.{Result, Ok, Err}
+use Rattle.record_parse.specs.declared.EntryData.{EntryData}
+use Rattle.answer.specs.declared.Refusal.{Refusal}
 use mathlib.Core.Path.{◌≡◌, refl, ap}
 use Rattle.answer.proofs.OneOutcome.{one_of, heard, heard-no}
 use Rattle.record_data.proofs.OneOutcome.{data_in, data-back}
 use Rattle.record_id.proofs.OneOutcome.{id_in, id-data-back}
 use Rattle.record_parse.specs.Record.{Parsed, primitive, type, id, said_parse}
-use Rattle.record_parse.specs.declared.ParseAnswer.{ParseAnswer}
-use Rattle.record_parse.specs.declared.ParseAnswer.TheVariants as parsed
 
-abbrev hear : Parsed → ParseAnswer
-hear (primitive p) = parsed.Primitive p
-hear (type vs) = parsed.Type (data_in vs)
-hear (id vs) = parsed.Id (id_in vs)
+abbrev hear : Parsed → Result EntryData Refusal
+hear (primitive p) = Ok (entry_data.Primitive p)
+hear (type vs) = Ok (entry_data.Type (data_in vs))
+hear (id vs) = Ok (entry_data.Id (id_in vs))
 
-back : (r : ParseAnswer) → heard hear parsed.Refused (said_parse r) ≡ r
-back (parsed.Primitive p) = refl
-back (parsed.Type d) = ap parsed.Type (data-back d)
-back (parsed.Id d) = ap parsed.Id (id-data-back d)
-back (parsed.Refused e) = heard-no hear parsed.Refused e
+back : (r : Result EntryData Refusal) → heard hear Err (said_parse r) ≡ r
+back (Ok (entry_data.Primitive p)) = refl
+back (Ok (entry_data.Type d)) = ap (λ x. Ok (entry_data.Type x)) (data-back d)
+back (Ok (entry_data.Id d)) = ap (λ x. Ok (entry_data.Id x)) (id-data-back d)
+back (Err e) = heard-no hear Err e
 
-pub one-parse : (r q : ParseAnswer) → said_parse r ≡ said_parse q → r ≡ q
-one-parse = one_of said_parse (heard hear parsed.Refused) back
+pub one-parse : (r q : Result EntryData Refusal) → said_parse r ≡ said_parse q → r ≡ q
+one-parse = one_of said_parse (heard hear Err) back

@@ -1,5 +1,8 @@
 -- Document 01, "Indices and primitives": what an entry of a stream says.
-use Rattle.std.specs.Prelude.{ℕ, ◌+◌, List, [], ◌∷◌, length, take, drop, ltb}
+use Rattle.record_parse.specs.declared.EntryData.TheVariants as entry_data
+use Rattle.std.specs.Prelude.{Result, Ok, Err, ℕ, ◌+◌, List, [], ◌∷◌, length, take, drop, ltb}
+use Rattle.record_parse.specs.declared.EntryData.{EntryData}
+use Rattle.answer.specs.declared.Refusal.{Refusal}
 use Rattle.answer.specs.Answer.{Answer, answered, refused, pick, stop, then}
 use Rattle.answer.specs.Refusals.{no}
 use Rattle.word_primitive.specs.Primitive.{primitive_of}
@@ -13,8 +16,6 @@ use Rattle.field.specs.declared.index.ItemIndex.{ItemIndex}
 use Rattle.field.specs.declared.index.ItemIndex.TheVariants as index
 use Rattle.stream_item.specs.declared.Entry.{Entry}
 use Rattle.stream_item.specs.declared.Entry.TheVariants as entry
-use Rattle.record_parse.specs.declared.ParseAnswer.{ParseAnswer}
-use Rattle.record_parse.specs.declared.ParseAnswer.TheVariants as parsed
 
 -- a primitive, or the leaf and the values of a type record or of an id record
 pub data Parsed : Type 0 where
@@ -61,8 +62,8 @@ unfoldable pub parse_of : List ℕ → List ℕ → Entry → Answer Parsed
 parse_of t s e = short_of t s (entry_of t s e)
 
 -- what the answer says
-abbrev pub said_parse : ParseAnswer → Answer Parsed
-said_parse (parsed.Primitive p) = answered (primitive p)
-said_parse (parsed.Type d) = answered (type (type_values d))
-said_parse (parsed.Id d) = answered (id (id_values d))
-said_parse (parsed.Refused e) = no e
+abbrev pub said_parse : Result EntryData Refusal → Answer Parsed
+said_parse (Ok (entry_data.Primitive p)) = answered (primitive p)
+said_parse (Ok (entry_data.Type d)) = answered (type (type_values d))
+said_parse (Ok (entry_data.Id d)) = answered (id (id_values d))
+said_parse (Err e) = no e

@@ -7,48 +7,46 @@ ghost use Rattle.record_parse.specs.Record.{numbered_of, type_bytes, id_bytes, t
 
 use answer::Refusal;
 use field::index::{ItemIndex, TypeIndex};
-use record_data::{TypeAnswer, TypeData};
-use record_id::{IdAnswer, IdData};
+use record_data::TypeData;
+use record_id::IdData;
 use stream_header::LONGEST;
 use stream_item::Entry;
-use word_primitive::{PrimitiveAnswer, PrimitiveType};
+use word_primitive::PrimitiveType;
 
+// The data of an entry.
 #[derive(Clone, Copy)]
-pub enum ParseAnswer {
+pub enum EntryData {
     Primitive(PrimitiveType),
     Type(TypeData),
     Id(IdData),
-    Refused(Refusal),
 }
 
-fn numbered(i: TypeIndex) -> ParseAnswer
+fn numbered(i: TypeIndex) -> Result<EntryData, Refusal>
     ensures { said_parse result ≡ numbered_of i.0 }
 {
-    match word_primitive::primitive(i) {
-        PrimitiveAnswer::Answered(p) => ParseAnswer::Primitive(p),
-        PrimitiveAnswer::Refused(e) => ParseAnswer::Refused(e),
-    }
+    let p = word_primitive::primitive(i)?;
+    Ok(EntryData::Primitive(p))
 }
 
-fn type_marker(i: TypeIndex) -> ParseAnswer
+fn type_marker(i: TypeIndex) -> Result<EntryData, Refusal>
     ensures { said_parse result ≡ type_marker i.0 }
 {
     if i.0 < 0x1000 {
         return numbered(i);
     }
-    ParseAnswer::Refused(Refusal::LeafUnknown(0xffff))
+    Err(Refusal::LeafUnknown(0xffff))
 }
 
 // The entry's data, from the stream that it names. Each answer is returned where it is found: an answer is large, and branches that meet
 // would copy it.
-pub fn parse(tpi: &[u8], ipi: &[u8], entry: Entry) -> ParseAnswer
+pub fn parse(tpi: &[u8], ipi: &[u8], entry: Entry) -> Result<EntryData, Refusal>
     ensures { said_parse result ≡ parse_of tpi.now ipi.now entry }
 {
     if tpi.len() > LONGEST {
-        return ParseAnswer::Refused(Refusal::TooLong);
+        return Err(Refusal::TooLong);
     }
     if ipi.len() > LONGEST {
-        return ParseAnswer::Refused(Refusal::TooLong);
+        return Err(Refusal::TooLong);
     }
     match entry {
         Entry::Record(item) => {
@@ -62,37 +60,25 @@ pub fn parse(tpi: &[u8], ipi: &[u8], entry: Entry) -> ParseAnswer
                         return answer;
                     }
                     if place > tpi.len() {
-                        return ParseAnswer::Refused(Refusal::Ended);
+                        return Err(Refusal::Ended);
                     }
                     if length > tpi.len() - place {
-                        return ParseAnswer::Refused(Refusal::Ended);
+                        return Err(Refusal::Ended);
                     }
                     let end = place + length;
-                    match record_data::type_data(&tpi[place..end]) {
-                        TypeAnswer::Answered(d) => {
-                            return ParseAnswer::Type(d);
-                        }
-                        TypeAnswer::Refused(e) => {
-                            return ParseAnswer::Refused(e);
-                        }
-                    }
+                    let d = record_data::type_data(&tpi[place..end])?;
+                    return Ok(EntryData::Type(d));
                 }
                 ItemIndex::Ids(_) => {
                     if place > ipi.len() {
-                        return ParseAnswer::Refused(Refusal::Ended);
+                        return Err(Refusal::Ended);
                     }
                     if length > ipi.len() - place {
-                        return ParseAnswer::Refused(Refusal::Ended);
+                        return Err(Refusal::Ended);
                     }
                     let end = place + length;
-                    match record_id::id_data(&ipi[place..end]) {
-                        IdAnswer::Answered(d) => {
-                            return ParseAnswer::Id(d);
-                        }
-                        IdAnswer::Refused(e) => {
-                            return ParseAnswer::Refused(e);
-                        }
-                    }
+                    let d = record_id::id_data(&ipi[place..end])?;
+                    return Ok(EntryData::Id(d));
                 }
             }
         }
@@ -102,7 +88,7 @@ pub fn parse(tpi: &[u8], ipi: &[u8], entry: Entry) -> ParseAnswer
                 return answer;
             }
             ItemIndex::Ids(_) => {
-                return ParseAnswer::Refused(Refusal::LeafUnknown(0xffff));
+                return Err(Refusal::LeafUnknown(0xffff));
             }
         },
     }

@@ -4,4 +4,3 @@ pub mod DecodedLaws
 pub mod OwnLaws
 pub mod OneOutcome
 pub mod Examples
-pub mod Used

@@ -1,11 +1,11 @@
 -- Reading goes on and stays inside: whatever is read at p ends at p or behind it, and not past the end. So each step of a list goes on. Assumes
 -- nothing.
+use Rattle.std.specs.Prelude.{Option, None, Some}
 use Prim.Native.Nat.{ℕ, zero, suc, ◌+◌, ◌-◌, ◌≤◌, ◌<◌}
 use native.Mathlib.Omega.{arith}
 use mathlib.Core.Bool.{Bool, true, false}
 use mathlib.Core.Path.{◌≡◌, refl}
 use mathlib.Core.List.{List, [], ◌∷◌}
-use mathlib.Core.Option.{Option, none, some}
 use lib.ListN.{length, drop, length-drop}
 use lib.Dec.{leb, ltb, eqb}
 use lib.IntN.{ℤ, pos, negsuc}
@@ -27,10 +27,10 @@ abbrev pub Onward : {A : Type 0} → List ℕ → ℕ → Read A → Type 0
 Onward s p (answered g) = (p ≤ g.next) × (g.next ≤ length s)
 Onward s p (refused n d) = Unit
 
-none-some : {X : Type 0} {n : ℕ} → ◌≡◌ {A = Option ℕ} none (some n) → X
+none-some : {X : Type 0} {n : ℕ} → ◌≡◌ {A = Option ℕ} None (Some n) → X
 none-some {X} {n} h = let z : ◌≡◌ {A = ℕ} 0 1 = cc in absurd (omega arith)
 
-zero-inside : (xs : List ℕ) (m n : ℕ) → to_zero xs m ≡ some n → n < m + length xs
+zero-inside : (xs : List ℕ) (m n : ℕ) → to_zero xs m ≡ Some n → n < m + length xs
 unfolding to_zero
 zero-inside [] m n h = none-some h
 zero-inside (zero ∷ xs) m n h = let e : m ≡ n = cc in omega arith
@@ -82,9 +82,9 @@ module _ (s : List ℕ) where
 
   wide-on : (o : Option Wide) (p : ℕ) → Onward s p (wide_at o s p)
   unfolding signed_at unsigned_at
-  wide-on none p = tt
-  wide-on (some (signed k)) p = number-on k p _ (λ n q l h. (l, h))
-  wide-on (some (unsigned k)) p = number-on k p _ (λ n q l h. (l, h))
+  wide-on None p = tt
+  wide-on (Some (signed k)) p = number-on k p _ (λ n q l h. (l, h))
+  wide-on (Some (unsigned k)) p = number-on k p _ (λ n q l h. (l, h))
 
   numeric-on : (p : ℕ) → Onward s p (numeric_at s p)
   unfolding numeric_at
@@ -107,8 +107,8 @@ module _ (s : List ℕ) where
   string-on p = go (to_zero (drop p s) 0) refl
     where
       go : (o : Option ℕ) → to_zero (drop p s) 0 ≡ o → Onward s p (part_or o p)
-      go none e = tt
-      go (some n) e = (omega arith, omega (arith, zero-inside (drop p s) 0 n e, length-drop p s))
+      go None e = tt
+      go (Some n) e = (omega arith, omega (arith, zero-inside (drop p s) 0 n e, length-drop p s))
 
   pub padding-on : (p : ℕ) → Between p (length s) (padding_after s p)
   unfolding padding_after
@@ -182,8 +182,8 @@ module _ (s : List ℕ) where
   record-on table p = made-on 2 p _ (λ leaf q i h. go (find leaf table) leaf q i h)
     where
       go : (o : Option Layout) (leaf q : ℕ) → p + 2 ≤ q → q ≤ length s → Onward s (p + 2) (by_layout o leaf s q)
-      go none leaf q i h = tt
-      go (some fs) leaf q i h = after (p + 2) (read_fields fs 0 s q) _ (sooner (p + 2) q (read_fields fs 0 s q) i (fields-on fs 0 q h)) (λ vs e j k. (j, k))
+      go None leaf q i h = tt
+      go (Some fs) leaf q i h = after (p + 2) (read_fields fs 0 s q) _ (sooner (p + 2) q (read_fields fs 0 s q) i (fields-on fs 0 q h)) (λ vs e j k. (j, k))
 
 -- Each step of a list ----------------------------------------------------------------------------------------------------------------
 

@@ -1,11 +1,11 @@
 -- The references from the values are those of the bytes, for every layout in which nothing refers behind a field of no fixed width, and
 -- every layout of the tables is so. Assumes nothing.
+use Rattle.std.specs.Prelude.{Option, None, Some}
 use Prim.Native.Nat.{ℕ, ◌+◌, ◌-◌}
 use native.Mathlib.Omega.{arith}
 use mathlib.Core.Bool.{Bool, true, false}
 use mathlib.Core.Path.{◌≡◌, refl, ap, sym, ◌∙◌}
 use mathlib.Core.List.{List, [], ◌∷◌, ◌++◌}
-use mathlib.Core.Option.{Option, none, some}
 use lib.ListN.{length}
 use lib.Dec.{leb, eqb}
 use borrow.Author.Tests.{eqb-true}
@@ -60,8 +60,8 @@ bare-none (f ∷ fs) [] p h = refl
 bare-none (f ∷ fs) (v ∷ vs) p h = go (refers f) refl h (λ q g. bare-none fs vs q g)
   where
     on : (o : Option ℕ) → ((q : ℕ) → refs_in fs vs q ≡ []) → on_by o (refs_in fs vs) p ≡ []
-    on none i = refl
-    on (some k) i = i (p + k)
+    on None i = refl
+    on (Some k) i = i (p + k)
 
     go : (b : Bool) → refers f ≡ b → pick b false (none_refers fs) ≡ true → ((q : ℕ) → none_refers fs ≡ true → refs_in fs vs q ≡ []) → refs_field f p v ++ on_by (width_of f) (refs_in fs vs) p ≡ []
     go true e g ih = true-false (sym g)
@@ -87,8 +87,8 @@ fixed-ends k s p f h = ends-then (p + k) (fixed_at k s p) f (go (leb (p + k) (le
 
 -- a field of a fixed width ends behind it
 abbrev EndsBy : {A : Type 0} → Option ℕ → ℕ → Read A → Type 0
-EndsBy none p a = Unit
-EndsBy (some k) p a = Ends (p + k) a
+EndsBy None p a = Unit
+EndsBy (Some k) p a = Ends (p + k) a
 
 width-ends : (f : Field) (w : ℕ) (s : List ℕ) (p : ℕ) → EndsBy (width_of f) p (read_field f w s p)
 unfolding read_field_by optional_at
@@ -121,8 +121,8 @@ fields-tell (f ∷ fs) w s p h =
     go (read_field f w s p) (width-ends f w s p) (λ v q. fields-tell fs (word_after f v w) s q (second-of (or_bare (width_of f) fs) (fixed_first fs) h))
   where
     on : (o : Option ℕ) (v : Shown) (q : ℕ) (vs : List Shown) → or_bare o fs ≡ true → EndsBy {A = Shown} o p (got v q) → refs_in fs vs q ≡ on_by o (refs_in fs vs) p
-    on none v q vs b e = bare-none fs vs q b
-    on (some k) v q vs b e = ap (refs_in fs vs) e
+    on None v q vs b e = bare-none fs vs q b
+    on (Some k) v q vs b e = ap (refs_in fs vs) e
 
     rest : (v : Shown) (q : ℕ) → EndsBy {A = Shown} (width_of f) p (got v q) → (a : Read (List Shown))
         → and_then (and_then a (λ vs e. got (refs_in fs vs q) e)) (λ rs e. got (refs_field f p v ++ rs) e)
@@ -146,12 +146,12 @@ pub members-fixed : all_fixed member_leaves ≡ true
 unfolding member_leaves
 members-fixed = refl
 
-found : (table : Table) (leaf : ℕ) (fs : Layout) → all_fixed table ≡ true → find leaf table ≡ some fs → fixed_first fs ≡ true
+found : (table : Table) (leaf : ℕ) (fs : Layout) → all_fixed table ≡ true → find leaf table ≡ Some fs → fixed_first fs ≡ true
 unfolding find
 found [] leaf fs a e = let z : ◌≡◌ {A = ℕ} 0 1 = cc in absurd (omega arith)
 found ((n is gs) ∷ ls) leaf fs a e = go (eqb leaf n) e (found ls leaf fs (second-of (fixed_first gs) (all_fixed ls) a))
   where
-    go : (b : Bool) → pick b (some gs) (find leaf ls) ≡ some fs → (find leaf ls ≡ some fs → fixed_first fs ≡ true) → fixed_first fs ≡ true
+    go : (b : Bool) → pick b (Some gs) (find leaf ls) ≡ Some fs → (find leaf ls ≡ Some fs → fixed_first fs ≡ true) → fixed_first fs ≡ true
     go true f ih = let g : gs ≡ fs = cc in rw g at (first_of (fixed_first gs) (all_fixed ls) a)
     go false f ih = ih f
 
@@ -160,14 +160,14 @@ module _ (table : Table) (fixed : all_fixed table ≡ true) (s : List ℕ) where
   unfolding refs_leaf read_leaf refs_by
   leaf-tell leaf p = go (find leaf table) refl
     where
-      by : (fs : Layout) → find leaf table ≡ some fs → (a : Read (List Shown))
+      by : (fs : Layout) → find leaf table ≡ Some fs → (a : Read (List Shown))
           → and_then a (λ vs e. got (refs_in fs vs p) e) ≡ and_then (and_then a (λ vs e. got (number leaf ∷ vs) e)) (λ vs e. got (in_layout (find (member_leaf vs) table) (behind vs) p) e)
       by fs e (answered g) = rw e
       by fs e (refused n d) = refl
 
       go : (o : Option Layout) → find leaf table ≡ o → by_refs o leaf s p ≡ and_then (by_layout o leaf s p) (λ vs e. got (in_layout (find (member_leaf vs) table) (behind vs) p) e)
-      go none e = refl
-      go (some fs) e = fields-tell fs 0 s p (found table leaf fs fixed e) ∙ by fs e (read_fields fs 0 s p)
+      go None e = refl
+      go (Some fs) e = fields-tell fs 0 s p (found table leaf fs fixed e) ∙ by fs e (read_fields fs 0 s p)
 
   pub record-tell : (p : ℕ) → refs_record table s p ≡ and_then (read_record table s p) (λ vs e. got (refs_by table vs (p + 2)) e)
   unfolding refs_record read_record fixed_at

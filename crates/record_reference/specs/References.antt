@@ -1,7 +1,6 @@
 -- R-9 and R-13 of document 02: the type references of a type record's payload, over the layout table: place, whether optional, index. One
 -- definition for every leaf, list element and member; it refuses exactly where the record or one of its elements is refused, 15 apart.
-use Rattle.std.specs.Prelude.{ℕ, zero, suc, Bool, true, false, List, [], ◌∷◌, ◌++◌, length, eqb}
-use Rattle.std.proofs.Math.Option.{Option, none, some}
+use Rattle.std.specs.Prelude.{Option, None, Some, ℕ, zero, suc, Bool, true, false, List, [], ◌∷◌, ◌++◌, length, eqb}
 use Rattle.answer.specs.Answer.{Answer, answered, refused, Read, Got, got, pick, then, and_then}
 use Rattle.answer.specs.Tables.{find}
 use Rattle.field.specs.Fields.{fixed_at}
@@ -53,8 +52,8 @@ refs_fields (f ∷ fs) w s p =
     got (refs_field f p v ++ rs) e))
 
 abbrev pub by_refs : Option Layout → ℕ → List ℕ → ℕ → Read (List Ref)
-by_refs none leaf s p = refused 10 (leaf ∷ [])
-by_refs (some fs) leaf s p = refs_fields fs 0 s p
+by_refs None leaf s p = refused 10 (leaf ∷ [])
+by_refs (Some fs) leaf s p = refs_fields fs 0 s p
 
 unfoldable pub refs_leaf : Table → ℕ → List ℕ → ℕ → Read (List Ref)
 refs_leaf table leaf s p = by_refs (find leaf table) leaf s p

@@ -1,7 +1,6 @@
 -- The references of what has been read, from the values alone: their places follow from the layout. proofs/ValueLaws.antt has that these are the
 -- references of References.antt.
-use Rattle.std.specs.Prelude.{ℕ, zero, suc, ◌+◌, Bool, true, false, List, [], ◌∷◌, ◌++◌, length, leb, eqb}
-use Rattle.std.proofs.Math.Option.{Option, none, some}
+use Rattle.std.specs.Prelude.{Option, None, Some, ℕ, zero, suc, ◌+◌, Bool, true, false, List, [], ◌∷◌, ◌++◌, length, leb, eqb}
 use Rattle.answer.specs.Answer.{Answer, answered, refused, pick, both}
 use Rattle.answer.specs.Tables.{◌is◌, find}
 use Rattle.field_text.specs.Texts.{padding_after}
@@ -14,21 +13,21 @@ use Rattle.record_reference.specs.References.{Ref, refs_field}
 
 -- the bytes of a field, where every one takes as many
 abbrev pub width_of : Field → Option ℕ
-width_of (fixed k) = some k
-width_of type = some 4
-width_of id = some 4
-width_of string_reference = some 4
-width_of optional_type = some 4
-width_of optional_id = some 4
-width_of (word k good) = some k
-width_of (gap k) = some k
-width_of numeric = none
-width_of size = none
-width_of string = none
-width_of (run e) = none
-width_of methods = none
-width_of members = none
-width_of (when there f) = none
+width_of (fixed k) = Some k
+width_of type = Some 4
+width_of id = Some 4
+width_of string_reference = Some 4
+width_of optional_type = Some 4
+width_of optional_id = Some 4
+width_of (word k good) = Some k
+width_of (gap k) = Some k
+width_of numeric = None
+width_of size = None
+width_of string = None
+width_of (run e) = None
+width_of methods = None
+width_of members = None
+width_of (when there f) = None
 
 -- may the field refer?
 abbrev pub refers : Field → Bool
@@ -50,8 +49,8 @@ refers members = false
 
 -- the references of the fields from p on that read as these values, up to the first field of no fixed width
 abbrev pub on_by : {A : Type 0} → Option ℕ → (ℕ → List A) → ℕ → List A
-on_by none rest p = []
-on_by (some k) rest p = rest (p + k)
+on_by None rest p = []
+on_by (Some k) rest p = rest (p + k)
 
 unfoldable pub refs_in : Layout → List Shown → ℕ → List Ref
 refs_in [] vs p = []
@@ -64,8 +63,8 @@ none_refers [] = true
 none_refers (f ∷ fs) = pick (refers f) false (none_refers fs)
 
 abbrev pub or_bare : Option ℕ → Layout → Bool
-or_bare none fs = none_refers fs
-or_bare (some k) fs = true
+or_bare None fs = none_refers fs
+or_bare (Some k) fs = true
 
 abbrev pub fixed_first : Layout → Bool
 fixed_first [] = true
@@ -81,8 +80,8 @@ behind [] = []
 behind (v ∷ vs) = vs
 
 abbrev pub in_layout : Option Layout → List Shown → ℕ → List Ref
-in_layout none vs p = []
-in_layout (some fs) vs p = refs_in fs vs p
+in_layout None vs p = []
+in_layout (Some fs) vs p = refs_in fs vs p
 
 unfoldable pub refs_by : Table → List Shown → ℕ → List Ref
 refs_by table vs p = in_layout (find (member_leaf vs) table) (behind vs) p
@@ -95,8 +94,8 @@ slots_in (f ∷ fs) (v ∷ vs) p =
     pick (refers f) (refs_field f p v ∷ on_by (width_of f) (slots_in fs vs) p) (on_by (width_of f) (slots_in fs vs) p)
 
 abbrev pub in_slots : Option Layout → List Shown → ℕ → List (List Ref)
-in_slots none vs p = []
-in_slots (some fs) vs p = slots_in fs vs p
+in_slots None vs p = []
+in_slots (Some fs) vs p = slots_in fs vs p
 
 unfoldable pub slots_by : Table → List Shown → ℕ → List (List Ref)
 slots_by table vs p = in_slots (find (member_leaf vs) table) (behind vs) p

@@ -1,7 +1,7 @@
 // The type references of a record and of a list element, from what the readers gave: document 02, R-9 and R-13. No byte is read twice, and
 // which field refers is said by the table in record_layout/specs/Layouts.antt alone; specs/References.antt has the references of a whole payload.
 // tools/leaves writes the arms of plain records.
-#![tactic(auto, using(crate::proofs::Used::laws), unfolding(answer::specs::Tables::find, record_layout::specs::Layouts::member_leaves, record_layout::specs::Layouts::type_leaves, crate::specs::References::refs_field, crate::specs::Values::element_refs, crate::specs::Values::refs_by, crate::specs::Values::refs_in, crate::specs::Values::slots, crate::specs::Values::slots_by, crate::specs::Values::slots_in))]
+#![tactic(auto, unfolding(answer::specs::Tables::find, record_layout::specs::Layouts::member_leaves, record_layout::specs::Layouts::type_leaves, crate::specs::References::refs_field, crate::specs::Values::element_refs, crate::specs::Values::refs_by, crate::specs::Values::refs_in, crate::specs::Values::slots, crate::specs::Values::slots_by, crate::specs::Values::slots_in))]
 
 ghost use Rattle.std.specs.Prelude.{ℕ, true, ◌∷◌, [], ◌≡◌};
 ghost use Rattle.field.specs.Indices.{type_option};
@@ -14,7 +14,7 @@ ghost use Rattle.record_reference.specs.References.{of_value};
 ghost use Rattle.record_reference.specs.Values.{refs_by, slots_by, slots, element_refs};
 ghost use Rattle.record_reference.specs.Said.{said_reference, said_references, said_of_element};
 
-use field::index::OptTypeIndex;
+use field::index::TypeIndex;
 use record_data::TypeData;
 use record_list::Element;
 use record_member::Member;
@@ -45,12 +45,12 @@ pub enum ElementReferences {
     Two(usize, u32, u32),
 }
 
-fn optional(place: usize, i: OptTypeIndex) -> Reference
+fn optional(place: usize, i: Option<TypeIndex>) -> Reference
     ensures { said_reference result ≡ of_value true place (or_absent (type_option i)) }
 {
     match i {
-        OptTypeIndex::None => Reference::None,
-        OptTypeIndex::Some(t) => Reference::Optional(place, t.0),
+        None => Reference::None,
+        Some(t) => Reference::Optional(place, t.0),
     }
 }
 
@@ -58,7 +58,7 @@ fn alone(first: Reference) -> References
     ensures { said_references result ≡ said_reference first ∷ [] ∷ [] ∷ [] ∷ [] }
 {
     References {
-        first: first,
+        first,
         second: Reference::None,
         third: Reference::None,
         fourth: Reference::None,
@@ -70,50 +70,30 @@ pub fn record_references(d: TypeData) -> References
     ensures { said_references result ≡ slots 4 (slots_by type_leaves (type_values d) 2) }
 {
     match d {
-        TypeData::Class(r) => {
-            let fields = r.fields;
-            let derived_from = r.derived_from;
-            let vtable_shape = r.vtable_shape;
-            let first = optional(6, fields);
-            let second = optional(10, derived_from);
-            let third = optional(14, vtable_shape);
-            References {
-                first: first,
-                second: second,
-                third: third,
-                fourth: Reference::None,
-            }
-        }
-        TypeData::MemberFunction(r) => {
-            let this_pointer_type = r.this_pointer_type;
-            let third = optional(10, this_pointer_type);
-            References {
-                first: Reference::Type(2, r.return_type.0),
-                second: Reference::Type(6, r.class_type.0),
-                third: third,
-                fourth: Reference::Type(18, r.argument_list.0),
-            }
-        }
-        TypeData::Procedure(r) => {
-            let return_type = r.return_type;
-            let first = optional(2, return_type);
-            References {
-                first: first,
-                second: Reference::Type(10, r.argument_list.0),
-                third: Reference::None,
-                fourth: Reference::None,
-            }
-        }
-        TypeData::Pointer(r) => {
-            let containing_class = r.containing_class;
-            let second = optional(10, containing_class);
-            References {
-                first: Reference::Type(2, r.underlying_type.0),
-                second: second,
-                third: Reference::None,
-                fourth: Reference::None,
-            }
-        }
+        TypeData::Class(r) => References {
+            first: optional(6, r.fields),
+            second: optional(10, r.derived_from),
+            third: optional(14, r.vtable_shape),
+            fourth: Reference::None,
+        },
+        TypeData::MemberFunction(r) => References {
+            first: Reference::Type(2, r.return_type.0),
+            second: Reference::Type(6, r.class_type.0),
+            third: optional(10, r.this_pointer_type),
+            fourth: Reference::Type(18, r.argument_list.0),
+        },
+        TypeData::Procedure(r) => References {
+            first: optional(2, r.return_type),
+            second: Reference::Type(10, r.argument_list.0),
+            third: Reference::None,
+            fourth: Reference::None,
+        },
+        TypeData::Pointer(r) => References {
+            first: Reference::Type(2, r.underlying_type.0),
+            second: optional(10, r.containing_class),
+            third: Reference::None,
+            fourth: Reference::None,
+        },
         TypeData::Modifier(r) => alone(Reference::Type(2, r.underlying_type.0)),
         TypeData::Enumeration(r) => References {
             first: Reference::Type(6, r.underlying_type.0),

@@ -1,11 +1,11 @@
 -- The main law: whatever layout, the bytes with their references moved are read to the same values but for the references, which are
 -- renumbered, to the same end, and have the same references, renumbered. Assumes nothing.
+use Rattle.std.specs.Prelude.{None, Some}
 use Prim.Native.Nat.{ℕ, ◌+◌, ◌≤◌}
 use native.Mathlib.Omega.{arith}
 use mathlib.Core.Bool.{Bool, true, false}
 use mathlib.Core.Path.{◌≡◌, refl, ap, sym, subst}
 use mathlib.Core.List.{List, [], ◌∷◌, ◌++◌}
-use mathlib.Core.Option.{none, some}
 use lib.ListN.{length}
 use lib.Dec.{ltb}
 use lib.IntN.{pos}
@@ -86,8 +86,8 @@ module _ (f : ℕ → ℕ) (s : List ℕ) (p : ℕ) where
       (λ n i. go n i (among n no_type) refl))
     where
       go : (n : ℕ) → fixed_at 4 s p ≡ got n q → (b : Bool) → among n no_type ≡ b
-          → Carried f s p (on_number f (or_absent (pick b none (some n)))) (of_value true p (or_absent (pick b none (some n)))) q optional_read
-          (λ t. got (of_value true p (on_number f (or_absent (pick b none (some n))))) q)
+          → Carried f s p (on_number f (or_absent (pick b None (Some n)))) (of_value true p (or_absent (pick b None (Some n)))) q optional_read
+          (λ t. got (of_value true p (on_number f (or_absent (pick b None (Some n))))) q)
       go n i true e =
           let a = fixed-settled 4 s p n q i in
           settled-carried f s p absent q optional_read (record { onward = a.onward; inside = a.inside; alike = λ t l m. rw (a.alike t l m, e) })

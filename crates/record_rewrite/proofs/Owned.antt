@@ -1,8 +1,8 @@
 -- The main law of a record by its leaf's layout: a member of 0x1203, and every type record. Assumes nothing.
+use Rattle.std.specs.Prelude.{Option, None, Some}
 use Prim.Native.Nat.{ℕ, ◌+◌, ◌≤◌}
 use mathlib.Core.Path.{◌≡◌, refl}
 use mathlib.Core.List.{List, [], ◌∷◌}
-use mathlib.Core.Option.{Option, none, some}
 use lib.ListN.{length}
 use Rattle.answer.specs.Answer.{got, and_then}
 use Rattle.answer.specs.Tables.{find}
@@ -26,7 +26,7 @@ module _ (f : ℕ → ℕ) (table : Table) (s : List ℕ) where
   unfolding read_leaf refs_leaf moved_record
   leaf-owned leaf p vs e l h = go (find leaf table) refl h
     where
-      with-leaf : (fs : Layout) → find leaf table ≡ some fs → (us : List Shown) (d : ℕ) → read_fields fs 0 s p ≡ got us d
+      with-leaf : (fs : Layout) → find leaf table ≡ Some fs → (us : List Shown) (d : ℕ) → read_fields fs 0 s p ≡ got us d
           → Owned f s 0 p (moved_by f (find leaf table) (number leaf ∷ us)) d (λ t. by_layout (find leaf table) leaf t p) (λ t. by_refs (find leaf table) leaf t p)
       with-leaf fs i us d g =
           let o = fields-carried f s fs 0 p us d l g in
@@ -39,8 +39,8 @@ module _ (f : ℕ → ℕ) (table : Table) (s : List ℕ) where
 
       go : (o : Option Layout) → find leaf table ≡ o → by_layout o leaf s p ≡ got vs e
           → Owned f s 0 p (moved_by f (find (member_leaf vs) table) vs) e (λ t. by_layout (find leaf table) leaf t p) (λ t. by_refs (find leaf table) leaf t p)
-      go none i g = no_answer g
-      go (some fs) i g =
+      go None i g = no_answer g
+      go (Some fs) i g =
           let u = from (read_fields fs 0 s p) (λ us d. got (number leaf ∷ us) d) _ g in
           to u.value u.place u.was vs e (same-value (number leaf ∷ u.value) vs u.place e u.gives) (same_place (number leaf ∷ u.value) vs u.place e u.gives)
         where

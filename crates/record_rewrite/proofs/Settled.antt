@@ -1,11 +1,11 @@
 -- Reading is settled by the bytes from where it starts to where it ends: any other bytes that agree there are read alike. Each reader of a
 -- number, a string or padding. Assumes nothing.
+use Rattle.std.specs.Prelude.{Option, None, Some}
 use Prim.Native.Nat.{ℕ, zero, suc, ◌+◌, ◌-◌, ◌≤◌, ◌<◌}
 use native.Mathlib.Omega.{arith}
 use mathlib.Core.Bool.{Bool, true, false}
 use mathlib.Core.Path.{◌≡◌, refl, sym, ◌∙◌}
 use mathlib.Core.List.{List, [], ◌∷◌}
-use mathlib.Core.Option.{Option, none, some}
 use lib.ListN.{length, get_or, drop, length-drop}
 use lib.Seq.{get_or-drop}
 use lib.Dec.{leb, ltb}
@@ -89,9 +89,9 @@ unfolding signed_at
 signed-settled k s p z q h = settled-map s p (λ t. fixed_at k t p) (λ x e. twos k x) z q (fixed-settled k s p) h
 
 wide-settled : (o : Option Wide) (s : List ℕ) (p : ℕ) (z : ℤ) (q : ℕ) → wide_at o s p ≡ got z q → Settled s p z q (λ t. wide_at o t p)
-wide-settled none s p z q h = no_answer h
-wide-settled (some (signed k)) s p z q h = signed-settled k s p z q h
-wide-settled (some (unsigned k)) s p z q h = unsigned-settled k s p z q h
+wide-settled None s p z q h = no_answer h
+wide-settled (Some (signed k)) s p z q h = signed-settled k s p z q h
+wide-settled (Some (unsigned k)) s p z q h = unsigned-settled k s p z q h
 
 pub numeric-settled : (s : List ℕ) (p : ℕ) (z : ℤ) (q : ℕ) → numeric_at s p ≡ got z q → Settled s p z q (λ t. numeric_at t p)
 unfolding numeric_at
@@ -114,23 +114,23 @@ size-settled s p n q h = settled-from s p (λ t. numeric_at t p) (λ t. natural)
 
 -- Strings and padding -------------------------------------------------------------------------------------------------------------
 
-none-some : {X : Type 0} {n : ℕ} → ◌≡◌ {A = Option ℕ} none (some n) → X
+none-some : {X : Type 0} {n : ℕ} → ◌≡◌ {A = Option ℕ} None (Some n) → X
 none-some {X} {n} h = let z : ◌≡◌ {A = ℕ} 0 1 = cc in absurd (omega arith)
 
 -- the zero byte is the one numbered n, where m bytes stand before these
 record Zero (xs : List ℕ) (m n : ℕ) : Type 0 where
   low : m ≤ n
   high : n < m + length xs
-  alike : (ys : List ℕ) → length ys ≡ length xs → ((i : ℕ) → m + i ≤ n → get_or ys i 0 ≡ get_or xs i 0) → to_zero ys m ≡ some n
+  alike : (ys : List ℕ) → length ys ≡ length xs → ((i : ℕ) → m + i ≤ n → get_or ys i 0 ≡ get_or xs i 0) → to_zero ys m ≡ Some n
 
-zero_settled : (xs : List ℕ) (m n : ℕ) → to_zero xs m ≡ some n → Zero xs m n
+zero_settled : (xs : List ℕ) (m n : ℕ) → to_zero xs m ≡ Some n → Zero xs m n
 unfolding to_zero
 zero_settled [] m n h = none-some h
 zero_settled (zero ∷ xs) m n h =
     let e : m ≡ n = cc in
     record { low = omega arith; high = omega arith; alike = λ ys l a. go ys l (a 0 (omega arith)) }
   where
-    go : (ys : List ℕ) → length ys ≡ suc (length xs) → get_or ys 0 0 ≡ 0 → to_zero ys m ≡ some n
+    go : (ys : List ℕ) → length ys ≡ suc (length xs) → get_or ys 0 0 ≡ 0 → to_zero ys m ≡ Some n
     go [] l a = absurd (omega arith)
     go (zero ∷ ys) l a = h
     go (suc y ∷ ys) l a = absurd (omega arith)
@@ -138,7 +138,7 @@ zero_settled (suc x ∷ xs) m n h =
     let z = zero_settled xs (suc m) n h in
     record { low = omega (arith, z.low); high = omega (arith, z.high); alike = λ ys l a. go z ys l (a 0 (omega (arith, z.low))) (λ i b. a (suc i) (omega arith)) }
   where
-    go : Zero xs (suc m) n → (ys : List ℕ) → length ys ≡ suc (length xs) → get_or ys 0 0 ≡ suc x → ((i : ℕ) → suc m + i ≤ n → get_or ys (suc i) 0 ≡ get_or xs i 0) → to_zero ys m ≡ some n
+    go : Zero xs (suc m) n → (ys : List ℕ) → length ys ≡ suc (length xs) → get_or ys 0 0 ≡ suc x → ((i : ℕ) → suc m + i ≤ n → get_or ys (suc i) 0 ≡ get_or xs i 0) → to_zero ys m ≡ Some n
     go z [] l a b = absurd (omega arith)
     go z (zero ∷ ys) l a b = absurd (omega arith)
     go z (suc y ∷ ys) l a b = z.alike ys (omega arith) b
@@ -148,8 +148,8 @@ unfolding string_at
 string-settled s p x q h = go (to_zero (drop p s) 0) refl h
   where
     go : (o : Option ℕ) → to_zero (drop p s) 0 ≡ o → part_or o p ≡ got x q → Settled s p x q (λ t. part_or (to_zero (drop p t) 0) p)
-    go none e g = no_answer g
-    go (some n) e g =
+    go None e g = no_answer g
+    go (Some n) e g =
         let z = zero_settled (drop p s) 0 n e in
         let k = same_place (record { place = p; length = n }) x (p + n + 1) q g in
         record {
@@ -157,7 +157,7 @@ string-settled s p x q h = go (to_zero (drop p s) 0) refl h
           inside = omega (arith, z.high, length-drop p s);
           alike = λ t l a.
               let m : length (drop p t) ≡ length (drop p s) = omega (arith, length-drop p t, length-drop p s) in
-              let f : to_zero (drop p t) 0 ≡ some n = z.alike (drop p t) m (λ i b. get_or-drop p t i 0 ∙ a (p + i) (omega arith) (omega arith) ∙ sym (get_or-drop p s i 0)) in
+              let f : to_zero (drop p t) 0 ≡ Some n = z.alike (drop p t) m (λ i b. get_or-drop p t i 0 ∙ a (p + i) (omega arith) (omega arith) ∙ sym (get_or-drop p s i 0)) in
               rw f g;
         }
 

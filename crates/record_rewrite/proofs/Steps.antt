@@ -1,11 +1,11 @@
 -- The main law of a list's element: a step through moved bytes gives the same element but for its references, and the same next cursor; and
 -- where the list ended it ends. Assumes nothing.
+use Rattle.std.specs.Prelude.{Option, None, Some}
 use Prim.Native.Nat.{ℕ, ◌+◌, ◌-◌, ◌≤◌}
 use native.Mathlib.Omega.{arith}
 use mathlib.Core.Bool.{Bool, true, false}
 use mathlib.Core.Path.{◌≡◌, refl, ap, ◌∙◌}
 use mathlib.Core.List.{List, [], ◌∷◌}
-use mathlib.Core.Option.{Option, none, some}
 use lib.ListN.{length}
 use lib.Dec.{leb, eqb}
 use Rattle.answer.specs.Answer.{Answer, answered, refused, Read, got, pick, stop, then, and_then}
@@ -92,9 +92,9 @@ id-none s p = go (read_field id 0 s p)
     go (refused n d) = refl
 
 same-leaf : (f : ℕ → ℕ) (o : Option Layout) (vs : List Shown) → member_leaf (moved_by f o vs) ≡ member_leaf vs
-same-leaf f none vs = refl
-same-leaf f (some fs) [] = refl
-same-leaf f (some fs) (v ∷ vs) = refl
+same-leaf f None vs = refl
+same-leaf f (Some fs) [] = refl
+same-leaf f (Some fs) (v ∷ vs) = refl
 
 -- `step_of` and `refs_at` over their tests of the leaf
 abbrev step_by : ListCursor → Bool → Bool → Bool → Bool → Bool → List ℕ → Answer Step

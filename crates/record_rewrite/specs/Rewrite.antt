@@ -1,7 +1,6 @@
 -- R-13 of document 02: "references rewritten .. and all other payload bytes kept". The bytes of a payload with each reference's four bytes
 -- replaced, what it asks, and the values that are read from it.
-use Rattle.std.specs.Prelude.{ℕ, ◌+◌, ◌^◌, ◌≤◌, ◌<◌, true, false, ◌⊎◌, ◌≡◌, List, [], ◌∷◌, length, get_or}
-use Rattle.std.proofs.Math.Option.{Option, none, some}
+use Rattle.std.specs.Prelude.{Option, None, Some, ℕ, ◌+◌, ◌^◌, ◌≤◌, ◌<◌, true, false, ◌⊎◌, ◌≡◌, List, [], ◌∷◌, length, get_or}
 use Rattle.answer.specs.Tables.{among, find}
 use Rattle.field.specs.Fields.{little_at}
 use Rattle.field.specs.Bytes.{bytes}
@@ -105,9 +104,9 @@ moved_values f (g ∷ gs) (v ∷ vs) = moved_value f g v ∷ moved_values f gs v
 
 -- of a record: its leaf first, then the fields of the leaf's layout
 abbrev pub moved_by : (ℕ → ℕ) → Option Layout → List Shown → List Shown
-moved_by f none vs = vs
-moved_by f (some fs) [] = []
-moved_by f (some fs) (v ∷ vs) = v ∷ moved_values f fs vs
+moved_by f None vs = vs
+moved_by f (Some fs) [] = []
+moved_by f (Some fs) (v ∷ vs) = v ∷ moved_values f fs vs
 
 unfoldable pub moved_record : (ℕ → ℕ) → Table → List Shown → List Shown
 moved_record f table vs = moved_by f (find (member_leaf vs) table) vs

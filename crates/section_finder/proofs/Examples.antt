@@ -1,4 +1,5 @@
 -- The records of document 01's stream E as a section: a section that meets the premises of its demand 3, and what lookups give there.
+use Rattle.std.specs.Prelude.{Ok, Err}
 use Prim.Native.Nat.{ℕ, ◌≤◌}
 use mathlib.Core.Path.{◌≡◌, refl}
 use mathlib.Core.List.{[], ◌∷◌}
@@ -10,16 +11,13 @@ use Rattle.field.specs.Indices.{index_in}
 use Rattle.stream_item.specs.Links.{link_of, chain, link_at}
 use Rattle.stream_item.specs.Iterator.{next_of}
 use Rattle.field.specs.declared.index.Stream.TheVariants.{Types}
-use Rattle.stream_finder.specs.Finder.{state, update_of, look_of, find_of}
+use Rattle.stream_finder.specs.Finder.{state, update_of, look_of, find_of, holding_in}
 use Rattle.stream_finder.specs.Demand.{none, more}
-use Rattle.stream_finder.specs.Finder.{holding_in}
 use Rattle.stream_item.specs.declared.Entry.TheVariants as entry
 use Rattle.section_item.specs.Sections.{section_start, walk_by, last_of, count_of}
 use Rattle.section_item.proofs.Examples.{section_e}
 use Rattle.stream_index.specs.Walk as index
 use Rattle.stream_index.specs.Walk.{turn_of}
-use Rattle.stream_index.specs.declared.End.TheVariants as end
-use Rattle.stream_index.specs.declared.IndexAnswer.TheVariants as walk
 use Rattle.section_finder.specs.Finders.{section_records, section_create_by, SectionIndexes}
 use Rattle.section_finder.specs.Demand.{SectionPremises}
 
@@ -63,7 +61,7 @@ premises_e d l = record {
 }
 
 -- indexed whole: two turns, then the end; one place is stored. Without its signature it is refused, and the table stays
-pub index_e : SectionIndexes section_e (0 ∷ []) (walk.Answered (record { finder = holding_in (section_records 2) 3 1; cursor = record { stream = Types; at = 26; index = 4098 }; end = end.Done })) (4 ∷ [])
+pub index_e : SectionIndexes section_e (0 ∷ []) (Ok (record { finder = holding_in (section_records 2) 3 1; cursor = record { stream = Types; at = 26; index = 4098 }; end = Ok tt })) (4 ∷ [])
 unfolding section_create_by count_of section_start last_of walk_by turn_of next_of update_of little_at
 index_e = record {
   fresh = state (holding_in (section_records 2) 3 1) (4 ∷ []);
@@ -71,6 +69,6 @@ index_e = record {
   walks = record { turns = 2; led = index.more (index.more index.none refl) refl; ended = refl };
 }
 
-pub index2 : SectionIndexes (2 ∷ 0 ∷ 0 ∷ 0 ∷ []) (7 ∷ []) (walk.Refused refusal.Signature) (7 ∷ [])
+pub index2 : SectionIndexes (2 ∷ 0 ∷ 0 ∷ 0 ∷ []) (7 ∷ []) (Err refusal.Signature) (7 ∷ [])
 unfolding section_create_by count_of section_start little_at
 index2 = (refl, refl)

@@ -1,4 +1,5 @@
 -- The outcomes of `section_start`, a law for each; a walk by its steps; and what the count of a section says. Assumes nothing.
+use Rattle.std.specs.Prelude.{Option, None}
 use Prim.Native.Nat.{ℕ, zero, suc, ◌+◌, ◌-◌, ◌≤◌, ◌<◌}
 use mathlib.Core.Path.{◌≡◌, refl, sym, ap, ◌∙◌}
 use mathlib.Core.Logic.{◌⊎◌, inl, inr}
@@ -11,7 +12,7 @@ use borrow.Author.Tests.{le-ltb, lt-ltb, eq-eqb, ne_eqb, ltb-false, leb-true, eq
 use Rattle.answer.specs.Answer.{Answer, answered, refused, pick, stop, then}
 use Rattle.field.specs.Fields.{little_at}
 use Rattle.stream_header.specs.Header.{longest}
-use Rattle.stream_item.specs.Iterator.{Next, done, yielded, over_record, next_of}
+use Rattle.stream_item.specs.Iterator.{Next, done, yielded, over_record, next_of, next_told}
 use Rattle.stream_item.proofs.LinkLaws.{WholeAt, whole_is}
 use Rattle.stream_item.proofs.NextLaws.{passed, Yields, yields}
 use Rattle.stream_item.specs.declared.Item.{Item}
@@ -101,6 +102,9 @@ module _ (s : List ℕ) (c d : ItemIter) (l : Left s c d) where
 
   pub left-done : next_of s d ≡ answered done → last_of s c ≡ answered d
   left-done h = (stepped (answered done) h).2
+
+  pub left-over : (o : Option (Item × ItemIter)) → answered (next_told o) ≡ next_of s d → o ≡ None → answered d ≡ last_of s c
+  left-over o e n = sym (left-done (sym e ∙ ap (λ x. answered (next_told x)) n))
 
   pub left-refused : (n : ℕ) (x : List ℕ) → next_of s d ≡ refused n x → last_of s c ≡ refused n x
   left-refused n x h = (stepped (refused n x) h).2

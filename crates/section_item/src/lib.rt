@@ -5,18 +5,15 @@
 
 ghost use Rattle.std.specs.Prelude.{◌≡◌, ◌≤◌, length};
 ghost use Rattle.field.specs.Fields.{little_at};
-ghost use Rattle.stream_item.specs.Iterator.{said_iter};
-ghost use Rattle.stream_item.specs.Information.{said_len};
 ghost use Rattle.section_item.specs.Sections.{section_start, last_of, count_of};
+ghost use Rattle.answer.specs.Refusals.{itself, said};
 
 use answer::Refusal;
 use field::fixed;
-use field::fixed::Read32;
 use field::index::Stream;
 use stream_header::LONGEST;
-use stream_item::information::LenAnswer;
 use stream_item::iter;
-use stream_item::iter::{ItemIter, IterAnswer, NextAnswer};
+use stream_item::iter::ItemIter;
 
 // The signature of a section whose records are numbered and laid out as a type stream's are.
 const SIGNATURE: u32 = 4;
@@ -32,27 +29,27 @@ fn signature(s: &[u8]) -> u32
     requires { 4 ≤ length s.now }
     ensures { result ≡ little_at 4 s.now 0 }
 {
-    let Read32::Got(x, _) = fixed::u32_at(s, 0) else {
-        return 0;
-    };
-    x
+    match fixed::u32_at(s, 0) {
+        Ok((x, _)) => x,
+        Err(_) => 0,
+    }
 }
 
 // A fresh iterator over a section: it stands behind the signature, at 0x1000. Types and ids are numbered in one run, and the items carry
 // the type stream's tag.
-pub fn iter(s: &[u8]) -> IterAnswer
-    ensures { said_iter result ≡ section_start s.now }
+pub fn iter(s: &[u8]) -> Result<ItemIter, Refusal>
+    ensures { said itself result ≡ section_start s.now }
 {
     if s.len() > LONGEST {
-        return IterAnswer::Refused(Refusal::TooLong);
+        return Err(Refusal::TooLong);
     }
     if s.len() < 4 {
-        return IterAnswer::Refused(Refusal::Ended);
+        return Err(Refusal::Ended);
     }
     if signature(s) != SIGNATURE {
-        return IterAnswer::Refused(Refusal::Signature);
+        return Err(Refusal::Signature);
     }
-    IterAnswer::Answered(ItemIter {
+    Ok(ItemIter {
         stream: Stream::Types,
         at: START as usize,
         index: FIRST,
@@ -60,34 +57,21 @@ pub fn iter(s: &[u8]) -> IterAnswer
 }
 
 // Where a walk from a cursor ends: behind the last record, or at the first refusal.
-fn last(s: &[u8], c: ItemIter) -> IterAnswer
-    ensures { said_iter result ≡ last_of s.now c }
+fn last(s: &[u8], c: ItemIter) -> Result<ItemIter, Refusal>
+    ensures { said itself result ≡ last_of s.now c }
 {
     let mut d = c;
-    loop {
-        match iter::next(s, d) {
-            NextAnswer::Yielded(_, behind) => {
-                d = behind;
-            }
-            NextAnswer::Done => {
-                return IterAnswer::Answered(d);
-            }
-            NextAnswer::Refused(e) => {
-                return IterAnswer::Refused(e);
-            }
-        }
+    while let Some((_, behind)) = iter::next(s, d)? {
+        d = behind;
     }
+    Ok(d)
 }
 
 // The number of records, by a whole walk: a section has no count of its own.
-pub fn len(s: &[u8]) -> LenAnswer
-    ensures { said_len result ≡ count_of s.now }
+pub fn len(s: &[u8]) -> Result<u32, Refusal>
+    ensures { said itself result ≡ count_of s.now }
 {
-    match iter(s) {
-        IterAnswer::Answered(c) => match last(s, c) {
-            IterAnswer::Answered(d) => LenAnswer::Answered(d.index - FIRST),
-            IterAnswer::Refused(e) => LenAnswer::Refused(e),
-        },
-        IterAnswer::Refused(e) => LenAnswer::Refused(e),
-    }
+    let c = iter(s)?;
+    let d = last(s, c)?;
+    Ok(d.index - FIRST)
 }

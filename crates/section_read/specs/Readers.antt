@@ -1,8 +1,7 @@
 -- R-6 of document 02: "An object file numbers types and ids in one run; each item goes to the reader that takes its leaf." The id reader takes
 -- what stands in its table (`id_leaves` of crates/record_layout), and everything else goes to the type reader, which gives 10 where its own table
 -- has no such leaf. What the readers answer is document 01's: `parse_of` of crates/record_parse, the section being both streams.
-use Rattle.std.specs.Prelude.{ℕ, List, ◌≡◌, ltb}
-use Rattle.std.proofs.Math.Option.{Option, none, some}
+use Rattle.std.specs.Prelude.{Option, None, Some, ℕ, List, ◌≡◌, ltb}
 use Rattle.answer.specs.Answer.{Answer, Read, answered, refused, pick}
 use Rattle.answer.specs.Tables.{find}
 use Rattle.field.specs.Fields.{fixed_at}
@@ -15,8 +14,8 @@ use Rattle.record_layout.specs.Layouts.{Layout, type_leaves, id_leaves}
 use Rattle.record_parse.specs.Record.{Parsed, parse_of}
 
 abbrev pub taken_by : Option Layout → Stream
-taken_by none = Types
-taken_by (some fs) = Ids
+taken_by None = Types
+taken_by (Some fs) = Ids
 
 -- by its line of the id reader's table
 unfoldable pub reader_of : ℕ → Stream
@@ -36,8 +35,8 @@ tag_of s n p = pick (ltb n 0x1000) Types (reader_at s p)
 
 -- so each leaf that a reader takes goes to that reader: no leaf stands in both tables
 pub record EachTaken : Type 0 where
-  pub types : (leaf : ℕ) (fs : Layout) → find leaf type_leaves ≡ some fs → reader_of leaf ≡ Types
-  pub ids : (leaf : ℕ) (fs : Layout) → find leaf id_leaves ≡ some fs → reader_of leaf ≡ Ids
+  pub types : (leaf : ℕ) (fs : Layout) → find leaf type_leaves ≡ Some fs → reader_of leaf ≡ Types
+  pub ids : (leaf : ℕ) (fs : Layout) → find leaf id_leaves ≡ Some fs → reader_of leaf ≡ Ids
 
 -- an entry under the tag of the reader that takes it: one run of numbers, so that the tag it came with says nothing
 abbrev pub sorted_of : List ℕ → Entry → Entry

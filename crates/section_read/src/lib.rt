@@ -4,19 +4,19 @@
 
 ghost use Rattle.std.specs.Prelude.{◌≡◌};
 ghost use Rattle.record_list.specs.Lists.{start_of};
-ghost use Rattle.record_list.specs.Said.{said_start};
 ghost use Rattle.record_parse.specs.Record.{said_parse};
 ghost use Rattle.section_read.specs.Readers.{reader_of, reader_at, tag_of, sorted_of, read_of};
+ghost use Rattle.answer.specs.Refusals.{itself, said};
 
+use answer::Refusal;
 use field::fixed;
-use field::fixed::Read16;
 use field::index::{ItemIndex, Stream};
 use record_layout::{
     LF_BUILDINFO, LF_FUNC_ID, LF_MFUNC_ID, LF_STRING_ID, LF_SUBSTR_LIST, LF_UDT_MOD_SRC_LINE,
     LF_UDT_SRC_LINE,
 };
-use record_list::StartAnswer;
-use record_parse::ParseAnswer;
+use record_list::ListCursor;
+use record_parse::EntryData;
 use stream_item::{Entry, Item};
 
 // The stream whose reader takes a leaf.
@@ -51,7 +51,7 @@ fn reader(leaf: u16) -> Stream
 fn reader_at(s: &[u8], p: usize) -> Stream
     ensures { result ≡ reader_at s.now p }
 {
-    let Read16::Got(leaf, _) = fixed::u16_at(s, p) else {
+    let Ok((leaf, _)) = fixed::u16_at(s, p) else {
         return Stream::Types;
     };
     reader(leaf)
@@ -81,8 +81,8 @@ fn sorted(s: &[u8], entry: Entry) -> Entry
             let named = stream.index(n);
             Entry::Record(Item {
                 index: named,
-                place: place,
-                length: length,
+                place,
+                length,
             })
         }
         Entry::Marker(index) => Entry::Marker(Stream::Types.index(index.number())),
@@ -90,7 +90,7 @@ fn sorted(s: &[u8], entry: Entry) -> Entry
 }
 
 // The entry's data: the section is lent as both streams.
-pub fn parse(s: &[u8], entry: Entry) -> ParseAnswer
+pub fn parse(s: &[u8], entry: Entry) -> Result<EntryData, Refusal>
     ensures { said_parse result ≡ read_of s.now entry }
 {
     let e = sorted(s, entry);
@@ -98,8 +98,8 @@ pub fn parse(s: &[u8], entry: Entry) -> ParseAnswer
 }
 
 // The list of a record, by its bytes, at its first element; `step` and `element_from` of crates/record_list go on from there.
-pub fn start(bytes: &[u8]) -> StartAnswer
-    ensures { said_start result ≡ start_of (reader_at bytes.now 0) bytes.now }
+pub fn start(bytes: &[u8]) -> Result<ListCursor, Refusal>
+    ensures { said itself result ≡ start_of (reader_at bytes.now 0) bytes.now }
 {
     let stream = reader_at(bytes, 0);
     record_list::start(stream, bytes)

@@ -1,4 +1,3 @@
 pub mod StreamLaws
 pub mod MadeProof
 pub mod Examples
-pub mod Used

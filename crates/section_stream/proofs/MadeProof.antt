@@ -1,4 +1,5 @@
 -- The stream that is made of a section: its header is accepted, and what stands behind the signature stands 52 higher. Assumes nothing.
+use Rattle.std.specs.Prelude.{Option, Some, None}
 use Prim.Native.Nat.{ℕ, zero, suc, ◌+◌, ◌-◌, ◌*◌, ◌/◌, ◌%◌, ◌^◌, ◌≤◌, ◌<◌}
 use mathlib.Core.Path.{◌≡◌, refl, sym, ap, ◌∙◌, subst}
 use mathlib.Core.List.{List, [], ◌∷◌, ◌++◌}
@@ -19,8 +20,6 @@ use Rattle.stream_item.proofs.NextLaws.{passed, iter-is}
 use Rattle.field.specs.declared.index.ItemIndex.{ItemIndex}
 use Rattle.field.specs.declared.index.Stream.TheVariants.{Types}
 use Rattle.stream_item.specs.declared.iter.ItemIter.{ItemIter}
-use Rattle.stream_item.specs.declared.link.Link.{Link}
-use Rattle.stream_item.specs.declared.link.Link.TheVariants.{Whole, Broken}
 use Rattle.stream_item.specs.declared.link.Hit.{Hit}
 use Rattle.stream_item.specs.declared.link.Hit.TheVariants.{Landed, Missed}
 use Rattle.stream_finder.specs.Finder.{State, block_of, holding_in, Found, max_index_of, find_of}
@@ -120,9 +119,9 @@ module _ (s m : List ℕ) (h : Higher s m) where
         go false false false false false false = last
 
   -- ---- links and chains
-  abbrev up_link : Link → Link
-  up_link (Whole p k) = Whole (p + 52) k
-  up_link Broken = Broken
+  abbrev up_link : Option (ℕ × ℕ) → Option (ℕ × ℕ)
+  up_link (Some (p, k)) = Some (p + 52, k)
+  up_link None = None
 
   abbrev up_walk : Walk → Walk
   up_walk (reached p) = reached (p + 52)
@@ -134,13 +133,13 @@ module _ (s m : List ℕ) (h : Higher s m) where
       rw (little-up 2 p l, leb-up (p + 2 + little_at 2 s p) (length s) (p + 52 + 2 + little_at 2 s p) (length m) (λ x. omega (arith, h.long)) (λ x. omega (arith, h.long)))
       (go (leb (p + 2 + little_at 2 s p) (length s)))
     where
-      go : (t : Bool) → pick t (Whole (p + 52 + 2) (little_at 2 s p)) Broken ≡ up_link (pick t (Whole (p + 2) (little_at 2 s p)) Broken)
-      go true = ap (λ (k : ℕ). Whole k (little_at 2 s p)) (let e : p + 52 + 2 ≡ p + 2 + 52 = omega arith in e)
+      go : (t : Bool) → pick t (Some (p + 52 + 2, little_at 2 s p)) None ≡ up_link (pick t (Some (p + 2, little_at 2 s p)) None)
+      go true = ap (λ (k : ℕ). Some (k, little_at 2 s p)) (let e : p + 52 + 2 ≡ p + 2 + 52 = omega arith in e)
       go false = refl
 
-  passing-up : (k : ℕ) (x : Link) → passing k (up_link x) ≡ up_walk (passing k x)
-  passing-up k (Whole p j) = ap reached (let e : p + 52 + j ≡ p + j + 52 = omega arith in e)
-  passing-up k Broken = refl
+  passing-up : (k : ℕ) (x : Option (ℕ × ℕ)) → passing k (up_link x) ≡ up_walk (passing k x)
+  passing-up k (Some (p, j)) = ap reached (let e : p + 52 + j ≡ p + j + 52 = omega arith in e)
+  passing-up k None = refl
 
   linked_up : (k : ℕ) (w : Walk) → ((p : ℕ) → w ≡ reached p → 4 ≤ p) → linked m k (up_walk w) ≡ up_walk (linked s k w)
   linked_up k (reached p) low = ap (passing k) (link_up p (low p refl)) ∙ passing-up k (link_at s p)
@@ -154,9 +153,9 @@ module _ (s m : List ℕ) (h : Higher s m) where
   chain-up zero = refl
   chain-up (suc k) = ap (linked m k) (chain-up k) ∙ linked_up k (chain s 4 k) (low k)
 
-  landing-up : (k : ℕ) (x : Link) → landing k (up_link x) ≡ up_hit (landing k x)
-  landing-up k (Whole p j) = refl
-  landing-up k Broken = refl
+  landing-up : (k : ℕ) (x : Option (ℕ × ℕ)) → landing k (up_link x) ≡ up_hit (landing k x)
+  landing-up k (Some (p, j)) = refl
+  landing-up k None = refl
 
   land-up : (k : ℕ) (w : Walk) → ((p : ℕ) → w ≡ reached p → 4 ≤ p) → land m k (up_walk w) ≡ up_hit (land s k w)
   land-up k (reached p) low = ap (landing k) (link_up p (low p refl)) ∙ landing-up k (link_at s p)

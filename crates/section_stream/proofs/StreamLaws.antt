@@ -1,4 +1,5 @@
 -- The ways out of `put_stream` and of `to_stream`. Assumes nothing.
+use Rattle.std.specs.Prelude.{Result, Ok, Err}
 use Prim.Native.Nat.{ℕ, ◌+◌, ◌-◌, ◌≤◌, ◌<◌}
 use mathlib.Core.Path.{◌≡◌, refl, sym, ap, ◌∙◌}
 use mathlib.Core.List.{List, [], ◌++◌}
@@ -7,16 +8,13 @@ use lib.ListN.{length, take, drop, length-append, length-drop}
 use lib.Seq.{take_all}
 use borrow.Author.Tests.{le-leb, le-ltb, lt-ltb}
 use Rattle.answer.specs.Answer.{Answer, answered, refused, then}
-use Rattle.answer.specs.Refusals.{no}
+use Rattle.answer.specs.Refusals.{no, itself, said}
 use Rattle.answer.specs.declared.Refusal.{Refusal}
 use Rattle.stream_header.specs.Header.{longest}
 use Rattle.stream_header.specs.declared.Header.{Header}
 use Rattle.field_put.specs.Bytes.{put, Lays}
 use Rattle.field_put.proofs.PutLaws.{put-put, length-put}
 use Rattle.write_layout.specs.Buffer.{lay, Writes}
-use Rattle.write_pieces.specs.Pieces.{said_write}
-use Rattle.write_pieces.specs.declared.WriteAnswer.{WriteAnswer}
-use Rattle.write_pieces.specs.declared.WriteAnswer.TheVariants as write
 use Rattle.write_header.specs.Headers.{header_fields, header_bytes}
 use Rattle.write_header.proofs.HeaderLaws.{header-length}
 use Rattle.section_item.specs.Sections.{count_of}
@@ -85,19 +83,19 @@ module _ (s : List ℕ) (n : ℕ) (o : List ℕ) (four : 4 ≤ length s) where
         rw (le-ltb _ _ i) (record { answer = ap (λ (v : ℕ). answered v) j; left = y ∙ z })
 
     -- the same as the code has it: the header that was made, and what its writer answered
-    module _ (h : Header) (made : h ≡ header_for n (length s - 4)) (r : WriteAnswer) (o₁ : List ℕ) (w : Writes o (lay (header_bytes h) o 0) (said_write r) o₁) where
-      told-head : (said_write r ≡ answered 56) × (o₁ ≡ put o 0 (hs n s))
-      told-head = head-written (said_write r) o₁ (rw made at w)
+    module _ (h : Header) (made : h ≡ header_for n (length s - 4)) (r : Result ℕ Refusal) (o₁ : List ℕ) (w : Writes o (lay (header_bytes h) o 0) (said itself r) o₁) where
+      told-head : (said itself r ≡ answered 56) × (o₁ ≡ put o 0 (hs n s))
+      told-head = head-written (said itself r) o₁ (rw made at w)
 
-      pub stream-written : (p : ℕ) → r ≡ write.Written p → (q : ℕ) (o₂ xs : List ℕ) → xs ≡ drop 4 s → Lays o₁ p xs q o₂
+      pub stream-written : (p : ℕ) → r ≡ Ok p → (q : ℕ) (o₂ xs : List ℕ) → xs ≡ drop 4 s → Lays o₁ p xs q o₂
           → Writes o (lay (answered (stream_bytes n s)) o 0) (answered q) o₂
       stream-written p e q o₂ xs x l =
-          let at : p ≡ 56 = let a : ◌≡◌ {A = Answer ℕ} (answered p) (answered 56) = sym (ap said_write e) ∙ told-head.0 in cc in
+          let at : p ≡ 56 = let a : ◌≡◌ {A = Answer ℕ} (answered p) (answered 56) = sym (ap (said itself) e) ∙ told-head.0 in cc in
           both-written q o₁ o₂ told-head.1 (rw (at, x) at l)
 
-      pub never-refused : (e : Refusal) → r ≡ write.Refused e → ⊥
+      pub never-refused : (e : Refusal) → r ≡ Err e → ⊥
       never-refused e q =
-          let a : ◌≡◌ {A = Answer ℕ} (no e) (answered 56) = sym (ap said_write q) ∙ told-head.0 in
+          let a : ◌≡◌ {A = Answer ℕ} (no e) (answered 56) = sym (ap (said itself) q) ∙ told-head.0 in
           let z : ◌≡◌ {A = ℕ} 0 1 = cc in
           omega arith
 
@@ -112,6 +110,6 @@ module _ (s : List ℕ) where
   stream-is a h e = rw (le-ltb _ _ h, e)
 
   -- a refusal leaves the buffer
-  pub writes-refused : (k : ℕ) (d : List ℕ) (o : List ℕ) → section_stream s ≡ refused k d → Writes o (lay (section_stream s) o 0) (refused k d) o
+  pub writes-refused : (k : ℕ) (d : List ℕ) (o : List ℕ) → section_stream s ≡ refused k d → (r : Answer ℕ) → r ≡ refused k d → Writes o (lay (section_stream s) o 0) r o
   unfolding lay
-  writes-refused k d o e = rw e (record { answer = refl; left = refl })
+  writes-refused k d o e r f = rw (e, f) (record { answer = refl; left = refl })

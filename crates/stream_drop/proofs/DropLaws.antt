@@ -1,14 +1,16 @@
 -- R-13's definition at each outcome that the code comes to, from what its passes leave. Assumes nothing.
+use Rattle.std.specs.Prelude.{Result, Ok, Err, None, Some}
 use Prim.Native.Nat.{ℕ, suc, ◌+◌, ◌-◌, ◌≤◌, ◌<◌}
 use native.Mathlib.Omega.{arith}
 use mathlib.Core.Bool.{Bool, true, false}
 use mathlib.Core.List.{List, [], ◌∷◌, map}
-use mathlib.Core.Option.{none, some}
 use mathlib.Core.Path.{◌≡◌, refl, sym, ap, ◌∙◌}
 use mathlib.Core.Logic.{inl, inr}
 use lib.ListN.{length}
 use lib.Dec.{leb}
 use borrow.Author.Tests.{lt-ltb, le-ltb, leb-true, leb-false, le-leb}
+use Rattle.std.specs.Result.{IsErrAnd}
+use Rattle.answer.proofs.Told.{handed}
 use Rattle.answer.specs.Answer.{answered, pick}
 use Rattle.field.specs.declared.index.Stream.TheVariants as stream
 use Rattle.field_put.specs.Bytes.{put, Octets}
@@ -30,20 +32,18 @@ use Rattle.stream_drop.specs.Each.{Held, held_of}
 use Rattle.stream_drop.specs.Passes.{Numbered, numbered_to, number_from, up_from, marked_in, asked_in, written_in}
 use Rattle.stream_drop.specs.Drop.{first_above, some_read_as_none, dropped_of, drop_of, Drops}
 use Rattle.stream_drop.specs.declared.passes.Count.{Count}
-use Rattle.stream_drop.specs.declared.DropAnswer.{DropAnswer}
-use Rattle.stream_drop.specs.declared.DropAnswer.TheVariants as answer
 use Rattle.stream_drop.proofs.TableLaws.{packed}
 use Rattle.stream_drop.proofs.DownLaws.{payloads-enough, down-all, number-all}
 use Rattle.stream_drop.proofs.UpLaws.{ask-all, none_below}
 use Rattle.stream_drop.proofs.WriteLaws.{stream-all}
 
 -- no root is at or above the maximum
-pub all-below : (maximum : ℕ) (roots : List ℕ) → first_above maximum roots ≡ none → (x : ℕ) → IsIn x roots → x < maximum
+pub all-below : (maximum : ℕ) (roots : List ℕ) → first_above maximum roots ≡ None → (x : ℕ) → IsIn x roots → x < maximum
 unfolding first_above
 all-below maximum [] e x i = absurd i
 all-below maximum (y ∷ ys) e x i = go (leb maximum y) refl e i (λ g. all-below maximum ys g x)
   where
-    go : (b : Bool) → leb maximum y ≡ b → pick b (some y) (first_above maximum ys) ≡ none → IsIn x (y ∷ ys) → (first_above maximum ys ≡ none → IsIn x ys → x < maximum) → x < maximum
+    go : (b : Bool) → leb maximum y ≡ b → pick b (Some y) (first_above maximum ys) ≡ None → IsIn x (y ∷ ys) → (first_above maximum ys ≡ None → IsIn x ys → x < maximum) → x < maximum
     go true f g i later = let z : ◌≡◌ {A = ℕ} 0 1 = cc in absurd (omega arith)
     go false f g (inl j) later = let l : y < maximum = leb-false maximum y f in omega arith
     go false f g (inr j) later = later g j
@@ -85,8 +85,8 @@ unfolding header_of
 no_header h e = cc
 
 -- the empty stream has an empty header, no root and nothing to write
-at-empty : (h : Header) → zero_header ≡ h → (ps : List (List ℕ)) → length ps ≡ 0 → (roots t b : List ℕ) → first_above h.maximum_index roots ≡ none
-    → Drops t b (dropped_of [] h ps roots (length t) (length b)) (answer.Written 0) t b
+at-empty : (h : Header) → zero_header ≡ h → (ps : List (List ℕ)) → length ps ≡ 0 → (roots t b : List ℕ) → first_above h.maximum_index roots ≡ None
+    → Drops t b (dropped_of [] h ps roots (length t) (length b)) (Ok 0) t b
 unfolding dropped_of first_above marks_of marks pass mark_all roots_from numbers some_read_as_none put
 at-empty h z [] l [] t b e =
     let m : 0 ≤ length t = omega arith in
@@ -94,7 +94,7 @@ at-empty h z [] l [] t b e =
     rw (← z, le-ltb (length t) 0 m, pruning.empty_stream [], le-ltb (length b) 0 n) (record { says = refl; table = refl; buffer = refl })
 at-empty h z [] l (x ∷ xs) t b e =
     let n : 0 ≤ x = omega arith in
-    let f : some x ≡ none = rw (← z, le-leb 0 x n) at e in
+    let f : Some x ≡ None = rw (← z, le-leb 0 x n) at e in
     let k : ◌≡◌ {A = ℕ} 0 1 = cc in
     absurd (omega arith)
 at-empty h z (p ∷ ps) l roots t b e = absurd (omega arith)
@@ -109,25 +109,25 @@ ordered (x ∷ s) h e =
 -- Of a fit stream -----------------------------------------------------------------------------------------------------------------------
 
 module _ (s : List ℕ) (h : Header) (c : ItemIter) (roots t b : List ℕ) where
-  pub root-above : (x : ℕ) → first_above h.maximum_index roots ≡ some x
-      → Drops t b (dropped_of s h (records s c) roots (length t) (length b)) (answer.Refused (refusal.NotFound x)) t b
+  pub root-above : (x : ℕ) → first_above h.maximum_index roots ≡ Some x
+      → Drops t b (dropped_of s h (records s c) roots (length t) (length b)) (Err (refusal.NotFound x)) t b
   unfolding dropped_of
   root-above x e = rw e (record { says = refl; table = refl; buffer = refl })
 
   module _ (header : header_of s ≡ answered h) (iter : iter_of stream.Types s ≡ answered c) (yes : fit_of s ≡ answered fit)
-      (below : first_above h.maximum_index roots ≡ none) where
-    pub few-places : length t < h.maximum_index - h.minimum_index → Drops t b (dropped_of s h (records s c) roots (length t) (length b)) (answer.Refused refusal.TableFull) t b
+      (below : first_above h.maximum_index roots ≡ None) where
+    pub few-places : length t < h.maximum_index - h.minimum_index → Drops t b (dropped_of s h (records s c) roots (length t) (length b)) (Err refusal.TableFull) t b
     unfolding dropped_of
     few-places l =
         let k : length t < length (records s c) = rw (payloads-count s h c header iter yes) l in
         rw (below, lt-ltb _ _ k) (record { says = refl; table = refl; buffer = refl })
 
     -- the empty stream
-    pub nothing-there : length s ≡ 0 → Drops t b (dropped_of s h (records s c) roots (length t) (length b)) (answer.Written 0) t b
+    pub nothing-there : length s ≡ 0 → Drops t b (dropped_of s h (records s c) roots (length t) (length b)) (Ok 0) t b
     nothing-there l = go s h l header (payloads-count s h c header iter yes) below
       where
-        go : (s : List ℕ) (h : Header) → length s ≡ 0 → header_of s ≡ answered h → length (records s c) ≡ h.maximum_index - h.minimum_index → first_above h.maximum_index roots ≡ none
-            → Drops t b (dropped_of s h (records s c) roots (length t) (length b)) (answer.Written 0) t b
+        go : (s : List ℕ) (h : Header) → length s ≡ 0 → header_of s ≡ answered h → length (records s c) ≡ h.maximum_index - h.minimum_index → first_above h.maximum_index roots ≡ None
+            → Drops t b (dropped_of s h (records s c) roots (length t) (length b)) (Ok 0) t b
         go (x ∷ s) h l e n f = absurd (omega arith)
         go [] h l e n f =
             let z = no_header h e in
@@ -203,12 +203,12 @@ module _ (s : List ℕ) (h : Header) (c : ItemIter) (roots t b : List ℕ) where
               = rw (renumbered.1, renumbered.0, buffer-kept) at answer-left in
               held-parts _ _ _ _ _ _ (e ∙ asked-all h.header_size (payloads_from (h.maximum_index - h.minimum_index) s c) enough)
 
-          pub reads-as-none : r ≡ false → Drops t b (dropped_of s h (records s c) roots (length t) (length b)) (answer.Refused refusal.ReadsAsNone) t₂ b₂
+          pub reads-as-none : r ≡ false → Drops t b (dropped_of s h (records s c) roots (length t) (length b)) (Err refusal.ReadsAsNone) t₂ b₂
           unfolding dropped_of
           reads-as-none e =
               rw (below, le-ltb _ _ room, was-true (none_in s h c roots) (sym asked.0 ∙ e), asked.1, asked.2) (record { says = refl; table = refl; buffer = refl })
 
-          pub no_room : r ≡ true → length b₂ < h.header_size + k.bytes → Drops t b (dropped_of s h (records s c) roots (length t) (length b)) (answer.Refused refusal.NoRoom) t₂ b₂
+          pub no_room : r ≡ true → length b₂ < h.header_size + k.bytes → Drops t b (dropped_of s h (records s c) roots (length t) (length b)) (Err refusal.NoRoom) t₂ b₂
           unfolding dropped_of
           no_room e l =
               let x = asked.2 in
@@ -217,7 +217,7 @@ module _ (s : List ℕ) (h : Header) (c : ItemIter) (roots t b : List ℕ) where
 
           pub wrote : (r₃ : Bool) (t₃ b₃ : List ℕ) → r ≡ true → h.header_size + k.bytes ≤ length b₂
               → held_of r₃ t₃ b₃ ≡ written_in h.minimum_index k.next h.header_size s (payloads_from (h.maximum_index - h.minimum_index) s c) t₂ b₂
-              → Drops t b (dropped_of s h (records s c) roots (length t) (length b)) (answer.Written (h.header_size + k.bytes)) t₃ b₃
+              → Drops t b (dropped_of s h (records s c) roots (length t) (length b)) (Ok (h.header_size + k.bytes)) t₃ b₃
           unfolding dropped_of
           wrote r₃ t₃ b₃ e l f =
               let x = asked.2 in
@@ -230,26 +230,26 @@ module _ (s : List ℕ) (h : Header) (c : ItemIter) (roots t b : List ℕ) where
 
 -- Of any stream -------------------------------------------------------------------------------------------------------------------------
 
-module _ (s roots t b : List ℕ) where
-  pub by-header : (e : Refusal) → header_of s ≡ no e → Drops t b (drop_of s roots (length t) (length b)) (answer.Refused e) t b
+module _ (s roots t b : List ℕ) (r : Result ℕ Refusal) where
+  pub by-header : (e : Refusal) → no e ≡ header_of s → IsErrAnd r (λ y. y ≡ e) → Drops t b (drop_of s roots (length t) (length b)) r t b
   unfolding drop_of
-  by-header e f = rw f (record { says = refl; table = refl; buffer = refl })
+  by-header e f w = rw (handed r e w, ← f) (record { says = refl; table = refl; buffer = refl })
 
-  module _ (h : Header) (header : header_of s ≡ answered h) where
-    pub by-iter : (e : Refusal) → iter_of stream.Types s ≡ no e → Drops t b (drop_of s roots (length t) (length b)) (answer.Refused e) t b
+  module _ (h : Header) (header : answered h ≡ header_of s) where
+    pub by-iter : (e : Refusal) → no e ≡ iter_of stream.Types s → IsErrAnd r (λ y. y ≡ e) → Drops t b (drop_of s roots (length t) (length b)) r t b
     unfolding drop_of
-    by-iter e f = rw (header, f) (record { says = refl; table = refl; buffer = refl })
+    by-iter e f w = rw (handed r e w, ← header, ← f) (record { says = refl; table = refl; buffer = refl })
 
-    module _ (c : ItemIter) (iter : iter_of stream.Types s ≡ answered c) where
-      pub by-fit : (e : Refusal) → fit_of s ≡ no e → Drops t b (drop_of s roots (length t) (length b)) (answer.Refused e) t b
+    module _ (c : ItemIter) (iter : answered c ≡ iter_of stream.Types s) where
+      pub by-fit : (e : Refusal) → no e ≡ fit_of s → IsErrAnd r (λ y. y ≡ e) → Drops t b (drop_of s roots (length t) (length b)) r t b
       unfolding drop_of
-      by-fit e f = rw (header, iter, f) (record { says = refl; table = refl; buffer = refl })
+      by-fit e f w = rw (handed r e w, ← header, ← iter, ← f) (record { says = refl; table = refl; buffer = refl })
 
-      pub not-fit : (i rule : ℕ) → fit_of s ≡ answered (unfit i rule) → Drops t b (drop_of s roots (length t) (length b)) (answer.Refused refusal.NotFit) t b
+      pub not-fit : (i rule : ℕ) → answered (unfit i rule) ≡ fit_of s → r ≡ Err refusal.NotFit → Drops t b (drop_of s roots (length t) (length b)) r t b
       unfolding drop_of
-      not-fit i rule f = rw (header, iter, f) (record { says = refl; table = refl; buffer = refl })
+      not-fit i rule f e = rw (e, ← header, ← iter, ← f) (record { says = refl; table = refl; buffer = refl })
 
-      pub by-yes : fit_of s ≡ answered fit → (r : DropAnswer) (t' b' : List ℕ) → Drops t b (dropped_of s h (records s c) roots (length t) (length b)) r t' b'
+      pub by-yes : answered fit ≡ fit_of s → (t' b' : List ℕ) → Drops t b (dropped_of s h (records s c) roots (length t) (length b)) r t' b'
           → Drops t b (drop_of s roots (length t) (length b)) r t' b'
       unfolding drop_of
-      by-yes f r t' b' d = rw (header, iter, f) d
+      by-yes f t' b' d = rw (← header, ← iter, ← f) d

@@ -3,7 +3,7 @@ use Prim.Native.Nat.{ℕ, zero, suc, ◌+◌, ◌-◌, ◌≤◌, ◌<◌}
 use native.Mathlib.Omega.{arith}
 use mathlib.Core.Bool.{Bool, true, false}
 use mathlib.Core.List.{List, [], ◌∷◌, ◌++◌}
-use mathlib.Core.Path.{◌≡◌, refl, sym}
+use mathlib.Core.Path.{◌≡◌, refl, sym, ap, ◌∙◌}
 use lib.ListN.{length, get_or, set, get_or-eq_default}
 use lib.Seq.{set_out}
 use borrow.Author.Tests.{lt-ltb, le-ltb, le-leb, lt-leb, eq-eqb, ne_eqb}
@@ -11,12 +11,16 @@ use Rattle.answer.specs.Answer.{Answer, answered, refused}
 use Rattle.field.specs.Bytes.{bytes}
 use Rattle.field_put.specs.Bytes.{Lays}
 use Rattle.field_put.proofs.PutLaws.{length-bytes}
-use Rattle.record_layout.specs.Fields.{Shown}
+use Rattle.field.specs.declared.index.Stream.TheVariants as stream
+use Rattle.record_data.specs.Said.{type_values}
+use Rattle.record_data.specs.declared.TypeData.{TypeData}
+use Rattle.record_reference.proofs.OwnLaws.{own-joined}
+use Rattle.record_reference.proofs.ValueLaws.{step-tell}
 use Rattle.record_layout.specs.Layouts.{type_leaves, record_of}
 use Rattle.record_list.specs.declared.ListCursor.{ListCursor}
-use Rattle.record_list.specs.Lists.{Step, start_types, step_of}
+use Rattle.record_list.specs.Lists.{Step, start_of, step_of}
 use Rattle.record_reference.specs.References.{Ref, ref, refs_at}
-use Rattle.record_reference.specs.Values.{refs_by, joined, behind_leaf, or_behind, fields_at}
+use Rattle.record_reference.specs.Values.{refs_by, slots_by, slots, joined, element_refs, behind_leaf, or_behind, fields_at}
 use Rattle.record_reference.specs.Said.{said_of_element}
 use Rattle.record_reference.specs.declared.ElementReferences.{ElementReferences}
 use Rattle.record_reference.specs.declared.ElementReferences.TheVariants as element
@@ -103,12 +107,18 @@ pub two_fits : (r : ElementReferences) (p size k n m : ℕ) → r ≡ element.Tw
 unfolding Within
 two_fits r p size k n m e h = let w : Within 0 (said_of_element (element.Two k n m) p) size = rw e at h in omega (arith, w.1.1)
 
+-- what an element's references say is what the list says of it
+elements-own : (s : List ℕ) (c : ListCursor) (x : Step) (r : ElementReferences) (p : ℕ) → answered x ≡ step_of s c → ((q : ℕ) → said_of_element r q ≡ element_refs x.element q) → p ≡ fields_at s c
+    → said_of_element r p ≡ refs_at s c
+elements-own s c x r p e f g = f p ∙ ap (element_refs x.element) g ∙ sym (step-tell s c x (sym e))
+
 -- the references of an element that is read stand inside its payload
-pub element-within : (s : List ℕ) (c : ListCursor) (x : Step) (rs : List Ref) → step_of s c ≡ answered x → rs ≡ refs_at s c → Within 0 rs (length s)
-element-within s c x rs e h =
-    let o : (c.at < x.next.at) × (x.next.at ≤ length s) = rw e at (step-on s c) in
-    let k = step-carried (λ n. n) s c x (omega (arith, o.0, o.1)) e in
-    rw h (within-later (refs_at s c) 0 x.next.at (length s) k.inside (within-sooner (refs_at s c) 0 (c.at + 0) x.next.at (omega arith) k.within))
+pub element-within : (s : List ℕ) (c : ListCursor) (x : Step) (r : ElementReferences) (p : ℕ) → answered x ≡ step_of s c → ((q : ℕ) → said_of_element r q ≡ element_refs x.element q) → p ≡ fields_at s c
+    → Within 0 (said_of_element r p) (length s)
+element-within s c x r p e f g =
+    let o : (c.at < x.next.at) × (x.next.at ≤ length s) = rw (← e) at (step-on s c) in
+    let k = step-carried (λ n. n) s c x (omega (arith, o.0, o.1)) (sym e) in
+    rw (elements-own s c x r p e f g) (within-later (refs_at s c) 0 x.next.at (length s) k.inside (within-sooner (refs_at s c) 0 (c.at + 0) x.next.at (omega arith) k.within))
 
 -- References one after the other --------------------------------------------------------------------------------------------------------
 
@@ -125,39 +135,39 @@ done-four minimum j a b c d h = rw (done-both minimum j a (joined (b ∷ c ∷ d
 -- Elements ------------------------------------------------------------------------------------------------------------------------------
 
 module _ (minimum : ℕ) (j : Job) (n : ℕ) (s : List ℕ) (c : ListCursor) (x : Held) where
-  pub from-none : done_from minimum j 0 s c x ≡ x
+  pub from-none : n ≡ 0 → x ≡ done_from minimum j n s c x
   unfolding done_from
-  from-none = refl
+  from-none h = rw h
 
-  pub from-refused : (m : ℕ) (d : List ℕ) → 0 < n → step_of s c ≡ refused m d → x ≡ done_from minimum j n s c x
+  pub from-refused : (m : ℕ) (d : List ℕ) → refused m d ≡ step_of s c → x ≡ done_from minimum j n s c x
   unfolding done_from
-  from-refused m d h e = go n h
+  from-refused m d e = go n
     where
-      go : (k : ℕ) → 0 < k → x ≡ done_from minimum j k s c x
-      go zero l = absurd (omega arith)
-      go (suc k) l = rw e
+      go : (k : ℕ) → x ≡ done_from minimum j k s c x
+      go zero = refl
+      go (suc k) = rw (← e)
 
-  pub from_more : (y : Step) (rs : List Ref) (x' : Held) → 0 < n → step_of s c ≡ answered y → rs ≡ refs_at s c → x' ≡ done_all minimum j rs x
-      → done_from minimum j (n - 1) s y.next x' ≡ done_from minimum j n s c x
+  pub from_more : (k : ℕ) (y : Step) (r : ElementReferences) (p : ℕ) (x' : Held) → k < n → answered y ≡ step_of s c → ((q : ℕ) → said_of_element r q ≡ element_refs y.element q) → p ≡ fields_at s c
+      → x' ≡ done_all minimum j (said_of_element r p) x → done_from minimum j (n - (k + 1)) s y.next x' ≡ done_from minimum j (n - k) s c x
   unfolding done_from
-  from_more y rs x' h e r d = go n h
-    where
-      go : (k : ℕ) → 0 < k → done_from minimum j (k - 1) s y.next x' ≡ done_from minimum j k s c x
-      go zero l = absurd (omega arith)
-      go (suc k) l = let z : suc k - 1 ≡ k = omega arith in rw (e, z, d, r)
+  from_more k y r p x' h e f g d = let z : n - k ≡ suc (n - (k + 1)) = omega arith in rw (z, ← e, d, elements-own s c y r p e f g)
 
 -- A payload -----------------------------------------------------------------------------------------------------------------------------
 
 module _ (minimum : ℕ) (j : Job) (s : List ℕ) (x : Held) where
-  pub of-refused : (n : ℕ) (d : List ℕ) → record_of type_leaves s ≡ refused n d → x ≡ done_of minimum j s x
+  pub of-refused : (n : ℕ) (d : List ℕ) → refused n d ≡ record_of type_leaves s → x ≡ done_of minimum j s x
   unfolding done_of
-  of-refused n d e = rw e
+  of-refused n d e = rw (← e)
 
-  module _ (vs : List Shown) (rs : List Ref) (own : Held) (reads : record_of type_leaves s ≡ answered vs) (are : rs ≡ refs_by type_leaves vs 2) (did : own ≡ done_all minimum j rs x) where
-    pub of-own : (n : ℕ) (d : List ℕ) → start_types s ≡ refused n d → own ≡ done_of minimum j s x
-    unfolding done_of
-    of-own n d e = rw (reads, e, ← are) did
+  module _ (t : TypeData) (rs : List (List Ref)) (own : Held) (reads : answered (type_values t) ≡ record_of type_leaves s) (are : rs ≡ slots 4 (slots_by type_leaves (type_values t) 2))
+      (did : own ≡ done_all minimum j (joined rs) x) where
+    own-did : own ≡ done_all minimum j (refs_by type_leaves (type_values t) 2) x
+    own-did = did ∙ ap (λ l. done_all minimum j l x) (ap joined are ∙ own-joined t)
 
-    pub of-list : (c : ListCursor) (x' : Held) → start_types s ≡ answered c → x' ≡ done_from minimum j (length s) s c own → x' ≡ done_of minimum j s x
-    unfolding done_of
-    of-list c x' e f = rw (reads, e, ← are, ← did) f
+    pub of-own : (n : ℕ) (d : List ℕ) → refused n d ≡ start_of stream.Types s → own ≡ done_of minimum j s x
+    unfolding done_of start_of
+    of-own n d e = rw (← reads, ← e) own-did
+
+    pub of-list : (c : ListCursor) (x' : Held) → answered c ≡ start_of stream.Types s → x' ≡ done_from minimum j (length s) s c own → x' ≡ done_of minimum j s x
+    unfolding done_of start_of
+    of-list c x' e f = rw (← reads, ← e, ← own-did) f

@@ -1,11 +1,11 @@
 -- R-13's definition, outcome by outcome: what each one asks, and what an answer tells of it; the empty stream. Assumes nothing.
+use Rattle.std.specs.Prelude.{Option, None, Some}
 use Prim.Native.Nat.{ℕ, suc, ◌≤◌, ◌<◌}
 use native.Mathlib.Omega.{arith}
 use mathlib.Core.Bool.{Bool, true, false}
 use mathlib.Core.Path.{◌≡◌, refl, ap, ◌∙◌}
 use mathlib.Core.Logic.{inl, inr}
 use mathlib.Core.List.{List, [], ◌∷◌}
-use mathlib.Core.Option.{Option, none, some}
 use lib.ListN.{length}
 use lib.Dec.{ltb}
 use borrow.Author.Tests.{lt-ltb, le-ltb, le-leb, lt-leb}
@@ -29,12 +29,12 @@ use Rattle.stream_drop.specs.Sentences.{FirstAbove, here, later}
 
 -- Roots -----------------------------------------------------------------------------------------------------------------------------------------
 
-pub first-is : (maximum : ℕ) (roots : List ℕ) (x : ℕ) → FirstAbove maximum roots x → first_above maximum roots ≡ some x
+pub first-is : (maximum : ℕ) (roots : List ℕ) (x : ℕ) → FirstAbove maximum roots x → first_above maximum roots ≡ Some x
 unfolding first_above
 first-is maximum roots x (here l) = rw (le-leb _ _ l)
 first-is maximum roots x (later {xs = xs} l f) = rw (lt-leb _ _ l) (first-is maximum xs x f)
 
-pub none_above : (maximum : ℕ) (roots : List ℕ) → ((x : ℕ) → IsIn x roots → x < maximum) → first_above maximum roots ≡ none
+pub none_above : (maximum : ℕ) (roots : List ℕ) → ((x : ℕ) → IsIn x roots → x < maximum) → first_above maximum roots ≡ None
 unfolding first_above
 none_above maximum [] h = refl
 none_above maximum (x ∷ xs) h = rw (lt-leb _ _ (h x (inl refl))) (none_above maximum xs (λ y i. h y (inr i)))
@@ -48,11 +48,11 @@ drop-fit s h c ps e i f w roots places room =
     rw (e, i, f) (ap (λ x. dropped_of s h x roots places room) (walked_one s c (payloads_from (suc (length s)) s c) ps (fit-payloads s h c e i f) w))
 
 module _ (s : List ℕ) (h : Header) (ps : List (List ℕ)) (roots : List ℕ) (places room : ℕ) where
-  pub root-above : (x : ℕ) → first_above h.maximum_index roots ≡ some x → dropped_of s h ps roots places room ≡ stays 8 (x ∷ [])
+  pub root-above : (x : ℕ) → first_above h.maximum_index roots ≡ Some x → dropped_of s h ps roots places room ≡ stays 8 (x ∷ [])
   unfolding dropped_of
   root-above x e = rw e
 
-  module _ (below : first_above h.maximum_index roots ≡ none) where
+  module _ (below : first_above h.maximum_index roots ≡ None) where
     pub few-places : places < length ps → dropped_of s h ps roots places room ≡ stays 13 []
     unfolding dropped_of
     few-places l = rw (below, lt-ltb _ _ l)
@@ -79,7 +79,7 @@ module _ (s : List ℕ) (h : Header) (ps : List (List ℕ)) (roots : List ℕ) (
 
 -- it was refused by nothing
 record Passed (above : Option ℕ) (few reads full : Bool) (es bs entries new : List ℕ) : Type 0 where
-  below : above ≡ none
+  below : above ≡ None
   enough : few ≡ false
   some : reads ≡ false
   room : full ≡ false
@@ -89,14 +89,14 @@ record Passed (above : Option ℕ) (few reads full : Bool) (es bs entries new : 
 passed : (above : Option ℕ) (few reads full : Bool) (es bs entries new : List ℕ)
     → unless_above above (pick few (stays 13 []) (pick reads (numbers_only 30 es) (pick full (numbers_only 19 es) (written es bs)))) ≡ written entries new
     → Passed above few reads full es bs entries new
-passed (some x) few reads full es bs entries new e = let z : ◌≡◌ {A = ℕ} 0 1 = cc in absurd (omega arith)
-passed none true reads full es bs entries new e = let z : ◌≡◌ {A = ℕ} 0 1 = cc in absurd (omega arith)
-passed none false true full es bs entries new e = let z : ◌≡◌ {A = ℕ} 0 1 = cc in absurd (omega arith)
-passed none false false true es bs entries new e = let z : ◌≡◌ {A = ℕ} 0 1 = cc in absurd (omega arith)
-passed none false false false es bs entries new e = record { below = refl; enough = refl; some = refl; room = refl; table = cc; stream = cc }
+passed (Some x) few reads full es bs entries new e = let z : ◌≡◌ {A = ℕ} 0 1 = cc in absurd (omega arith)
+passed None true reads full es bs entries new e = let z : ◌≡◌ {A = ℕ} 0 1 = cc in absurd (omega arith)
+passed None false true full es bs entries new e = let z : ◌≡◌ {A = ℕ} 0 1 = cc in absurd (omega arith)
+passed None false false true es bs entries new e = let z : ◌≡◌ {A = ℕ} 0 1 = cc in absurd (omega arith)
+passed None false false false es bs entries new e = record { below = refl; enough = refl; some = refl; room = refl; table = cc; stream = cc }
 
 pub record Wrote (s : List ℕ) (h : Header) (ps : List (List ℕ)) (roots entries new : List ℕ) : Type 0 where
-  pub below : first_above h.maximum_index roots ≡ none
+  pub below : first_above h.maximum_index roots ≡ None
   pub reads : some_read_as_none h.minimum_index (marks_of h.minimum_index ps roots) 0 ps ≡ false
   pub table : numbers h.minimum_index (marks_of h.minimum_index ps roots) ≡ entries
   pub stream : new_stream s h (marks_of h.minimum_index ps roots) ps ≡ new

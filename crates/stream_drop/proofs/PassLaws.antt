@@ -34,10 +34,9 @@ module _ (s : List ℕ) (c : ItemIter) where
   payloads-done zero e = refl
   payloads-done (suc k) e = rw e
 
-  pub payloads-more : (k : ℕ) (i : Item) (d : ItemIter) → 0 < k → next_of s c ≡ answered (yielded i d) → payloads_from k s c ≡ payload_of s i ∷ payloads_from (k - 1) s d
+  pub payloads-more : (n k : ℕ) (i : Item) (d : ItemIter) → k < n → answered (yielded i d) ≡ next_of s c → payloads_from (n - k) s c ≡ payload_of s i ∷ payloads_from (n - (k + 1)) s d
   unfolding payloads_from
-  payloads-more zero i d l e = absurd (omega arith)
-  payloads-more (suc k) i d l e = let z : suc k - 1 ≡ k = omega arith in rw (e, z)
+  payloads-more n k i d l e = let z : n - k ≡ suc (n - (k + 1)) = omega arith in rw (z, ← e)
 
   pub payloads-out : (k : ℕ) → k ≤ 0 → payloads_from k s c ≡ []
   unfolding payloads_from

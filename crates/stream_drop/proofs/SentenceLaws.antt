@@ -1,4 +1,5 @@
 -- R-13's promises: what the table and the new stream say, when each refusal is given, and that dropping twice changes nothing. Assumes nothing.
+use Rattle.std.specs.Prelude.{Option, None, Some}
 use Prim.Native.Nat.{ℕ, zero, suc, ◌+◌, ◌-◌, ◌≤◌, ◌<◌}
 use native.Mathlib.Omega.{arith}
 use mathlib.Core.Bool.{Bool, true, false}
@@ -7,7 +8,6 @@ use mathlib.Core.Logic.{◌⊎◌, inl, inr}
 use mathlib.Core.List.{List, [], ◌∷◌, map}
 use lib.ListN.{length, get_or, take, get_or-append, get_or-eq_default}
 use lib.Seq.{get_or-take}
-use mathlib.Core.Option.{Option, none as no-root, some as a-root}
 use lib.Dec.{leb, ltb}
 use borrow.Author.Tests.{leb-true, leb-false, ltb-true, ltb-false}
 use Rattle.answer.specs.Answer.{answered, pick}
@@ -344,12 +344,12 @@ module _ (roots : List ℕ) (c : ItemIter) (ps : List (List ℕ)) where
       }
 
 -- the cases leave nothing out
-above-or-below : (maximum : ℕ) (roots : List ℕ) (x : ℕ) → first_above maximum roots ≡ a-root x → FirstAbove maximum roots x
+above-or-below : (maximum : ℕ) (roots : List ℕ) (x : ℕ) → first_above maximum roots ≡ Some x → FirstAbove maximum roots x
 unfolding first_above
 above-or-below maximum [] x e = let z : ◌≡◌ {A = ℕ} 0 1 = cc in absurd (omega arith)
 above-or-below maximum (y ∷ ys) x e = go (leb maximum y) refl e (above-or-below maximum ys x)
   where
-    go : (b : Bool) → leb maximum y ≡ b → pick b (a-root y) (first_above maximum ys) ≡ a-root x → (first_above maximum ys ≡ a-root x → FirstAbove maximum ys x) → FirstAbove maximum (y ∷ ys) x
+    go : (b : Bool) → leb maximum y ≡ b → pick b (Some y) (first_above maximum ys) ≡ Some x → (first_above maximum ys ≡ Some x → FirstAbove maximum ys x) → FirstAbove maximum (y ∷ ys) x
     go true f g more = let z : y ≡ x = cc in rw (← z) (here (leb-true maximum y f))
     go false f g more = later (leb-false maximum y f) (more g)
 
@@ -374,8 +374,8 @@ case-of roots h ps new places room d = by-root (first_above h.maximum_index root
     by-places i false e = by-reads i (ltb-false places (length ps) e) (some_read_as_none h.minimum_index (marks_of h.minimum_index ps roots) 0 ps) refl
 
     by-root : (o : Option ℕ) → first_above h.maximum_index roots ≡ o → Case roots h ps (numbers h.minimum_index (marks_of h.minimum_index ps roots)) new places room
-    by-root (a-root x) e = by_8 x (above-or-below h.maximum_index roots x e)
-    by-root no-root e = by-places (all-below h.maximum_index roots e) (ltb places (length ps)) refl
+    by-root (Some x) e = by_8 x (above-or-below h.maximum_index roots x e)
+    by-root None e = by-places (all-below h.maximum_index roots e) (ltb places (length ps)) refl
 
 when : (s roots : List ℕ) (h : Header) (c : ItemIter) (ps : List (List ℕ)) → Octets s → header_of s ≡ answered h → iter_of stream.Types s ≡ answered c → fit_of s ≡ answered fit → ComesPast s c ps
     → When s roots h c ps

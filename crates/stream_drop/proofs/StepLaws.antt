@@ -1,9 +1,9 @@
 -- The first root above, and the passes together, as the code goes. Assumes nothing.
+use Rattle.std.specs.Prelude.{None, Some}
 use Prim.Native.Nat.{ℕ, suc, ◌+◌, ◌≤◌, ◌<◌}
 use native.Mathlib.Omega.{arith}
 use mathlib.Core.Bool.{true, false}
 use mathlib.Core.List.{List}
-use mathlib.Core.Option.{none, some}
 use mathlib.Core.Path.{◌≡◌}
 use lib.ListN.{length, get_or, drop, drop_of_length-le}
 use lib.Seq.{drop-cons}
@@ -17,7 +17,7 @@ use Rattle.stream_drop.specs.Drop.{first_above}
 use Rattle.stream_drop.proofs.EachLaws.{laid_by}
 
 module _ (maximum j : ℕ) (roots : List ℕ) where
-  pub above-here : j < length roots → maximum ≤ get_or roots j 0 → some (get_or roots j 0) ≡ first_above maximum (drop j roots)
+  pub above-here : j < length roots → maximum ≤ get_or roots j 0 → Some (get_or roots j 0) ≡ first_above maximum (drop j roots)
   unfolding first_above
   above-here l h = rw (drop-cons roots j 0 l, le-leb maximum (get_or roots j 0) h)
 
@@ -25,7 +25,7 @@ module _ (maximum j : ℕ) (roots : List ℕ) where
   unfolding first_above
   above-later l h = let z : j + 1 ≡ suc j = omega arith in rw (drop-cons roots j 0 l, z, lt-leb maximum (get_or roots j 0) h)
 
-  pub above-none : length roots ≤ j → none ≡ first_above maximum (drop j roots)
+  pub above-none : length roots ≤ j → None ≡ first_above maximum (drop j roots)
   unfolding first_above
   above-none l = rw (drop_of_length-le roots {i = j} l)
 

@@ -1,10 +1,10 @@
 -- R-13 of document 02: "Given a stream and a list of root indices, write a stream with exactly the records reached from the roots through type
 -- references". What is answered, what the lent table holds after it, and what the lent buffer. Which records are reached, and the stream made of
 -- them, are definitions of stream_prune.
-use Rattle.std.specs.Prelude.{ℕ, suc, ◌+◌, Bool, true, false, ◌≡◌, List, [], ◌∷◌, length, get_or, leb, ltb, eqb}
-use Rattle.std.proofs.Math.Option.{Option, none, some}
+use Rattle.std.specs.Prelude.{Result, Option, None, Some, ℕ, suc, ◌+◌, Bool, true, false, ◌≡◌, List, [], ◌∷◌, length, get_or, leb, ltb, eqb}
+use Rattle.answer.specs.declared.Refusal.{Refusal}
 use Rattle.answer.specs.Answer.{Answer, answered, refused, pick, both}
-use Rattle.answer.specs.Refusals.{no}
+use Rattle.answer.specs.Refusals.{itself, said}
 use Rattle.field.specs.declared.index.Stream.TheVariants as stream
 use Rattle.field_put.specs.Bytes.{put}
 use Rattle.stream_header.specs.Header.{header_of}
@@ -15,10 +15,6 @@ use Rattle.stream_fit.specs.Fit.{Verdict, fit, unfit, fit_of}
 use Rattle.stream_prune.specs.Links.{payloads_from}
 use Rattle.stream_prune.specs.Pruned.{numbers, new_index, or_nothing, new_stream}
 use Rattle.stream_prune.specs.Dropped.{marks_of}
-use Rattle.stream_drop.specs.declared.Above.{Above}
-use Rattle.stream_drop.specs.declared.Above.TheVariants as above
-use Rattle.stream_drop.specs.declared.DropAnswer.{DropAnswer}
-use Rattle.stream_drop.specs.declared.DropAnswer.TheVariants as answer
 
 -- Refused with everything as it was; refused by a number once the table holds old to new; or written: old to new, and the stream
 pub data Outcome : Type 0 where
@@ -32,12 +28,12 @@ unless (refused n d) f = stays n d
 
 -- The roots: 8 with the first that is at or above the maximum
 unfoldable pub first_above : ℕ → List ℕ → Option ℕ
-first_above maximum [] = none
-first_above maximum (x ∷ xs) = pick (leb maximum x) (some x) (first_above maximum xs)
+first_above maximum [] = None
+first_above maximum (x ∷ xs) = pick (leb maximum x) (Some x) (first_above maximum xs)
 
 abbrev pub unless_above : Option ℕ → Outcome → Outcome
-unless_above none o = o
-unless_above (some x) o = stays 8 (x ∷ [])
+unless_above None o = o
+unless_above (Some x) o = stays 8 (x ∷ [])
 
 -- 30: an optional reference of a kept record would become 0xffff
 unfoldable pub one_reads_as_none : ℕ → List ℕ → List Ref → Bool
@@ -92,16 +88,8 @@ drop_buffer_after b (stays n d) = b
 drop_buffer_after b (numbers_only n entries) = b
 drop_buffer_after b (written entries new) = put b 0 new
 
-abbrev pub said_drop : DropAnswer → Answer ℕ
-said_drop (answer.Written n) = answered n
-said_drop (answer.Refused e) = no e
-
-abbrev pub said_above : Above → Option ℕ
-said_above above.None = none
-said_above (above.Root x) = some x
-
 -- the contract: the answer, the table after the call, and the buffer after it
-pub record Drops (t b : List ℕ) (o : Outcome) (r : DropAnswer) (t' b' : List ℕ) : Type 0 where
-  pub says : said_drop r ≡ answer_of o
+pub record Drops (t b : List ℕ) (o : Outcome) (r : Result ℕ Refusal) (t' b' : List ℕ) : Type 0 where
+  pub says : said itself r ≡ answer_of o
   pub table : t' ≡ drop_table_after t o
   pub buffer : b' ≡ drop_buffer_after b o

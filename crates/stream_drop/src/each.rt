@@ -1,5 +1,5 @@
 // What is done at each type reference of a payload: one way through the references, for three jobs. specs/Each.antt has what each job does.
-ghost use Rattle.std.specs.Prelude.{◌+◌, ◌-◌, ◌≤◌, ◌≡◌, length, get_or};
+ghost use Rattle.std.specs.Prelude.{◌+◌, ◌-◌, ◌≡◌, length, get_or};
 ghost use Rattle.field_put.specs.Bytes.{bytes};
 ghost use Rattle.record_reference.specs.References.{ref};
 ghost use Rattle.record_reference.specs.Values.{joined, behind_leaf, fields_at};
@@ -8,9 +8,7 @@ ghost use Rattle.record_rewrite.specs.Rewrite.{Within};
 ghost use Rattle.stream_drop.specs.Each.{held_of, raised, laid, done, done_all, done_from, done_of};
 
 use field::index::Stream;
-use field::run::After;
-use record_data::TypeAnswer;
-use record_list::{ListCursor, StartAnswer, StepAnswer};
+use record_list::ListCursor;
 use record_reference::{ElementReferences, Reference, References};
 
 // At a reference at or above the minimum: the record that it names is marked; or it is asked whether its new number would read as none; or its
@@ -26,10 +24,7 @@ pub enum Job {
 pub fn entry(table: &[u32], d: usize) -> u32
     ensures { result ≡ get_or table.now d 0 }
 {
-    if d < table.len() {
-        return table[d];
-    }
-    0
+    if d < table.len() { table[d] } else { 0 }
 }
 
 // The mark of record d: 65,536 above its payload's length.
@@ -79,21 +74,20 @@ fn at_one(
     match job {
         Job::Mark => {
             raise(table, d);
-            return good;
+            good
         }
         Job::Ask => {
             if optional {
                 if entry(table, d) == 0xffff {
                     return false;
                 }
-                return good;
             }
-            return good;
+            good
         }
         Job::Write(at) => {
             let n = entry(table, d);
             put_at(out, at, place, n);
-            return good;
+            good
         }
     }
 }
@@ -125,14 +119,10 @@ fn at_references(
 ) -> bool
     ensures { held_of result table.new out.new ≡ done_all minimum job (joined (said_references references)) (held_of good table.old out.old) }
 {
-    let first = references.first;
-    let second = references.second;
-    let third = references.third;
-    let fourth = references.fourth;
-    let a = at_reference(minimum, job, good, first, table, out);
-    let b = at_reference(minimum, job, a, second, table, out);
-    let c = at_reference(minimum, job, b, third, table, out);
-    at_reference(minimum, job, c, fourth, table, out)
+    let a = at_reference(minimum, job, good, references.first, table, out);
+    let b = at_reference(minimum, job, a, references.second, table, out);
+    let c = at_reference(minimum, job, b, references.third, table, out);
+    at_reference(minimum, job, c, references.fourth, table, out)
 }
 
 // Where the fields of the element at the cursor stand; a member's behind its leaf.
@@ -145,15 +135,12 @@ fn fields_at(s: &[u8], c: ListCursor) -> usize
     }
     if c.padded {
         match field_text::after_padding(s, at) {
-            After::At(q) => {
-                return behind_leaf(s, q);
-            }
-            After::Ended => {
-                return 0;
-            }
+            Ok(q) => behind_leaf(s, q),
+            Err(_) => 0,
         }
+    } else {
+        behind_leaf(s, at)
     }
-    behind_leaf(s, at)
 }
 
 fn behind_leaf(s: &[u8], q: usize) -> usize
@@ -205,29 +192,15 @@ fn at_elements(
     ensures { held_of result table.new out.new ≡ done_from minimum job (length s.now) s.now c (held_of good table.old out.old) }
 {
     let mut here = c;
-    let mut left = s.len();
     let mut fine = good;
-    while left > 0 {
-        match record_list::step(s, here) {
-            StepAnswer::Refused(_) => {
-                return fine;
-            }
-            StepAnswer::Answered(element, next) => {
-                let p = fields_at(s, here);
-                fine = at_element(
-                    minimum,
-                    job,
-                    fine,
-                    s.len(),
-                    p,
-                    record_reference::element_references(element),
-                    table,
-                    out,
-                );
-                here = next;
-                left = left - 1;
-            }
-        }
+    for _ in 0..s.len() {
+        let Ok((element, next)) = record_list::step(s, here) else {
+            return fine;
+        };
+        let p = fields_at(s, here);
+        let references = record_reference::element_references(element);
+        fine = at_element(minimum, job, fine, s.len(), p, references, table, out);
+        here = next;
     }
     fine
 }
@@ -243,27 +216,13 @@ pub fn at_payload(
 ) -> bool
     ensures { held_of result table.new out.new ≡ done_of minimum job s.now (held_of good table.old out.old) }
 {
-    match record_data::type_data(s) {
-        TypeAnswer::Refused(_) => {
-            return good;
-        }
-        TypeAnswer::Answered(data) => {
-            let own = at_references(
-                minimum,
-                job,
-                good,
-                record_reference::record_references(data),
-                table,
-                out,
-            );
-            match record_list::start(Stream::Types, s) {
-                StartAnswer::Answered(c) => {
-                    return at_elements(s, c, minimum, job, own, table, out);
-                }
-                StartAnswer::Refused(_) => {
-                    return own;
-                }
-            }
-        }
+    let Ok(data) = record_data::type_data(s) else {
+        return good;
+    };
+    let references = record_reference::record_references(data);
+    let own = at_references(minimum, job, good, references, table, out);
+    match record_list::start(Stream::Types, s) {
+        Ok(c) => at_elements(s, c, minimum, job, own, table, out),
+        Err(_) => own,
     }
 }

@@ -16,42 +16,26 @@ ghost use Rattle.stream_fit.specs.Fit.{fit, fit_of};
 ghost use Rattle.stream_prune.specs.Links.{payloads_from};
 ghost use Rattle.stream_drop.specs.Each.{held_of};
 ghost use Rattle.stream_drop.specs.Passes.{numbered_to, number_from, marked_in, asked_in, written_in};
-ghost use Rattle.stream_drop.specs.Drop.{first_above, said_above, dropped_of, drop_of, Drops};
+ghost use Rattle.stream_drop.specs.Drop.{first_above, dropped_of, drop_of, Drops};
 
 use answer::Refusal;
 use field::index::Stream;
 use passes::Count;
-use stream_fit::FitAnswer;
-use stream_header::{Header, HeaderAnswer};
+use stream_fit::Fitness;
+use stream_header::Header;
 use stream_item::iter;
-use stream_item::iter::{ItemIter, IterAnswer};
-
-// The new stream's length.
-#[derive(Clone, Copy)]
-pub enum DropAnswer {
-    Written(usize),
-    Refused(Refusal),
-}
-
-#[derive(Clone, Copy)]
-enum Above {
-    None,
-    Root(u32),
-}
+use stream_item::iter::ItemIter;
 
 // The first root at or above the maximum.
-fn first_above(roots: &[u32], maximum: u32) -> Above
-    ensures { said_above result ≡ first_above maximum roots.now }
+fn first_above(roots: &[u32], maximum: u32) -> Option<u32>
+    ensures { result ≡ first_above maximum roots.now }
 {
-    let mut j: usize = 0;
-    while j < roots.len() {
-        let x = roots[j];
-        if maximum <= x {
-            return Above::Root(x);
+    for x in roots {
+        if maximum <= *x {
+            return Some(*x);
         }
-        j = j + 1;
     }
-    Above::None
+    None
 }
 
 // The new numbers of n records into the table.
@@ -88,9 +72,10 @@ fn asked(
     ensures { held_of result table.new out.new ≡ asked_in minimum next start (payloads_from n s.now c) (held_of true table.old out.old) }
 {
     if next <= 0xffff {
-        return true;
+        true
+    } else {
+        passes::up(s, c, minimum, n, false, start, table, out)
     }
-    passes::up(s, c, minimum, n, false, start, table, out)
 }
 
 // The header, with its new maximum, and the kept records.
@@ -121,34 +106,32 @@ fn dropped(
     roots: &[u32],
     table: &mut [u32],
     out: &mut [u8],
-) -> DropAnswer
+) -> Result<usize, Refusal>
     requires { (header_of s.now ≡ answered h) × (iter_of stream.Types s.now ≡ answered c) × (fit_of s.now ≡ answered fit) }
     ensures { Drops table.old out.old (dropped_of s.now h (payloads_from (suc (length s.now)) s.now c) roots.now (length table.old) (length out.old)) result table.new out.new }
 {
     let minimum = h.minimum_index;
     let start = h.header_size as usize;
     match first_above(roots, h.maximum_index) {
-        Above::Root(x) => {
-            return DropAnswer::Refused(Refusal::NotFound(x));
-        }
-        Above::None => {
+        Some(x) => Err(Refusal::NotFound(x)),
+        None => {
             let n = (h.maximum_index - minimum) as usize;
             if table.len() < n {
-                return DropAnswer::Refused(Refusal::TableFull);
+                return Err(Refusal::TableFull);
             }
             if s.len() == 0 {
-                return DropAnswer::Written(0);
+                return Ok(0);
             }
             let k = renumber(s, c, minimum, n, roots, table, out);
             if !asked(s, c, minimum, n, k.next, start, table, out) {
-                return DropAnswer::Refused(Refusal::ReadsAsNone);
+                return Err(Refusal::ReadsAsNone);
             }
             let size = start + k.bytes;
             if out.len() < size {
-                return DropAnswer::Refused(Refusal::NoRoom);
+                return Err(Refusal::NoRoom);
             }
             write(s, c, minimum, n, k.next, start, table, out);
-            return DropAnswer::Written(size);
+            Ok(size)
         }
     }
 }
@@ -156,28 +139,13 @@ fn dropped(
 // The stream of the records that the roots reach, from place 0 of the buffer. Refused: 16 and what the header refuses; 29 where R-9 says no; 8 with
 // the first root at or above the maximum; 13 where the table has fewer entries than the stream records; 30 where an optional reference would become
 // 0xffff; 19. Up to 13 the table is as it was; after 30 and 19, as after an answer, its first entries hold old to new, 0 for a record that is dropped.
-pub fn drop(s: &[u8], roots: &[u32], table: &mut [u32], out: &mut [u8]) -> DropAnswer
+pub fn drop(s: &[u8], roots: &[u32], table: &mut [u32], out: &mut [u8]) -> Result<usize, Refusal>
     ensures { Drops table.old out.old (drop_of s.now roots.now (length table.old) (length out.old)) result table.new out.new }
 {
-    match Header::parse(s) {
-        HeaderAnswer::Refused(e) => {
-            return DropAnswer::Refused(e);
-        }
-        HeaderAnswer::Answered(h) => match iter::iter(Stream::Types, s) {
-            IterAnswer::Refused(e) => {
-                return DropAnswer::Refused(e);
-            }
-            IterAnswer::Answered(c) => match stream_fit::fit(s) {
-                FitAnswer::Refused(e) => {
-                    return DropAnswer::Refused(e);
-                }
-                FitAnswer::No(_, _) => {
-                    return DropAnswer::Refused(Refusal::NotFit);
-                }
-                FitAnswer::Yes => {
-                    return dropped(s, h, c, roots, table, out);
-                }
-            },
-        },
+    let h = Header::parse(s)?;
+    let c = iter::iter(Stream::Types, s)?;
+    match stream_fit::fit(s)? {
+        Fitness::Unfit(_, _) => Err(Refusal::NotFit),
+        Fitness::Fit => dropped(s, h, c, roots, table, out),
     }
 }

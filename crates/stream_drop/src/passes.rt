@@ -1,7 +1,7 @@
 // The passes over the records of a stream: their lengths into the table, the marks of the roots, one pass down that marks what is named, the new
 // numbers, and one pass up. specs/Passes.antt has what each leaves. The table's entry of a record holds its payload's length, 65,536
 // above it once the record is marked, and at last its new number.
-ghost use Rattle.std.specs.Prelude.{◌+◌, ◌-◌, ◌*◌, ◌%◌, ◌≤◌, true, ◌≡◌, length, get_or, set};
+ghost use Rattle.std.specs.Prelude.{◌+◌, ◌-◌, ◌%◌, ◌≤◌, true, ◌≡◌, length, set};
 ghost use Rattle.stream_prune.specs.Links.{payloads_from};
 ghost use Rattle.stream_drop.specs.Each.{held_of};
 ghost use Rattle.stream_drop.specs.Passes.{lengths_in, roots_in, rooted, visited, down_from, numbered_to, numbered_at, number_from, link_laid, up_at, place_behind, up_from};
@@ -9,16 +9,13 @@ ghost use Rattle.stream_drop.specs.Passes.{lengths_in, roots_in, rooted, visited
 use crate::each;
 use crate::each::Job;
 use stream_item::iter;
-use stream_item::iter::{ItemIter, NextAnswer};
+use stream_item::iter::ItemIter;
 
 // a less b, 0 where b is more.
 fn less(a: usize, b: usize) -> usize
     ensures { result ≡ a - b }
 {
-    if a < b {
-        return 0;
-    }
-    a - b
+    a.saturating_sub(b)
 }
 
 // A number at place i of the table; nothing past its end.
@@ -35,24 +32,13 @@ pub fn lengths(s: &[u8], c: ItemIter, n: usize, table: &mut [u32])
     ensures { table.new ≡ lengths_in 0 (payloads_from n s.now c) table.old }
 {
     let mut here = c;
-    let mut left = n;
-    let mut i: usize = 0;
-    while left > 0 {
-        match iter::next(s, here) {
-            NextAnswer::Refused(_) => {
-                return;
-            }
-            NextAnswer::Done => {
-                return;
-            }
-            NextAnswer::Yielded(item, next) => {
-                let payload = field::run::bytes_at(s, item.place, item.length);
-                store(table, i, (payload.len() % 65536) as u32);
-                here = next;
-                i = i + 1;
-                left = left - 1;
-            }
-        }
+    for i in 0..n {
+        let Ok(Some((item, next))) = iter::next(s, here) else {
+            return;
+        };
+        let payload = field::run::bytes_at(s, item.place, item.length);
+        store(table, i, (payload.len() % 65536) as u32);
+        here = next;
     }
 }
 
@@ -70,10 +56,8 @@ fn root(table: &mut [u32], minimum: u32, x: u32)
 pub fn mark_roots(roots: &[u32], minimum: u32, table: &mut [u32])
     ensures { table.new ≡ roots_in minimum roots.now table.old }
 {
-    let mut j: usize = 0;
-    while j < roots.len() {
-        root(table, minimum, roots[j]);
-        j = j + 1;
+    for x in roots {
+        root(table, minimum, *x);
     }
 }
 
@@ -132,10 +116,7 @@ fn number_one(table: &mut [u32], i: usize, k: Count) -> Count
     store(table, i, k.next);
     let next = k.next + 1;
     let bytes = k.bytes + 2 + (e % 65536) as usize;
-    Count {
-        next: next,
-        bytes: bytes,
-    }
+    Count { next, bytes }
 }
 
 // The new numbers of n records, in place of their marks.
@@ -147,10 +128,8 @@ pub fn number(table: &mut [u32], minimum: u32, n: usize) -> Count
         next: minimum,
         bytes: 0,
     };
-    let mut i: usize = 0;
-    while i < n {
+    for i in 0..n {
         k = number_one(table, i, k);
-        i = i + 1;
     }
     k
 }
@@ -183,9 +162,10 @@ fn at_record(
     }
     if writing {
         put_link(payload, q, out);
-        return each::at_payload(payload, minimum, Job::Write(q + 2), good, table, out);
+        each::at_payload(payload, minimum, Job::Write(q + 2), good, table, out)
+    } else {
+        each::at_payload(payload, minimum, Job::Ask, good, table, out)
     }
-    each::at_payload(payload, minimum, Job::Ask, good, table, out)
 }
 
 // Where the next record that is kept goes.
@@ -194,9 +174,10 @@ fn after(payload: &[u8], q: usize, kept: u32) -> usize
     ensures { (result ≡ place_behind q kept payload.now) × (result ≤ q + 65537) }
 {
     if kept == 0 {
-        return q;
+        q
+    } else {
+        q + 2 + payload.len() % 65536
     }
-    q + 2 + payload.len() % 65536
 }
 
 // One pass up over n records: each that is kept is written from place q of the buffer on; or it is asked whether a reference would read as none.
@@ -214,28 +195,17 @@ pub fn up(
     ensures { held_of result table.new out.new ≡ up_from minimum writing 0 start (payloads_from n s.now c) (held_of true table.old out.old) }
 {
     let mut here = c;
-    let mut left = n;
-    let mut i: usize = 0;
     let mut q = start;
     let mut good = true;
-    while left > 0 {
-        match iter::next(s, here) {
-            NextAnswer::Refused(_) => {
-                return good;
-            }
-            NextAnswer::Done => {
-                return good;
-            }
-            NextAnswer::Yielded(item, next) => {
-                let payload = field::run::bytes_at(s, item.place, item.length);
-                let kept = each::entry(table, i);
-                good = at_record(payload, minimum, writing, q, kept, good, table, out);
-                q = after(payload, q, kept);
-                here = next;
-                i = i + 1;
-                left = left - 1;
-            }
-        }
+    for i in 0..n {
+        let Ok(Some((item, next))) = iter::next(s, here) else {
+            return good;
+        };
+        let payload = field::run::bytes_at(s, item.place, item.length);
+        let kept = each::entry(table, i);
+        good = at_record(payload, minimum, writing, q, kept, good, table, out);
+        q = after(payload, q, kept);
+        here = next;
     }
     good
 }

@@ -1,4 +1,6 @@
 -- The outcomes of creation, `update_of`, `max_index_of` and `look_of`, a law for each, in the order of their tests. Assumes nothing.
+use Rattle.std.specs.Prelude.{Result}
+use Rattle.answer.specs.declared.Refusal.{Refusal}
 use Prim.Native.Nat.{ℕ, ◌+◌, ◌-◌, ◌*◌, ◌/◌, ◌%◌, ◌^◌, ◌≤◌, ◌<◌, min}
 use mathlib.Core.Path.{◌≡◌, refl, sym, ap, ◌∙◌}
 use mathlib.Core.List.{List, [], ◌∷◌}
@@ -17,11 +19,11 @@ use Rattle.stream_item.specs.Links.{link_of}
 use Rattle.field.specs.declared.index.ItemIndex.{ItemIndex}
 use Rattle.stream_item.specs.declared.Entry.TheVariants as entry
 use Rattle.stream_item.specs.declared.iter.ItemIter.{ItemIter}
-use Rattle.stream_finder.specs.Finder.{State, state, block_of, header_records, holding_in, holding, begun_in, begun_by, create_by, due, stored, update_of, Found, max_index_of, landed, look_of, find_of, said_finder, finder_of, table_after, Fills}
+use Rattle.stream_finder.specs.Finder.{State, state, block_of, header_records, holding_in, holding, begun_in, begun_by, create_by, due, stored, update_of, Found, max_index_of, landed, look_of, find_of, finder_of, table_after, Fills}
 use Rattle.stream_finder.specs.Places.{Ready}
 use Rattle.stream_finder.specs.declared.Records.{Records}
 use Rattle.stream_finder.specs.declared.ItemFinder.{ItemFinder}
-use Rattle.stream_finder.specs.declared.FinderAnswer.{FinderAnswer}
+use Rattle.answer.specs.Refusals.{itself, said}
 
 -- ---- creation
 module _ (shift : ℕ) (t : List ℕ) (r : Records) where
@@ -61,12 +63,12 @@ unfolding create_by
 create-is shift s t a e = rw e
 
 -- the contract from the case that holds
-pub leaves : (t : List ℕ) (x : Answer State) (r : FinderAnswer) (t' : List ℕ) (a : Answer State)
-    → x ≡ a → said_finder r ≡ finder_of a → t' ≡ table_after t a → Fills t x r t'
+pub leaves : (t : List ℕ) (x : Answer State) (r : Result ItemFinder Refusal) (t' : List ℕ) (a : Answer State)
+    → x ≡ a → said itself r ≡ finder_of a → t' ≡ table_after t a → Fills t x r t'
 leaves t x r t' a e p q = record { answer = p ∙ ap finder_of (sym e); table = q ∙ ap (table_after t) (sym e) }
 
 -- the contract by another name of its answer
-pub leaves-as : (t : List ℕ) (x : Answer State) (r : FinderAnswer) (t' : List ℕ) (a : Answer State) → x ≡ a → Fills t a r t' → Fills t x r t'
+pub leaves-as : (t : List ℕ) (x : Answer State) (r : Result ItemFinder Refusal) (t' : List ℕ) (a : Answer State) → x ≡ a → Fills t a r t' → Fills t x r t'
 leaves-as t x r t' a e l = leaves t x r t' a e l.answer l.table
 
 -- ---- update

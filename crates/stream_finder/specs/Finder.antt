@@ -1,8 +1,9 @@
 -- Document 01, "Finder", with R-7 of document 02: creation, `update`, `find` and `max_index`. A finder has a shift from 0 to 6 since its
 -- creation, and its blocks have 2^shift links: 01's 8 is the shift 3. A shift above 6 is 26, right before the first 13.
-use Rattle.std.specs.Prelude.{ℕ, ◌+◌, ◌-◌, ◌*◌, ◌/◌, ◌%◌, ◌^◌, min, List, [], ◌∷◌, ◌≡◌, Bool, length, get_or, set, leb, ltb, eqb}
+use Rattle.std.specs.Prelude.{Result, ℕ, ◌+◌, ◌-◌, ◌*◌, ◌/◌, ◌%◌, ◌^◌, min, List, [], ◌∷◌, ◌≡◌, Bool, length, get_or, set, leb, ltb, eqb}
+use Rattle.answer.specs.declared.Refusal.{Refusal}
 use Rattle.answer.specs.Answer.{Answer, answered, refused, pick, stop, both, then}
-use Rattle.answer.specs.Refusals.{no}
+use Rattle.answer.specs.Refusals.{itself, said}
 use Rattle.stream_header.specs.Header.{longest, header_of}
 use Rattle.stream_header.specs.declared.Header.{Header}
 use Rattle.field.specs.Indices.{index_number}
@@ -15,10 +16,6 @@ use Rattle.stream_item.specs.declared.link.Hit.{Hit}
 use Rattle.stream_item.specs.declared.link.Hit.TheVariants.{Landed, Missed}
 use Rattle.stream_finder.specs.declared.Records.{Records}
 use Rattle.stream_finder.specs.declared.ItemFinder.{ItemFinder}
-use Rattle.stream_finder.specs.declared.FinderAnswer.{FinderAnswer}
-use Rattle.stream_finder.specs.declared.FinderAnswer.TheVariants as finder
-use Rattle.stream_finder.specs.declared.FindAnswer.{FindAnswer}
-use Rattle.stream_finder.specs.declared.FindAnswer.TheVariants as find
 
 -- a finder and the table that is lent to it
 pub record State : Type 0 where
@@ -140,13 +137,11 @@ abbrev pub find_of : List ℕ → State → ItemIndex → Answer Found
 find_of s σ i = look_of s σ i (index_number i)
 
 -- ---- what the answers say
-abbrev pub said_find : FindAnswer → Answer Found
-said_find (find.Found e k) = answered (record { entry = e; passed = k })
-said_find (find.Refused e) = no e
+abbrev pub found : Entry × ℕ → Found
+found x = record { entry = x.0; passed = x.1 }
 
-abbrev pub said_finder : FinderAnswer → Answer ItemFinder
-said_finder (finder.Answered f) = answered f
-said_finder (finder.Refused e) = no e
+abbrev pub said_find : Result (Entry × ℕ) Refusal → Answer Found
+said_find = said found
 
 abbrev pub finder_of : Answer State → Answer ItemFinder
 finder_of (answered τ) = answered τ.finder
@@ -158,6 +153,6 @@ table_after t (refused n d) = t
 
 -- the contract of a function that is lent the table t and answers with a finder: a is the definition's answer, r the function's, t' the table
 -- after it
-pub record Fills (t : List ℕ) (a : Answer State) (r : FinderAnswer) (t' : List ℕ) : Type 0 where
-  pub answer : said_finder r ≡ finder_of a
+pub record Fills (t : List ℕ) (a : Answer State) (r : Result ItemFinder Refusal) (t' : List ℕ) : Type 0 where
+  pub answer : said itself r ≡ finder_of a
   pub table : t' ≡ table_after t a

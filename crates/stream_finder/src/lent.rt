@@ -3,21 +3,14 @@
 ghost use Rattle.stream_finder.specs.Finder.{state};
 ghost use Rattle.stream_finder.specs.Lent.{Updates};
 
-use crate::{FinderAnswer, ItemFinder};
+use crate::ItemFinder;
 use answer::Refusal;
 use stream_item::iter::ItemIter;
-
-// An update in place answers with no value; what it refuses it leaves as it was, finder and table.
-#[derive(Clone, Copy)]
-pub enum UpdateAnswer {
-    Answered,
-    Refused(Refusal),
-}
 
 // What an update answers, and the finder after it.
 #[derive(Clone, Copy)]
 pub struct UpdateStep {
-    pub answer: UpdateAnswer,
+    pub answer: Result<(), Refusal>,
     pub finder: ItemFinder,
 }
 
@@ -26,12 +19,12 @@ fn updated(f: ItemFinder, t: &mut [u32], c: ItemIter) -> UpdateStep
     ensures { Updates (state f t.old) c result.answer (state result.finder t.new) }
 {
     match crate::update(f, t, c) {
-        FinderAnswer::Answered(g) => UpdateStep {
-            answer: UpdateAnswer::Answered,
+        Ok(g) => UpdateStep {
+            answer: Ok(()),
             finder: g,
         },
-        FinderAnswer::Refused(e) => UpdateStep {
-            answer: UpdateAnswer::Refused(e),
+        Err(e) => UpdateStep {
+            answer: Err(e),
             finder: f,
         },
     }
@@ -39,7 +32,7 @@ fn updated(f: ItemFinder, t: &mut [u32], c: ItemIter) -> UpdateStep
 
 impl ItemFinder {
     // The lent finder holds the place of the record that an iterator came to, if that starts the next block.
-    pub fn update(&mut self, t: &mut [u32], c: ItemIter) -> UpdateAnswer
+    pub fn update(&mut self, t: &mut [u32], c: ItemIter) -> Result<(), Refusal>
         ensures { Updates (state self.old t.old) c result (state self.new t.new) }
     {
         let u = updated(*self, t, c);

@@ -19,7 +19,7 @@ ghost use Rattle.stream_finder.specs.Finder.{state, begun_in, create_by, create_
 
 use answer::Refusal;
 use field::index::{IdIndex, ItemIndex, TypeIndex};
-use stream_header::{Header, HeaderAnswer, LONGEST};
+use stream_header::{Header, LONGEST};
 use stream_item::iter::ItemIter;
 use stream_item::link::Hit;
 use stream_item::{Entry, Item};
@@ -49,69 +49,52 @@ pub struct ItemFinder {
     pub shift: u32,
 }
 
-#[derive(Clone, Copy)]
-pub enum FinderAnswer {
-    Answered(ItemFinder),
-    Refused(Refusal),
-}
-
-// What a lookup found, and how many links it passed.
-#[derive(Clone, Copy)]
-pub enum FindAnswer {
-    Found(Entry, u32),
-    Refused(Refusal),
-}
-
 // A fresh finder of a stream, with blocks of 8: it holds the place of the first record, if there is one.
-pub fn create(s: &[u8], t: &mut [u32]) -> FinderAnswer
+pub fn create(s: &[u8], t: &mut [u32]) -> Result<ItemFinder, Refusal>
     ensures { Fills t.old (create_of s.now t.old) result t.new }
 {
     create_by(s, t, SHIFT)
 }
 
 // A fresh finder of a stream, with blocks of 2^shift.
-pub fn create_by(s: &[u8], t: &mut [u32], shift: u32) -> FinderAnswer
+pub fn create_by(s: &[u8], t: &mut [u32], shift: u32) -> Result<ItemFinder, Refusal>
     ensures { Fills t.old (create_by shift s.now t.old) result t.new }
 {
-    match Header::parse(s) {
-        HeaderAnswer::Answered(h) => {
-            let records = Records {
-                start: h.header_size,
-                minimum: h.minimum_index,
-                maximum: h.maximum_index,
-            };
-            begin(t, records, shift)
-        }
-        HeaderAnswer::Refused(e) => FinderAnswer::Refused(e),
-    }
+    let h = Header::parse(s)?;
+    let records = Records {
+        start: h.header_size,
+        minimum: h.minimum_index,
+        maximum: h.maximum_index,
+    };
+    begin(t, records, shift)
 }
 
 // A fresh finder of any records: what is fresh is the same wherever they start.
-pub fn begin(t: &mut [u32], records: Records, shift: u32) -> FinderAnswer
+pub fn begin(t: &mut [u32], records: Records, shift: u32) -> Result<ItemFinder, Refusal>
     ensures { Fills t.old (begun_in shift t.old records) result t.new }
 {
     let minimum = records.minimum;
     let maximum = records.maximum;
     if shift > LARGEST_SHIFT {
-        return FinderAnswer::Refused(Refusal::Shift);
+        return Err(Refusal::Shift);
     }
     if maximum <= minimum {
-        return FinderAnswer::Answered(ItemFinder {
+        return Ok(ItemFinder {
             minimum_index: minimum,
             maximum_index: maximum,
             held: 0,
-            shift: shift,
+            shift,
         });
     }
     if t.len() == 0 {
-        return FinderAnswer::Refused(Refusal::TableFull);
+        return Err(Refusal::TableFull);
     }
     t[0] = records.start;
-    FinderAnswer::Answered(ItemFinder {
+    Ok(ItemFinder {
         minimum_index: minimum,
         maximum_index: maximum,
         held: 1,
-        shift: shift,
+        shift,
     })
 }
 
@@ -124,7 +107,7 @@ fn rest_of(d: u32, shift: u32) -> u32
 }
 
 // The finder after an iterator came to a record: it holds the record's place if that starts the next block.
-pub fn update(f: ItemFinder, t: &mut [u32], c: ItemIter) -> FinderAnswer
+pub fn update(f: ItemFinder, t: &mut [u32], c: ItemIter) -> Result<ItemFinder, Refusal>
     ensures { Fills t.old (update_of (state f t.old) c) result t.new }
 {
     let at = c.at;
@@ -133,36 +116,36 @@ pub fn update(f: ItemFinder, t: &mut [u32], c: ItemIter) -> FinderAnswer
     let held = f.held;
     let shift = f.shift;
     if at > LONGEST {
-        return FinderAnswer::Refused(Refusal::TooLong);
+        return Err(Refusal::TooLong);
     }
     if shift > LARGEST_SHIFT {
-        return FinderAnswer::Refused(Refusal::Shift);
+        return Err(Refusal::Shift);
     }
     if held > t.len() {
-        return FinderAnswer::Refused(Refusal::TableFull);
+        return Err(Refusal::TableFull);
     }
     if index < minimum {
-        return FinderAnswer::Refused(Refusal::ForeignCursor);
+        return Err(Refusal::ForeignCursor);
     }
     // the quotient first: of an iterator's records it is the places held only where a block starts
     let d = index - minimum;
     if (d >> shift) as usize != held {
-        return FinderAnswer::Answered(f);
+        return Ok(f);
     }
     if rest_of(d, shift) != 0 {
-        return FinderAnswer::Answered(f);
+        return Ok(f);
     }
     if held == t.len() {
-        return FinderAnswer::Refused(Refusal::TableFull);
+        return Err(Refusal::TableFull);
     }
     let place = at as u32;
     t[held] = place;
     let more = held + 1;
-    FinderAnswer::Answered(ItemFinder {
+    Ok(ItemFinder {
         minimum_index: minimum,
         maximum_index: f.maximum_index,
         held: more,
-        shift: shift,
+        shift,
     })
 }
 
@@ -205,21 +188,21 @@ impl ItemFinder {
 }
 
 // The type of an index: s is the TPI stream, f its finder.
-pub fn find_type(s: &[u8], f: ItemFinder, t: &[u32], i: TypeIndex) -> FindAnswer
+pub fn find_type(s: &[u8], f: ItemFinder, t: &[u32], i: TypeIndex) -> Result<(Entry, u32), Refusal>
     ensures { said_find result ≡ find_of s.now (state f t.now) (index.Types i) }
 {
     find(s, f, t, ItemIndex::Types(i))
 }
 
 // The id of an index: s is the IPI stream, f its finder.
-pub fn find_id(s: &[u8], f: ItemFinder, t: &[u32], i: IdIndex) -> FindAnswer
+pub fn find_id(s: &[u8], f: ItemFinder, t: &[u32], i: IdIndex) -> Result<(Entry, u32), Refusal>
     ensures { said_find result ≡ find_of s.now (state f t.now) (index.Ids i) }
 {
     find(s, f, t, ItemIndex::Ids(i))
 }
 
 // The record of an index, or the marker below the minimum, with the links passed on the way.
-fn find(s: &[u8], f: ItemFinder, t: &[u32], i: ItemIndex) -> FindAnswer
+fn find(s: &[u8], f: ItemFinder, t: &[u32], i: ItemIndex) -> Result<(Entry, u32), Refusal>
     ensures { said_find result ≡ find_of s.now (state f t.now) i }
 {
     let minimum = f.minimum_index;
@@ -227,26 +210,26 @@ fn find(s: &[u8], f: ItemFinder, t: &[u32], i: ItemIndex) -> FindAnswer
     let held = f.held;
     let n = i.number();
     if s.len() > LONGEST {
-        return FindAnswer::Refused(Refusal::TooLong);
+        return Err(Refusal::TooLong);
     }
     if f.shift > LARGEST_SHIFT {
-        return FindAnswer::Refused(Refusal::Shift);
+        return Err(Refusal::Shift);
     }
     if t.len() < held {
-        return FindAnswer::Refused(Refusal::TableFull);
+        return Err(Refusal::TableFull);
     }
     if n < minimum {
-        return FindAnswer::Found(Entry::Marker(i), 0);
+        return Ok((Entry::Marker(i), 0));
     }
     if n > maximum {
-        return FindAnswer::Refused(Refusal::NotFound(n));
+        return Err(Refusal::NotFound(n));
     }
     walked(s, f, t, i, n)
 }
 
 // The same of an index that is in the stream's range, where nothing refuses the call. A function of its own, so that the walk is not behind
 // all of the tests: what is, the compiler takes for rarely done, and calls where it could inline.
-fn walked(s: &[u8], f: ItemFinder, t: &[u32], i: ItemIndex, n: u32) -> FindAnswer
+fn walked(s: &[u8], f: ItemFinder, t: &[u32], i: ItemIndex, n: u32) -> Result<(Entry, u32), Refusal>
     requires { (length s.now ≤ 4294967294) × (f.shift ≤ 6) × (f.held ≤ length t.now) × (f.minimum_index ≤ n) × (n ≤ f.maximum_index) }
     ensures { said_find result ≡ look_of s.now (state f t.now) i n }
 {
@@ -255,23 +238,19 @@ fn walked(s: &[u8], f: ItemFinder, t: &[u32], i: ItemIndex, n: u32) -> FindAnswe
     let d = n - f.minimum_index;
     let block = (d >> shift) as usize;
     if block >= held {
-        return FindAnswer::Refused(Refusal::NotIndexed(n, f.highest()));
+        return Err(Refusal::NotIndexed(n, f.highest()));
     }
     let k = rest_of(d, shift);
     let p = t[block] as usize;
     match stream_item::link::link_of(s, p, k) {
-        Hit::Landed(place, length) => {
-            return FindAnswer::Found(
-                Entry::Record(Item {
-                    index: i,
-                    place: place,
-                    length: length,
-                }),
-                k,
-            );
-        }
-        Hit::Missed(passed) => {
-            return FindAnswer::Refused(Refusal::EndedAfter(passed));
-        }
+        Hit::Landed(place, length) => Ok((
+            Entry::Record(Item {
+                index: i,
+                place,
+                length,
+            }),
+            k,
+        )),
+        Hit::Missed(passed) => Err(Refusal::EndedAfter(passed)),
     }
 }

@@ -8,7 +8,10 @@ use borrow.Author.Tests.{le-leb, lt-leb, le-ltb, lt-ltb}
 use Rattle.answer.specs.Answer.{pick}
 use Rattle.word_primitive.specs.Primitive.{primitive_of}
 use Rattle.record_layout.specs.Layouts.{is_answered}
-use Rattle.stream_fit.specs.Worst.{fault_of, lesser}
+use Rattle.std.specs.Prelude.{Option, None, Some}
+use Rattle.stream_fit.specs.Worst.{rule_or_6, fault_of, lesser}
+use Rattle.stream_fit.specs.declared.Rule.{Rule}
+use Rattle.stream_fit.specs.declared.Rule.TheVariants as rule
 
 swapped : (b : Bool) → pick {A = ℕ} b 6 4 ≡ pick (pick b false true) 4 6
 swapped true = refl
@@ -44,3 +47,20 @@ lesser-old w b f e h = go (ltb f w) (rw e at (le-ltb b w h))
     go : (t : Bool) → t ≡ false → w ≡ pick t f w
     go true i = let z : ◌≡◌ {A = ℕ} 0 1 = cc in absurd (omega arith)
     go false i = refl
+
+-- of two rules of the code's, one of them none
+pub first-only : (b : Option Rule) → rule_or_6 b ≡ lesser 6 (rule_or_6 b)
+first-only None = refl
+first-only (Some rule.Count) = refl
+first-only (Some rule.Decode) = refl
+first-only (Some rule.Order) = refl
+first-only (Some rule.Primitive) = refl
+first-only (Some rule.Gap) = refl
+
+pub second-none : (a : Option Rule) → rule_or_6 a ≡ lesser (rule_or_6 a) 6
+second-none None = refl
+second-none (Some rule.Count) = refl
+second-none (Some rule.Decode) = refl
+second-none (Some rule.Order) = refl
+second-none (Some rule.Primitive) = refl
+second-none (Some rule.Gap) = refl

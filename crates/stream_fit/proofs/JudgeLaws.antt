@@ -1,5 +1,8 @@
 -- The verdict of a walk, a law for each outcome of its first step. Assumes nothing.
-use Prim.Native.Nat.{ℕ, zero, suc, ◌-◌}
+use Rattle.stream_fit.specs.declared.Rule.{Rule}
+use Rattle.stream_fit.specs.declared.Rule.TheVariants as rule
+use Rattle.std.specs.Prelude.{Option, None, Some}
+use Prim.Native.Nat.{ℕ, zero, suc, ◌+◌, ◌-◌, ◌<◌}
 use native.Mathlib.Omega.{arith}
 use mathlib.Core.Path.{◌≡◌, refl}
 use mathlib.Core.List.{List}
@@ -8,37 +11,47 @@ use Rattle.answer.specs.Answer.{answered, refused}
 use Rattle.stream_item.specs.Iterator.{done, yielded, next_of}
 use Rattle.stream_item.specs.declared.Item.{Item}
 use Rattle.stream_item.specs.declared.iter.ItemIter.{ItemIter}
-use Rattle.stream_fit.specs.Fit.{fit, unfit, payload_of, judged}
-use Rattle.stream_fit.specs.Worst.{worst_of}
+use Rattle.stream_fit.specs.Fit.{fit, unfit, payload_of, rule_number, judged}
+use Rattle.stream_fit.specs.Worst.{rule_or_6, worst_of, as_rule}
 use Rattle.stream_fit.proofs.WorstLaws.{rule-is}
 
-module _ (s : List ℕ) (minimum maximum n : ℕ) (c : ItemIter) where
-  pub judged-stopped : (m : ℕ) (d : List ℕ) → next_of s c ≡ refused m d → judged (suc n) s minimum maximum c ≡ unfit c.index 2
-  unfolding judged
-  judged-stopped m d e = rw e
+as-rule : (r : Rule) → as_rule (rule_number r) ≡ Some (rule_number r)
+as-rule rule.Count = refl
+as-rule rule.Decode = refl
+as-rule rule.Order = refl
+as-rule rule.Primitive = refl
+as-rule rule.Gap = refl
 
-  pub judged-yes : next_of s c ≡ answered done → c.index ≡ maximum → judged (suc n) s minimum maximum c ≡ fit
+-- n steps are left
+module _ (s : List ℕ) (minimum maximum : ℕ) (c : ItemIter) where
+  pub judged-stopped : (n m : ℕ) (d : List ℕ) → 0 < n → refused m d ≡ next_of s c → unfit c.index 2 ≡ judged n s minimum maximum c
   unfolding judged
-  judged-yes e h = rw (e, eq-eqb _ _ h)
+  judged-stopped zero m d l e = absurd (omega arith)
+  judged-stopped (suc n) m d l e = rw (← e)
 
-  pub judged-count : next_of s c ≡ answered done → (c.index ≡ maximum → ⊥) → judged (suc n) s minimum maximum c ≡ unfit 0 1
+  pub judged-yes : (n : ℕ) → 0 < n → answered done ≡ next_of s c → c.index ≡ maximum → fit ≡ judged n s minimum maximum c
   unfolding judged
-  judged-count e h = rw (e, ne_eqb _ _ h)
+  judged-yes zero l e h = absurd (omega arith)
+  judged-yes (suc n) l e h = rw (← e, eq-eqb _ _ h)
 
-  module _ (i : Item) (d : ItemIter) (e : next_of s c ≡ answered (yielded i d)) (rule : ℕ) (r : rule ≡ worst_of minimum c.index (payload_of s i)) where
-    pub judged-broken : (rule ≡ 6 → ⊥) → judged (suc n) s minimum maximum c ≡ unfit c.index rule
+  pub judged-count : (n : ℕ) → 0 < n → answered done ≡ next_of s c → (c.index ≡ maximum → ⊥) → unfit 0 1 ≡ judged n s minimum maximum c
+  unfolding judged
+  judged-count zero l e h = absurd (omega arith)
+  judged-count (suc n) l e h = rw (← e, ne_eqb _ _ h)
+
+  module _ (i : Item) (d : ItemIter) (o : Option Rule) (e : answered (yielded i d) ≡ next_of s c) (w : rule_or_6 o ≡ worst_of minimum c.index (payload_of s i)) where
+    pub judged-broken : (n : ℕ) (r : Rule) → 0 < n → o ≡ Some r → unfit c.index (rule_number r) ≡ judged n s minimum maximum c
     unfolding judged
-    judged-broken h = rw (e, rule-is minimum c.index (payload_of s i), ← r, ne_eqb _ _ h)
+    judged-broken zero r l h = absurd (omega arith)
+    judged-broken (suc n) r l h = rw (← e, rule-is minimum c.index (payload_of s i), ← w, h, as-rule r)
 
-    pub judged-on : rule ≡ 6 → judged (suc n) s minimum maximum c ≡ judged n s minimum maximum d
+    pub judged-on : (n k : ℕ) → k < n → o ≡ None → judged (n - (k + 1)) s minimum maximum d ≡ judged (n - k) s minimum maximum c
     unfolding judged
-    judged-on h = rw (e, rule-is minimum c.index (payload_of s i), ← r, h)
+    judged-on n k l h =
+        let z : n - k ≡ suc (n - (k + 1)) = omega arith in
+        rw (z, ← e, rule-is minimum c.index (payload_of s i), ← w, h)
 
--- out of steps
-pub judged-short : (s : List ℕ) (minimum maximum n : ℕ) (c : ItemIter) → n ≡ 0 → judged n s minimum maximum c ≡ unfit 0 1
-unfolding judged
-judged-short s minimum maximum n c h = rw h
-
-pub one_less : (s : List ℕ) (minimum maximum n : ℕ) (c : ItemIter) → (n ≡ 0 → ⊥) → judged n s minimum maximum c ≡ judged (suc (n - 1)) s minimum maximum c
-one_less s minimum maximum zero c h = absurd (h refl)
-one_less s minimum maximum (suc n) c h = let e : suc n - 1 ≡ n = omega arith in rw e
+  -- out of steps
+  pub judged-short : (n : ℕ) → n ≡ 0 → unfit 0 1 ≡ judged n s minimum maximum c
+  unfolding judged
+  judged-short n h = rw h

@@ -1,22 +1,32 @@
 -- What the answer says fixes the answer, so that the contract of `fit` admits one outcome. Assumes nothing.
+use Rattle.stream_fit.specs.declared.Fitness.TheVariants as fitness
+use Rattle.std.specs.Prelude.{Result, ℕ, eqb}
+use Rattle.stream_fit.specs.declared.Fitness.{Fitness}
+use Rattle.stream_fit.specs.declared.Rule.{Rule}
+use Rattle.stream_fit.specs.declared.Rule.TheVariants as rule
+use Rattle.answer.specs.declared.Refusal.{Refusal}
 use mathlib.Core.Path.{◌≡◌, refl, ap}
-use Rattle.answer.specs.Answer.{Answer}
-use Rattle.answer.proofs.OneOutcome.{one_of, heard, refusal-back}
-use Rattle.stream_fit.specs.Fit.{Verdict, fit, unfit, said_fit}
-use Rattle.stream_fit.specs.declared.FitAnswer.{FitAnswer}
-use Rattle.stream_fit.specs.declared.FitAnswer.TheVariants as answer
+use Rattle.answer.specs.Answer.{pick}
+use Rattle.answer.proofs.OneOutcome.{one_said}
+use Rattle.stream_fit.specs.Fit.{Verdict, fit, unfit, rule_number, verdict_of, said_fit}
 
-abbrev verdict_in : Verdict → FitAnswer
-verdict_in fit = answer.Yes
-verdict_in (unfit i rule) = answer.No i rule
+abbrev rule_of : ℕ → Rule
+rule_of n = pick (eqb n 1) rule.Count (pick (eqb n 2) rule.Decode (pick (eqb n 3) rule.Order (pick (eqb n 4) rule.Primitive rule.Gap)))
 
-abbrev hear_fit : Answer Verdict → FitAnswer
-hear_fit = heard verdict_in (λ e. answer.Refused e)
+rule-back : (r : Rule) → rule_of (rule_number r) ≡ r
+rule-back rule.Count = refl
+rule-back rule.Decode = refl
+rule-back rule.Order = refl
+rule-back rule.Primitive = refl
+rule-back rule.Gap = refl
 
-back-fit : (r : FitAnswer) → hear_fit (said_fit r) ≡ r
-back-fit answer.Yes = refl
-back-fit (answer.No i rule) = refl
-back-fit (answer.Refused e) = ap answer.Refused (refusal-back e)
+abbrev fitness_of : Verdict → Fitness
+fitness_of fit = fitness.Fit
+fitness_of (unfit i n) = fitness.Unfit i (rule_of n)
 
-pub one-fit : (r q : FitAnswer) → said_fit r ≡ said_fit q → r ≡ q
-one-fit = one_of said_fit hear_fit back-fit
+fitness-back : (r : Fitness) → fitness_of (verdict_of r) ≡ r
+fitness-back fitness.Fit = refl
+fitness-back (fitness.Unfit i r) = ap (λ x. fitness.Unfit i x) (rule-back r)
+
+pub one-fit : (r q : Result Fitness Refusal) → said_fit r ≡ said_fit q → r ≡ q
+one-fit = one_said verdict_of fitness_of fitness-back

@@ -1,11 +1,11 @@
 -- R-9's yes says exactly its sentences, and its no names the lowest faulty record and the first rule that it breaks. Assumes nothing.
+use Rattle.std.specs.Prelude.{Option, None, Some}
 use Prim.Native.Nat.{ℕ, zero, suc, ◌+◌, ◌-◌, ◌≤◌, ◌<◌}
 use native.Mathlib.Omega.{arith}
 use mathlib.Core.Bool.{Bool, true, false}
 use mathlib.Core.Path.{◌≡◌, refl, ap, sym, ◌∙◌}
 use mathlib.Core.Logic.{◌⊎◌, inl, inr}
 use mathlib.Core.List.{List, [], ◌∷◌}
-use mathlib.Core.Option.{Option, none, some}
 use lib.ListN.{length}
 use lib.Dec.{leb, ltb, eqb}
 use borrow.Author.Tests.{le-leb, lt-leb, le-ltb, lt-ltb, leb-false, leb-true, ltb-true, ltb-false, eqb-true, eqb-false, eq-eqb}
@@ -32,7 +32,7 @@ use Rattle.stream_fit.specs.Sentences.{In, OrderKept, PrimitivesKept, GapKept, G
 true-false : {X : Type 0} → true ≡ false → X
 true-false e = let z : ◌≡◌ {A = ℕ} 0 1 = cc in absurd (omega arith)
 
-some-none : {X : Type 0} {n : ℕ} → ◌≡◌ {A = Option ℕ} (some n) none → X
+some-none : {X : Type 0} {n : ℕ} → ◌≡◌ {A = Option ℕ} (Some n) None → X
 some-none {X} {n} h = let z : ◌≡◌ {A = ℕ} 0 1 = cc in absurd (omega arith)
 
 none-at-fault : (fault : ℕ → Bool) (rs : List Ref) → some_ref fault rs ≡ false → (r : Ref) → In r rs → fault r.index ≡ false
@@ -91,12 +91,12 @@ module _ (minimum index n : ℕ) where
       go false e = refl
 
 module _ (minimum index : ℕ) (p : List ℕ) where
-  rule-good : rule_of minimum index p ≡ none → Good minimum index p
+  rule-good : rule_of minimum index p ≡ None → Good minimum index p
   unfolding rule_of
   rule-good h = go (refs_of p) refl h
     where
       tests : (rs : List Ref) → refs_of p ≡ answered rs → (a b c : Bool) → some_ref (disorderly minimum index) rs ≡ a → some_ref bad_primitive rs ≡ b → some_ref (in_gap minimum) rs ≡ c
-          → pick {A = Option ℕ} a (some 3) (pick b (some 4) (pick c (some 5) none)) ≡ none → Good minimum index p
+          → pick {A = Option ℕ} a (Some 3) (pick b (Some 4) (pick c (Some 5) None)) ≡ None → Good minimum index p
       tests rs e true b c x y z g = some-none g
       tests rs e false true c x y z g = some-none g
       tests rs e false false true x y z g = some-none g
@@ -107,11 +107,11 @@ module _ (minimum index : ℕ) (p : List ℕ) where
         gap = λ us f r m. let i : us ≡ rs = cc in above minimum index r.index (none-at-fault (in_gap minimum) rs z r (rw i at m));
       }
 
-      go : (a : Answer (List Ref)) → refs_of p ≡ a → rule_in minimum index a ≡ none → Good minimum index p
+      go : (a : Answer (List Ref)) → refs_of p ≡ a → rule_in minimum index a ≡ None → Good minimum index p
       go (refused n d) e g = some-none g
       go (answered rs) e g = tests rs e (some_ref (disorderly minimum index) rs) (some_ref bad_primitive rs) (some_ref (in_gap minimum) rs) refl refl refl g
 
-  good-rule : Good minimum index p → rule_of minimum index p ≡ none
+  good-rule : Good minimum index p → rule_of minimum index p ≡ None
   unfolding rule_of
   good-rule g =
       let k = has-exactly.decoded_has p g.decodes in
@@ -137,18 +137,18 @@ module _ (minimum index : ℕ) (p : List ℕ) where
     no-gap-kept : some_ref (in_gap minimum) rs ≡ true → GapKept minimum rs → ⊥
     no-gap-kept x k = true-false (sym x ∙ none-fault (in_gap minimum) rs (λ r m. no_gap minimum index r.index (k r m)))
 
-  rule-breaks : (rule : ℕ) → rule_of minimum index p ≡ some rule → Breaks minimum index p rule
+  rule-breaks : (rule : ℕ) → rule_of minimum index p ≡ Some rule → Breaks minimum index p rule
   unfolding rule_of
   rule-breaks rule h = go (refs_of p) refl h
     where
       tests : (rs : List Ref) → refs_of p ≡ answered rs → (a b c : Bool) → some_ref (disorderly minimum index) rs ≡ a → some_ref bad_primitive rs ≡ b → some_ref (in_gap minimum) rs ≡ c
-          → pick {A = Option ℕ} a (some 3) (pick b (some 4) (pick c (some 5) none)) ≡ some rule → Breaks minimum index p rule
+          → pick {A = Option ℕ} a (Some 3) (pick b (Some 4) (pick c (Some 5) None)) ≡ Some rule → Breaks minimum index p rule
       tests rs e true b c x y z g = let i : ◌≡◌ {A = ℕ} 3 rule = cc in rw (← i) (order rs e (no-order rs x))
       tests rs e false true c x y z g = let i : ◌≡◌ {A = ℕ} 4 rule = cc in rw (← i) (primitive rs e (order-of rs x) (no-primitives rs y))
       tests rs e false false true x y z g = let i : ◌≡◌ {A = ℕ} 5 rule = cc in rw (← i) (gap rs e (order-of rs x) (primitives-of rs y) (no-gap-kept rs z))
       tests rs e false false false x y z g = some-none (sym g)
 
-      go : (a : Answer (List Ref)) → refs_of p ≡ a → rule_in minimum index a ≡ some rule → Breaks minimum index p rule
+      go : (a : Answer (List Ref)) → refs_of p ≡ a → rule_in minimum index a ≡ Some rule → Breaks minimum index p rule
       go (refused n d) e g = let i : ◌≡◌ {A = ℕ} 2 rule = cc in rw (← i) (decode (λ k. no_answer (sym e ∙ (has-exactly.decoded_has p k).are)))
       go (answered rs) e g = tests rs e (some_ref (disorderly minimum index) rs) (some_ref bad_primitive rs) (some_ref (in_gap minimum) rs) refl refl refl g
 
@@ -230,8 +230,8 @@ module _ (s : List ℕ) (minimum maximum : ℕ) where
 
       rule : (k : Item) (d : ItemIter) → next_of s c ≡ answered (yielded k d) → (o : Option ℕ) → rule_of minimum c.index (payload_of s k) ≡ o
           → unless_fault o c.index (judged n s minimum maximum d) ≡ fit → ((d : ItemIter) → judged n s minimum maximum d ≡ fit → From s minimum maximum d) → From s minimum maximum c
-      rule k d i none j g ih = from_more c k d i (rule-good minimum c.index (payload_of s k) j) (ih d g)
-      rule k d i (some r) j g ih = unfit-fit g
+      rule k d i None j g ih = from_more c k d i (rule-good minimum c.index (payload_of s k) j) (ih d g)
+      rule k d i (Some r) j g ih = unfit-fit g
 
       go : (a : Answer Next) → next_of s c ≡ a → judged_by s minimum maximum c (λ d. judged n s minimum maximum d) a ≡ fit
           → ((d : ItemIter) → judged n s minimum maximum d ≡ fit → From s minimum maximum d) → From s minimum maximum c
@@ -298,10 +298,10 @@ module _ (s : List ℕ) (h : Header) where
       by-rule : (k : Item) (d : ItemIter) → next_of s c ≡ answered (yielded k d) → (o : Option ℕ) → rule_of h.minimum_index c.index (payload_of s k) ≡ o
           → unless_fault o c.index (judged n s h.minimum_index h.maximum_index d) ≡ unfit i rule
           → ((d : ItemIter) → 0 < n → length s < d.at + n → judged n s h.minimum_index h.maximum_index d ≡ unfit i rule → FaultyFrom d i rule) → FaultyFrom c i rule
-      by-rule k d f none j g ih =
+      by-rule k d f None j g ih =
           let o = record-onward s c k d f in
           faulty-more c k d f (rule-good h.minimum_index c.index (payload_of s k) j) i rule (ih d (omega (arith, o.0, o.1)) (omega (arith, o.0)) g)
-      by-rule k d f (some r) j g ih =
+      by-rule k d f (Some r) j g ih =
           let x : c.index ≡ i = cc in
           let y : r ≡ rule = cc in
           rw (← x, ← y) (broken_at 0 c stays (below-first c) k d f (rule-breaks h.minimum_index c.index (payload_of s k) r j))

@@ -1,19 +1,24 @@
 -- The least rule, found reference by reference and element by element, is the first rule of the list that the record breaks. Assumes nothing.
-use Prim.Native.Nat.{ℕ, zero, suc, ◌-◌, ◌<◌}
+use Rattle.std.specs.Prelude.{Option}
+use Prim.Native.Nat.{ℕ, zero, suc, ◌+◌, ◌-◌, ◌<◌}
 use native.Mathlib.Omega.{arith}
 use mathlib.Core.Bool.{Bool, true, false}
 use mathlib.Core.Path.{◌≡◌, refl, ap, sym, ◌∙◌}
 use mathlib.Core.List.{List, [], ◌∷◌, ◌++◌, append-nil}
-use mathlib.Core.Option.{Option}
 use lib.ListN.{length}
 use borrow.Author.Tests.{eq-eqb, ne_eqb}
 use Rattle.answer.specs.Answer.{Answer, answered, refused, pick, then}
-use Rattle.record_layout.specs.Fields.{Shown}
+use Rattle.field.specs.declared.index.Stream.TheVariants as stream
+use Rattle.record_data.specs.Said.{type_values}
+use Rattle.record_data.specs.declared.TypeData.{TypeData}
+use Rattle.record_reference.specs.Said.{said_of_element}
+use Rattle.record_reference.specs.declared.ElementReferences.{ElementReferences}
+use Rattle.record_reference.proofs.OwnLaws.{own-joined}
 use Rattle.record_layout.specs.Layouts.{type_leaves, record_of}
 use Rattle.record_list.specs.declared.ListCursor.{ListCursor}
-use Rattle.record_list.specs.Lists.{Step, start_types, step_of}
+use Rattle.record_list.specs.Lists.{Step, start_types, start_of, step_of}
 use Rattle.record_reference.specs.References.{Ref, refs_at, refs_from, refs_list, refs_of}
-use Rattle.record_reference.specs.Values.{refs_by, element_refs, fields_at}
+use Rattle.record_reference.specs.Values.{refs_by, slots_by, slots, joined, element_refs, fields_at}
 use Rattle.record_reference.proofs.ValueLaws.{payload-tell, step-tell}
 use Rattle.stream_fit.specs.Fit.{disorderly, bad_primitive, in_gap, some_ref, rule_in, rule_of}
 use Rattle.stream_fit.specs.Worst.{least_rule, fault_of, lesser, worst, worst_in, worst_from, worst_of, as_rule}
@@ -80,7 +85,7 @@ module _ (minimum index : ℕ) where
   unfolding rule_of worst_of
   rule-is payload = go (refs_of payload)
     where
-      by : (x y z : Bool) → pick {A = Option ℕ} x (Option.some 3) (pick y (Option.some 4) (pick z (Option.some 5) Option.none)) ≡ as_rule (least_rule x y z)
+      by : (x y z : Bool) → pick {A = Option ℕ} x (Option.Some 3) (pick y (Option.Some 4) (pick z (Option.Some 5) Option.None)) ≡ as_rule (least_rule x y z)
       by true y z = refl
       by false true z = refl
       by false false true = refl
@@ -93,51 +98,56 @@ module _ (minimum index : ℕ) where
   -- Element by element --------------------------------------------------------------------------------------------------------------------
 
   module _ (s : List ℕ) where
-    pub from-none : (w : ℕ) (c : ListCursor) → worst_from minimum index w 0 s c ≡ w
+    -- n steps are left
+    pub from-none : (w n : ℕ) (c : ListCursor) → n ≡ 0 → w ≡ worst_from minimum index w n s c
     unfolding worst_from refs_from worst
-    from-none w c = refl
+    from-none w n c h = rw h
 
-    pub from_more : (w v n : ℕ) (c : ListCursor) (x : Step) → 0 < n → step_of s c ≡ answered x → ((p : ℕ) → v ≡ worst minimum index w (element_refs x.element p))
-        → worst_from minimum index w n s c ≡ worst_from minimum index v (n - 1) s x.next
+    pub from_more : (w v n k : ℕ) (c : ListCursor) (x : Step) (r : ElementReferences) → k < n → answered x ≡ step_of s c → ((p : ℕ) → said_of_element r p ≡ element_refs x.element p)
+        → ((p : ℕ) → v ≡ worst minimum index w (said_of_element r p)) → worst_from minimum index v (n - (k + 1)) s x.next ≡ worst_from minimum index w (n - k) s c
     unfolding worst_from refs_from
-    from_more w v zero c x h e f = absurd (omega arith)
-    from_more w v (suc n) c x h e f = let g : suc n - 1 ≡ n = omega arith in rw (g, e) (go (refs_from n s x.next))
+    from_more w v n k c x r h e f g = let z : n - k ≡ suc (n - (k + 1)) = omega arith in rw (z, ← e) (sym (go (refs_from (n - (k + 1)) s x.next)))
       where
+        p : ℕ
+        p = fields_at s c
+
+        own : v ≡ worst minimum index w (refs_at s c)
+        own = g p ∙ ap (worst minimum index w) (f p ∙ sym (step-tell s c x (sym e)))
+
         go : (a : Answer (List Ref)) → worst_in minimum index w (then a (λ rs. answered (refs_at s c ++ rs))) ≡ worst_in minimum index v a
-        go (answered rs) =
-            worst-both w (refs_at s c) rs ∙ ap (λ l. worst minimum index (worst minimum index w l) rs) (step-tell s c x e) ∙ ap (λ u. worst minimum index u rs) (sym (f (fields_at s c)))
+        go (answered rs) = worst-both w (refs_at s c) rs ∙ ap (λ u. worst minimum index u rs) (sym own)
         go (refused m d) = refl
 
-    pub from_end : (w n m : ℕ) (d : List ℕ) (c : ListCursor) → 0 < n → step_of s c ≡ refused m d → m ≡ 15 → worst_from minimum index w n s c ≡ w
+    pub from_end : (w n m : ℕ) (d : List ℕ) (c : ListCursor) → 0 < n → refused m d ≡ step_of s c → m ≡ 15 → w ≡ worst_from minimum index w n s c
     unfolding worst_from refs_from worst
     from_end w zero m d c h e f = absurd (omega arith)
-    from_end w (suc n) m d c h e f = rw e (simp (eq-eqb _ _ f))
+    from_end w (suc n) m d c h e f = rw (← e) (simp (eq-eqb _ _ f))
 
-    pub from-refused : (w n m : ℕ) (d : List ℕ) (c : ListCursor) → 0 < n → step_of s c ≡ refused m d → (m ≡ 15 → ⊥) → worst_from minimum index w n s c ≡ 2
+    pub from-refused : (w n m : ℕ) (d : List ℕ) (c : ListCursor) → 0 < n → refused m d ≡ step_of s c → (m ≡ 15 → ⊥) → 2 ≡ worst_from minimum index w n s c
     unfolding worst_from refs_from
     from-refused w zero m d c h e f = absurd (omega arith)
-    from-refused w (suc n) m d c h e f = rw e (simp (ne_eqb _ _ f))
+    from-refused w (suc n) m d c h e f = rw (← e) (simp (ne_eqb _ _ f))
 
     -- The record: refused; or its own references and then its list's, where it has one
-    pub of-refused : (n : ℕ) (d : List ℕ) → record_of type_leaves s ≡ refused n d → worst_of minimum index s ≡ 2
+    pub of-refused : (n : ℕ) (d : List ℕ) → refused n d ≡ record_of type_leaves s → 2 ≡ worst_of minimum index s
     unfolding worst_of
-    of-refused n d e = rw (payload-tell s, e)
+    of-refused n d e = rw (payload-tell s, ← e)
 
-    of-read : (vs : List Shown) (w : ℕ) → record_of type_leaves s ≡ answered vs → w ≡ worst minimum index 6 (refs_by type_leaves vs 2)
-        → worst_of minimum index s ≡ worst_in minimum index w (refs_list s (start_types s))
-    unfolding worst_of
-    of-read vs w e f = rw (payload-tell s, e) (go (refs_list s (start_types s)))
-      where
-        go : (a : Answer (List Ref)) → worst_in minimum index 6 (then a (λ rs. answered (refs_by type_leaves vs 2 ++ rs))) ≡ worst_in minimum index w a
-        go (answered rs) = worst-both 6 (refs_by type_leaves vs 2) rs ∙ ap (λ u. worst minimum index u rs) (sym f)
-        go (refused n d) = refl
+    module _ (t : TypeData) (rs : List (List Ref)) (w : ℕ) (e : answered (type_values t) ≡ record_of type_leaves s) (f : rs ≡ slots 4 (slots_by type_leaves (type_values t) 2))
+        (g : w ≡ worst minimum index 6 (joined rs)) where
+      of-read : worst_of minimum index s ≡ worst_in minimum index w (refs_list s (start_types s))
+      unfolding worst_of
+      of-read = rw (payload-tell s, ← e) (go (refs_list s (start_types s)))
+        where
+          go : (a : Answer (List Ref)) → worst_in minimum index 6 (then a (λ us. answered (refs_by type_leaves (type_values t) 2 ++ us))) ≡ worst_in minimum index w a
+          go (answered us) =
+              worst-both 6 (refs_by type_leaves (type_values t) 2) us ∙ ap (λ u. worst minimum index u us) (sym (g ∙ ap (λ l. worst minimum index 6 (joined l)) f ∙ ap (worst minimum index 6) (own-joined t)))
+          go (refused n d) = refl
 
-    pub of-list : (vs : List Shown) (w : ℕ) (c : ListCursor) (r : ℕ) → record_of type_leaves s ≡ answered vs → w ≡ worst minimum index 6 (refs_by type_leaves vs 2)
-        → start_types s ≡ answered c → r ≡ worst_from minimum index w (length s) s c → r ≡ worst_of minimum index s
-    unfolding worst_from
-    of-list vs w c r e f g h = rw (of-read vs w e f, g) h
+      pub of-list : (c : ListCursor) (r : ℕ) → answered c ≡ start_of stream.Types s → r ≡ worst_from minimum index w (length s) s c → r ≡ worst_of minimum index s
+      unfolding worst_from start_of
+      of-list c r h k = rw (of-read, ← h) k
 
-    pub of-own : (vs : List Shown) (w n : ℕ) (d : List ℕ) → record_of type_leaves s ≡ answered vs → w ≡ worst minimum index 6 (refs_by type_leaves vs 2) → start_types s ≡ refused n d
-        → worst_of minimum index s ≡ w
-    unfolding worst
-    of-own vs w n d e f g = of-read vs w e f ∙ rw g
+      pub of-own : (n : ℕ) (d : List ℕ) → refused n d ≡ start_of stream.Types s → w ≡ worst_of minimum index s
+      unfolding worst start_of
+      of-own n d h = rw (of-read, ← h)

@@ -1,8 +1,12 @@
 -- R-9 of document 02: "Is this database fit to bind?" The verdict on a stream, as one walk by `next`.
-use Rattle.std.specs.Prelude.{ℕ, zero, suc, Bool, true, false, List, [], ◌∷◌, length, leb, ltb, eqb}
-use Rattle.std.proofs.Math.Option.{Option, none, some}
+use Rattle.stream_fit.specs.declared.Fitness.TheVariants as fitness
+use Rattle.stream_fit.specs.declared.Rule.{Rule}
+use Rattle.stream_fit.specs.declared.Rule.TheVariants as rule
+use Rattle.std.specs.Prelude.{Result, Option, None, Some, ℕ, zero, suc, Bool, true, false, List, [], ◌∷◌, length, leb, ltb, eqb}
+use Rattle.stream_fit.specs.declared.Fitness.{Fitness}
+use Rattle.answer.specs.declared.Refusal.{Refusal}
 use Rattle.answer.specs.Answer.{Answer, answered, refused, pick, both, then}
-use Rattle.answer.specs.Refusals.{no}
+use Rattle.answer.specs.Refusals.{said}
 use Rattle.field.specs.Runs.{bytes_at}
 use Rattle.field.specs.declared.index.Stream.TheVariants as stream
 use Rattle.word_primitive.specs.Primitive.{primitive_of}
@@ -12,8 +16,6 @@ use Rattle.stream_item.specs.declared.Item.{Item}
 use Rattle.stream_item.specs.declared.iter.ItemIter.{ItemIter}
 use Rattle.record_layout.specs.Layouts.{is_answered}
 use Rattle.record_reference.specs.References.{Ref, refs_of}
-use Rattle.stream_fit.specs.declared.FitAnswer.{FitAnswer}
-use Rattle.stream_fit.specs.declared.FitAnswer.TheVariants as answer
 
 -- yes; or no, with the record and the rule: 1 count, 2 decode, 3 order, 4 primitive, 5 gap
 pub data Verdict : Type 0 where
@@ -39,12 +41,12 @@ some_ref fault (r ∷ rs) = pick (fault r.index) true (some_ref fault rs)
 
 -- the first rule that the record of this index breaks: that of decoding covers the whole record, so that it is before the others
 abbrev pub rule_in : ℕ → ℕ → Answer (List Ref) → Option ℕ
-rule_in minimum index (refused n d) = some 2
+rule_in minimum index (refused n d) = Some 2
 rule_in minimum index (answered rs) =
-    pick (some_ref (disorderly minimum index) rs) (some 3)
-    (pick (some_ref bad_primitive rs) (some 4)
-    (pick (some_ref (in_gap minimum) rs) (some 5)
-    none))
+    pick (some_ref (disorderly minimum index) rs) (Some 3)
+    (pick (some_ref bad_primitive rs) (Some 4)
+    (pick (some_ref (in_gap minimum) rs) (Some 5)
+    None))
 
 unfoldable pub rule_of : ℕ → ℕ → List ℕ → Option ℕ
 rule_of minimum index payload = rule_in minimum index (refs_of payload)
@@ -55,8 +57,8 @@ abbrev pub payload_of : List ℕ → Item → List ℕ
 payload_of s i = bytes_at i.length s i.place
 
 abbrev pub unless_fault : Option ℕ → ℕ → Verdict → Verdict
-unless_fault none index v = v
-unless_fault (some rule) index v = unfit index rule
+unless_fault None index v = v
+unless_fault (Some r) index v = unfit index r
 
 -- of the step at the cursor: a refusal is the fault of the record it stopped at; the count comes last and names record 0. Indices go up by one
 -- from the minimum, so the count is right exactly if the walk ends at the maximum
@@ -78,7 +80,16 @@ fit_of s =
     answered (judged (suc (length s)) s h.minimum_index h.maximum_index c)))
 
 -- what the answer says
-abbrev pub said_fit : FitAnswer → Answer Verdict
-said_fit answer.Yes = answered fit
-said_fit (answer.No i rule) = answered (unfit i rule)
-said_fit (answer.Refused e) = no e
+abbrev pub rule_number : Rule → ℕ
+rule_number rule.Count = 1
+rule_number rule.Decode = 2
+rule_number rule.Order = 3
+rule_number rule.Primitive = 4
+rule_number rule.Gap = 5
+
+abbrev pub verdict_of : Fitness → Verdict
+verdict_of fitness.Fit = fit
+verdict_of (fitness.Unfit i r) = unfit i (rule_number r)
+
+abbrev pub said_fit : Result Fitness Refusal → Answer Verdict
+said_fit = said verdict_of

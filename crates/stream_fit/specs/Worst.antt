@@ -1,11 +1,16 @@
 -- The rule that a record breaks, as the code finds it: the references one after the other, with the least rule so far, 6 where there is none.
 -- proofs/WorstLaws.antt has that it is `rule_of`.
-use Rattle.std.specs.Prelude.{ℕ, Bool, List, [], ◌∷◌, ltb, eqb}
-use Rattle.std.proofs.Math.Option.{Option, none, some}
+use Rattle.std.specs.Prelude.{Option, None, Some, ℕ, Bool, List, [], ◌∷◌, ltb, eqb}
 use Rattle.answer.specs.Answer.{Answer, answered, refused, pick}
 use Rattle.record_list.specs.declared.ListCursor.{ListCursor}
 use Rattle.record_reference.specs.References.{Ref, refs_from, refs_of}
-use Rattle.stream_fit.specs.Fit.{disorderly, bad_primitive, in_gap}
+use Rattle.stream_fit.specs.Fit.{disorderly, bad_primitive, in_gap, rule_number}
+use Rattle.stream_fit.specs.declared.Rule.{Rule}
+
+-- the number of a rule of the code's, 6 for none
+abbrev pub rule_or_6 : Option Rule → ℕ
+rule_or_6 None = 6
+rule_or_6 (Some r) = rule_number r
 
 -- the least rule of three faults
 abbrev pub least_rule : Bool → Bool → Bool → ℕ
@@ -35,4 +40,4 @@ unfoldable pub worst_of : ℕ → ℕ → List ℕ → ℕ
 worst_of minimum index payload = worst_in minimum index 6 (refs_of payload)
 
 abbrev pub as_rule : ℕ → Option ℕ
-as_rule n = pick (eqb n 6) none (some n)
+as_rule n = pick (eqb n 6) None (Some n)

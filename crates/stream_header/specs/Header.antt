@@ -1,12 +1,9 @@
 -- Document 01, "Header".
 use Rattle.std.specs.Prelude.{ℕ, ◌+◌, List, length, ltb, eqb, pos}
 use Rattle.answer.specs.Answer.{Answer, answered, pick, stop}
-use Rattle.answer.specs.Refusals.{no}
 use Rattle.field.specs.Fields.{little_at, twos}
 use Rattle.stream_header.specs.declared.Slice.{Slice}
 use Rattle.stream_header.specs.declared.Header.{Header}
-use Rattle.stream_header.specs.declared.HeaderAnswer.{HeaderAnswer}
-use Rattle.stream_header.specs.declared.HeaderAnswer.TheVariants as header
 
 -- a pair of i32 offset and u32 size
 abbrev pub slice_of : List ℕ → ℕ → Slice
@@ -63,8 +60,3 @@ header_of s =
     (stop (ltb (little_at 4 s 8) 4096) 4
     (stop (ltb (little_at 4 s 12) (little_at 4 s 8)) 5
     (answered (fields_of s)))))))))
-
--- what the answer says
-abbrev pub said_header : HeaderAnswer → Answer Header
-said_header (header.Answered h) = answered h
-said_header (header.Refused e) = no e

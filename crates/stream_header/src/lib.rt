@@ -5,11 +5,11 @@ ghost use Rattle.std.specs.Prelude.{◌≡◌, ◌+◌, ◌-◌, ◌≤◌, leng
 ghost use Rattle.std.specs.Int.{w32};
 ghost use Rattle.std.proofs.Common.{to_z};
 ghost use Rattle.field.specs.Fields.{little_at, twos};
-ghost use Rattle.stream_header.specs.Header.{slice_of, fields_of, zero_header, header_of, said_header};
+ghost use Rattle.stream_header.specs.Header.{slice_of, fields_of, zero_header, header_of};
+ghost use Rattle.answer.specs.Refusals.{itself, said};
 
 use answer::Refusal;
 use field::fixed;
-use field::fixed::{Read16, Read32};
 
 // The longest stream: each of its places, and the place after it, is a u32 below the largest.
 pub const LONGEST: usize = 4294967294;
@@ -38,45 +38,39 @@ pub struct Header {
     pub hash_adj: Slice,
 }
 
-#[derive(Clone, Copy)]
-pub enum HeaderAnswer {
-    Answered(Header),
-    Refused(Refusal),
-}
-
 impl Header {
     // The header of a stream.
-    pub fn parse(s: &[u8]) -> HeaderAnswer
-        ensures { said_header result ≡ header_of s.now }
+    pub fn parse(s: &[u8]) -> Result<Header, Refusal>
+        ensures { said itself result ≡ header_of s.now }
     {
         if s.len() > LONGEST {
-            return HeaderAnswer::Refused(Refusal::TooLong);
+            return Err(Refusal::TooLong);
         }
         if s.len() == 0 {
-            return HeaderAnswer::Answered(none());
+            return Ok(none());
         }
         if s.len() < 56 {
-            return HeaderAnswer::Refused(Refusal::Ended);
+            return Err(Refusal::Ended);
         }
         let header_size = word_at(s, 4);
         if header_size < 56 {
-            return HeaderAnswer::Refused(Refusal::HeaderSmall);
+            return Err(Refusal::HeaderSmall);
         }
         if header_size > 1024 {
-            return HeaderAnswer::Refused(Refusal::HeaderLarge);
+            return Err(Refusal::HeaderLarge);
         }
         if s.len() < header_size as usize {
-            return HeaderAnswer::Refused(Refusal::Ended);
+            return Err(Refusal::Ended);
         }
         let minimum_index = word_at(s, 8);
         if minimum_index < 4096 {
-            return HeaderAnswer::Refused(Refusal::MinimumLow);
+            return Err(Refusal::MinimumLow);
         }
         let maximum_index = word_at(s, 12);
         if maximum_index < minimum_index {
-            return HeaderAnswer::Refused(Refusal::MaximumLow);
+            return Err(Refusal::MaximumLow);
         }
-        HeaderAnswer::Answered(fields(s))
+        Ok(fields(s))
     }
 
     // The record count: maximum minus minimum, and none where a made-up header has its maximum below its minimum.
@@ -98,20 +92,20 @@ fn half_at(s: &[u8], p: usize) -> u16
     requires { p + 2 ≤ length s.now }
     ensures { result ≡ little_at 2 s.now p }
 {
-    let Read16::Got(x, _) = fixed::u16_at(s, p) else {
-        return 0;
-    };
-    x
+    match fixed::u16_at(s, p) {
+        Ok((x, _)) => x,
+        Err(_) => 0,
+    }
 }
 
 fn word_at(s: &[u8], p: usize) -> u32
     requires { p + 4 ≤ length s.now }
     ensures { result ≡ little_at 4 s.now p }
 {
-    let Read32::Got(x, _) = fixed::u32_at(s, p) else {
-        return 0;
-    };
-    x
+    match fixed::u32_at(s, p) {
+        Ok((x, _)) => x,
+        Err(_) => 0,
+    }
 }
 
 // The bits x as two's complement. Compiles to nothing.
@@ -138,10 +132,7 @@ fn slice_at(s: &[u8], p: usize) -> Slice
 {
     let offset = signed_at(s, p);
     let size = word_at(s, p + 4);
-    Slice {
-        offset: offset,
-        size: size,
-    }
+    Slice { offset, size }
 }
 
 // The fields of a header that is all there.
@@ -162,18 +153,18 @@ fn fields(s: &[u8]) -> Header
     let ti_off = slice_at(s, 40);
     let hash_adj = slice_at(s, 48);
     Header {
-        version: version,
-        header_size: header_size,
-        minimum_index: minimum_index,
-        maximum_index: maximum_index,
-        gprec_size: gprec_size,
-        tpi_hash_stream: tpi_hash_stream,
-        tpi_hash_pad_stream: tpi_hash_pad_stream,
-        hash_key_size: hash_key_size,
-        hash_bucket_size: hash_bucket_size,
-        hash_values: hash_values,
-        ti_off: ti_off,
-        hash_adj: hash_adj,
+        version,
+        header_size,
+        minimum_index,
+        maximum_index,
+        gprec_size,
+        tpi_hash_stream,
+        tpi_hash_pad_stream,
+        hash_key_size,
+        hash_bucket_size,
+        hash_values,
+        ti_off,
+        hash_adj,
     }
 }
 
@@ -194,8 +185,8 @@ fn none() -> Header
         tpi_hash_pad_stream: 0,
         hash_key_size: 0,
         hash_bucket_size: 0,
-        hash_values: hash_values,
-        ti_off: ti_off,
-        hash_adj: hash_adj,
+        hash_values,
+        ti_off,
+        hash_adj,
     }
 }

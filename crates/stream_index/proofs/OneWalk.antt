@@ -1,5 +1,6 @@
 -- The contracts of `index_on`, `index_all` and `index_all_by` admit one outcome: turns follow one another in one way, and a walk ends at the first that does not move.
 -- Assumes nothing.
+use Rattle.std.specs.Prelude.{Result, Ok, Err}
 use Prim.Native.Nat.{ℕ, zero, suc, ◌≤◌, ◌<◌}
 use mathlib.Core.Path.{◌≡◌, refl, sym, ap, ◌∙◌, subst}
 use mathlib.Core.Logic.{⊎_elim}
@@ -19,11 +20,7 @@ use Rattle.stream_finder.specs.Finder.{State, state}
 use Rattle.stream_finder.specs.declared.ItemFinder.{ItemFinder}
 use Rattle.stream_index.specs.Walk.{moved, turn_of, Turns, none, more, said_end, Walks, IndexesBy}
 use Rattle.stream_index.proofs.OneOutcome.{one_end}
-use Rattle.stream_index.specs.declared.End.{End}
-use Rattle.stream_index.specs.declared.End.TheVariants as end
 use Rattle.stream_index.specs.declared.Tour.{Tour}
-use Rattle.stream_index.specs.declared.IndexAnswer.{IndexAnswer}
-use Rattle.stream_index.specs.declared.IndexAnswer.TheVariants as walk
 
 -- the turn from there moves
 record Still (s : List ℕ) (τ : State) (d : ItemIter) : Type 0 where
@@ -58,11 +55,11 @@ module _ (s : List ℕ) (c : ItemIter) (σ : State) where
           let y : τ ≡ ρ₀ = h.1 in
           record { to = ρ; cursor = e; moves = ap (turn_of s τ) x ∙ ap (λ (ω : State). turn_of s ω e₀) y ∙ q }
 
-unmoved : (x : End) (τ : State) (d : ItemIter) → said_end x ≡ answered (moved τ d) → ⊥
-unmoved end.Done τ d e = let z : ◌≡◌ {A = ℕ} 0 1 = cc in omega arith
-unmoved (end.Refused r) τ d e = let z : ◌≡◌ {A = ℕ} 0 1 = cc in omega arith
+unmoved : (x : Result Unit Refusal) (τ : State) (d : ItemIter) → said_end x ≡ answered (moved τ d) → ⊥
+unmoved (Ok tt) τ d e = let z : ◌≡◌ {A = ℕ} 0 1 = cc in omega arith
+unmoved (Err r) τ d e = let z : ◌≡◌ {A = ℕ} 0 1 = cc in omega arith
 
-tours : (f g : ItemFinder) (c d : ItemIter) (x y : End) → f ≡ g → c ≡ d → x ≡ y → ◌≡◌ {A = Tour} (record { finder = f; cursor = c; end = x }) (record { finder = g; cursor = d; end = y })
+tours : (f g : ItemFinder) (c d : ItemIter) (x y : Result Unit Refusal) → f ≡ g → c ≡ d → x ≡ y → ◌≡◌ {A = Tour} (record { finder = f; cursor = c; end = x }) (record { finder = g; cursor = d; end = y })
 tours f g c d x y p q r = cc
 
 pub one-walks : (s : List ℕ) (c : ItemIter) (σ : State) (r q : Tour) (t u : List ℕ) → Walks s c σ r t → Walks s c σ q u → (r ≡ q) × (t ≡ u)
@@ -90,13 +87,13 @@ one-walks s c σ r q t u w v = go (ltb w.turns v.turns) refl
 refusals : (a b : Refusal) → ◌≡◌ {A = Answer State} (no a) (no b) → a ≡ b
 refusals a b e = one-refusal a b (cc) (cc)
 
-pub one-indexes : (shift : ℕ) (tag : Stream) (s t : List ℕ) (r q : IndexAnswer) (u v : List ℕ) → IndexesBy shift tag s t r u → IndexesBy shift tag s t q v → (r ≡ q) × (u ≡ v)
-one-indexes shift tag s t (walk.Answered r) (walk.Answered q) u v w x =
+pub one-indexes : (shift : ℕ) (tag : Stream) (s t : List ℕ) (r q : Result Tour Refusal) (u v : List ℕ) → IndexesBy shift tag s t r u → IndexesBy shift tag s t q v → (r ≡ q) × (u ≡ v)
+one-indexes shift tag s t (Ok r) (Ok q) u v w x =
     let f : w.fresh ≡ x.fresh = cc in
     let c : w.first ≡ x.first = cc in
     let h = one-walks s x.first x.fresh r q u v
     (subst (λ (σ : State). Walks s x.first σ r u) f (subst (λ (d : ItemIter). Walks s d w.fresh r u) c w.walks)) x.walks in
-    (ap (λ (z : Tour). walk.Answered z) h.0, h.1)
-one-indexes shift tag s t (walk.Answered r) (walk.Refused e) u v w x = let z : ◌≡◌ {A = ℕ} 0 1 = cc in absurd (omega arith)
-one-indexes shift tag s t (walk.Refused e) (walk.Answered q) u v w x = let z : ◌≡◌ {A = ℕ} 0 1 = cc in absurd (omega arith)
-one-indexes shift tag s t (walk.Refused e) (walk.Refused f) u v w x = (ap (λ (z : Refusal). walk.Refused z) (refusals e f (sym w.0 ∙ x.0)), w.1 ∙ sym x.1)
+    (ap (λ (z : Tour). Ok z) h.0, h.1)
+one-indexes shift tag s t (Ok r) (Err e) u v w x = let z : ◌≡◌ {A = ℕ} 0 1 = cc in absurd (omega arith)
+one-indexes shift tag s t (Err e) (Ok q) u v w x = let z : ◌≡◌ {A = ℕ} 0 1 = cc in absurd (omega arith)
+one-indexes shift tag s t (Err e) (Err f) u v w x = (ap (λ (z : Refusal). Err z) (refusals e f (sym w.0 ∙ x.0)), w.1 ∙ sym x.1)

@@ -1,4 +1,5 @@
 -- The outcomes of a turn, a law for each, and how far a turn goes. Assumes nothing.
+use Rattle.std.specs.Prelude.{Result, Ok, Err, Option, Some, None}
 use Prim.Native.Nat.{ℕ, ◌+◌, ◌≤◌, ◌<◌}
 use mathlib.Core.Path.{◌≡◌, refl, sym, ap, ◌∙◌, subst}
 use mathlib.Core.List.{List}
@@ -6,7 +7,7 @@ use native.Mathlib.Numerals.{add-one}
 use native.Mathlib.Omega.{arith}
 use lib.ListN.{length}
 use Rattle.answer.specs.Answer.{Answer, answered, refused, then}
-use Rattle.answer.specs.Refusals.{no}
+use Rattle.answer.specs.Refusals.{no, itself, said}
 use Rattle.answer.specs.declared.Refusal.{Refusal}
 use Rattle.stream_header.specs.Header.{header_of}
 use Rattle.stream_header.specs.declared.Header.{Header}
@@ -16,26 +17,21 @@ use Rattle.stream_item.proofs.NextLaws.{Yields, yields}
 use Rattle.field.specs.declared.index.Stream.{Stream}
 use Rattle.stream_item.specs.declared.Item.{Item}
 use Rattle.stream_item.specs.declared.iter.ItemIter.{ItemIter}
-use Rattle.stream_finder.specs.Finder.{State, state, create_by, update_of, said_finder, finder_of, table_after, Fills}
+use Rattle.stream_finder.specs.Finder.{State, state, create_by, update_of, finder_of, table_after, Fills}
 use Rattle.stream_finder.proofs.FinderLaws.{create-is}
 use Rattle.stream_finder.specs.declared.ItemFinder.{ItemFinder}
-use Rattle.stream_finder.specs.declared.FinderAnswer.{FinderAnswer}
-use Rattle.stream_finder.specs.declared.FinderAnswer.TheVariants as finder
 use Rattle.stream_index.specs.Walk.{Turn, over, moved, updating, turn_of, said_turn, turn_table, Leads, Turns, more, said_end, Walks}
-use Rattle.stream_index.specs.declared.TurnAnswer.{TurnAnswer}
-use Rattle.stream_index.specs.declared.TurnAnswer.TheVariants as turn
-use Rattle.stream_index.specs.declared.End.{End}
 
 -- ---- what a function that is lent the table has told of its definition
-pub leaves-answered : (t : List ℕ) (a : Answer State) (r : FinderAnswer) (t' : List ℕ) (g : ItemFinder) → Fills t a r t' → r ≡ finder.Answered g → a ≡ answered (state g t')
-leaves-answered t a r t' g l e = go a (sym (ap said_finder e) ∙ l.answer) l.table
+pub leaves-answered : (t : List ℕ) (a : Answer State) (r : Result ItemFinder Refusal) (t' : List ℕ) (g : ItemFinder) → Fills t a r t' → r ≡ Ok g → a ≡ answered (state g t')
+leaves-answered t a r t' g l e = go a (sym (ap (said itself) e) ∙ l.answer) l.table
   where
     go : (a : Answer State) → answered g ≡ finder_of a → t' ≡ table_after t a → a ≡ answered (state g t')
     go (answered τ) p q = let f : g ≡ τ.finder = cc in ap (λ (x : ItemFinder). answered (state x τ.table)) (sym f) ∙ ap (λ (u : List ℕ). answered (state g u)) (sym q)
     go (refused n d) p q = let z : ◌≡◌ {A = ℕ} 0 1 = cc in absurd (omega arith)
 
-pub leaves-refused : (t : List ℕ) (a : Answer State) (r : FinderAnswer) (t' : List ℕ) (e : Refusal) → Fills t a r t' → r ≡ finder.Refused e → (a ≡ no e) × (t' ≡ t)
-leaves-refused t a r t' e l h = go a (sym (ap said_finder h) ∙ l.answer) l.table
+pub leaves-refused : (t : List ℕ) (a : Answer State) (r : Result ItemFinder Refusal) (t' : List ℕ) (e : Refusal) → Fills t a r t' → r ≡ Err e → (a ≡ no e) × (t' ≡ t)
+leaves-refused t a r t' e l h = go a (sym (ap (said itself) h) ∙ l.answer) l.table
   where
     go : (a : Answer State) → no e ≡ finder_of a → t' ≡ table_after t a → (a ≡ no e) × (t' ≡ t)
     go (answered τ) p q = let z : ◌≡◌ {A = ℕ} 0 1 = cc in absurd (omega arith)
@@ -52,21 +48,21 @@ module _ (s : List ℕ) (σ : State) (c : ItemIter) where
   turn-updates i d a e h = turn-next (answered (yielded i d)) e ∙ ap (λ (x : Answer State). then x (λ τ. answered (moved τ d))) h
 
 -- the contract from the case that holds
-pub leads : (t : List ℕ) (x : Answer Turn) (r : TurnAnswer) (t' : List ℕ) (a : Answer Turn) → x ≡ a → said_turn r t' ≡ a → t' ≡ turn_table t a → Leads t x r t'
+pub leads : (t : List ℕ) (x : Answer Turn) (r : Result (Option (ItemFinder × ItemIter)) Refusal) (t' : List ℕ) (a : Answer Turn) → x ≡ a → said_turn r t' ≡ a → t' ≡ turn_table t a → Leads t x r t'
 leads t x r t' a e p q = record { answer = p ∙ sym e; table = q ∙ ap (turn_table t) (sym e) }
 
-pub leads-moved : (t : List ℕ) (a : Answer Turn) (r : TurnAnswer) (t' : List ℕ) (g : ItemFinder) (d : ItemIter) → Leads t a r t' → r ≡ turn.Moved g d
+pub leads-moved : (t : List ℕ) (a : Answer Turn) (r : Result (Option (ItemFinder × ItemIter)) Refusal) (t' : List ℕ) (g : ItemFinder) (d : ItemIter) → Leads t a r t' → r ≡ Ok (Some (g, d))
     → a ≡ answered (moved (state g t') d)
-leads-moved t a r t' g d l e = sym l.answer ∙ ap (λ (x : TurnAnswer). said_turn x t') e
+leads-moved t a r t' g d l e = sym l.answer ∙ ap (λ (x : Result (Option (ItemFinder × ItemIter)) Refusal). said_turn x t') e
 
-pub leads-over : (t : List ℕ) (a : Answer Turn) (r : TurnAnswer) (t' : List ℕ) → Leads t a r t' → r ≡ turn.Done → (a ≡ answered over) × (t' ≡ t)
+pub leads-over : (t : List ℕ) (a : Answer Turn) (r : Result (Option (ItemFinder × ItemIter)) Refusal) (t' : List ℕ) → Leads t a r t' → r ≡ Ok None → (a ≡ answered over) × (t' ≡ t)
 leads-over t a r t' l e =
-    let h : a ≡ answered over = sym l.answer ∙ ap (λ (x : TurnAnswer). said_turn x t') e in
+    let h : a ≡ answered over = sym l.answer ∙ ap (λ (x : Result (Option (ItemFinder × ItemIter)) Refusal). said_turn x t') e in
     (h, l.table ∙ ap (turn_table t) h)
 
-pub leads-refused : (t : List ℕ) (a : Answer Turn) (r : TurnAnswer) (t' : List ℕ) (e : Refusal) → Leads t a r t' → r ≡ turn.Refused e → (a ≡ no e) × (t' ≡ t)
+pub leads-refused : (t : List ℕ) (a : Answer Turn) (r : Result (Option (ItemFinder × ItemIter)) Refusal) (t' : List ℕ) (e : Refusal) → Leads t a r t' → r ≡ Err e → (a ≡ no e) × (t' ≡ t)
 leads-refused t a r t' e l q =
-    let h : a ≡ no e = sym l.answer ∙ ap (λ (x : TurnAnswer). said_turn x t') q in
+    let h : a ≡ no e = sym l.answer ∙ ap (λ (x : Result (Option (ItemFinder × ItemIter)) Refusal). said_turn x t') q in
     (h, l.table ∙ ap (turn_table t) h)
 
 -- ---- back: a turn that moved was a record yielded and an update answered
@@ -109,7 +105,7 @@ pub turns_more : (s : List ℕ) (c : ItemIter) (σ : State) (n : ℕ) (d : ItemI
     → Turns s c σ n d τ → turn_of s τ d ≡ answered (moved ρ e) → Turns s c σ (n + 1) e ρ
 turns_more s c σ n d τ e ρ w h = subst (λ (x : ℕ). Turns s c σ x e ρ) (sym (add-one n)) (more w h)
 
-pub walks-to : (s : List ℕ) (c : ItemIter) (σ : State) (n : ℕ) (f : ItemFinder) (d : ItemIter) (u : List ℕ) (x : End) (t' : List ℕ)
+pub walks-to : (s : List ℕ) (c : ItemIter) (σ : State) (n : ℕ) (f : ItemFinder) (d : ItemIter) (u : List ℕ) (x : Result Unit Refusal) (t' : List ℕ)
     → Turns s c σ n d (state f u) → turn_of s (state f u) d ≡ said_end x → t' ≡ u
     → Walks s c σ (record { finder = f; cursor = d; end = x }) t'
 walks-to s c σ n f d u x t' w e q =

@@ -7,23 +7,9 @@ ghost use Rattle.stream_index.specs.Walk.{turn_of, Leads, Walks, IndexesBy, Inde
 
 use answer::Refusal;
 use field::index::Stream;
-use stream_finder::{FinderAnswer, ItemFinder};
+use stream_finder::ItemFinder;
 use stream_item::iter;
-use stream_item::iter::{ItemIter, IterAnswer, NextAnswer};
-
-#[derive(Clone, Copy)]
-pub enum TurnAnswer {
-    Done,
-    Moved(ItemFinder, ItemIter),
-    Refused(Refusal),
-}
-
-// Why a walk ended.
-#[derive(Clone, Copy)]
-pub enum End {
-    Done,
-    Refused(Refusal),
-}
+use stream_item::iter::ItemIter;
 
 // Where a walk ended: after a refusal, finder, cursor and table are as before the turn that was refused, so that the walk can go on from
 // there, with a longer table for example.
@@ -31,26 +17,24 @@ pub enum End {
 pub struct Tour {
     pub finder: ItemFinder,
     pub cursor: ItemIter,
-    pub end: End,
-}
-
-#[derive(Clone, Copy)]
-pub enum IndexAnswer {
-    Answered(Tour),
-    Refused(Refusal),
+    pub end: Result<(), Refusal>,
 }
 
 // One record on, and the finder updated; refused by either, it changes nothing.
-pub fn next_and_update(s: &[u8], f: ItemFinder, t: &mut [u32], c: ItemIter) -> TurnAnswer
+pub fn next_and_update(
+    s: &[u8],
+    f: ItemFinder,
+    t: &mut [u32],
+    c: ItemIter,
+) -> Result<Option<(ItemFinder, ItemIter)>, Refusal>
     ensures { Leads t.old (turn_of s.now (state f t.old) c) result t.new }
 {
-    match iter::next(s, c) {
-        NextAnswer::Yielded(_, d) => match stream_finder::update(f, t, d) {
-            FinderAnswer::Answered(g) => TurnAnswer::Moved(g, d),
-            FinderAnswer::Refused(e) => TurnAnswer::Refused(e),
-        },
-        NextAnswer::Done => TurnAnswer::Done,
-        NextAnswer::Refused(e) => TurnAnswer::Refused(e),
+    match iter::next(s, c)? {
+        Some((_, d)) => {
+            let g = stream_finder::update(f, t, d)?;
+            Ok(Some((g, d)))
+        }
+        None => Ok(None),
     }
 }
 
@@ -62,22 +46,22 @@ pub fn index_on(s: &[u8], f: ItemFinder, t: &mut [u32], c: ItemIter) -> Tour
     let mut cursor = c;
     loop {
         match next_and_update(s, finder, t, cursor) {
-            TurnAnswer::Moved(g, d) => {
+            Ok(Some((g, d))) => {
                 finder = g;
                 cursor = d;
             }
-            TurnAnswer::Done => {
+            Ok(None) => {
                 return Tour {
-                    finder: finder,
-                    cursor: cursor,
-                    end: End::Done,
+                    finder,
+                    cursor,
+                    end: Ok(()),
                 };
             }
-            TurnAnswer::Refused(e) => {
+            Err(e) => {
                 return Tour {
-                    finder: finder,
-                    cursor: cursor,
-                    end: End::Refused(e),
+                    finder,
+                    cursor,
+                    end: Err(e),
                 };
             }
         }
@@ -85,21 +69,17 @@ pub fn index_on(s: &[u8], f: ItemFinder, t: &mut [u32], c: ItemIter) -> Tour
 }
 
 // A whole stream, from a fresh finder with blocks of 8 and a fresh iterator.
-pub fn index_all(stream: Stream, s: &[u8], t: &mut [u32]) -> IndexAnswer
+pub fn index_all(stream: Stream, s: &[u8], t: &mut [u32]) -> Result<Tour, Refusal>
     ensures { Indexes stream s.now t.old result t.new }
 {
     index_all_by(stream, s, t, stream_finder::SHIFT)
 }
 
 // The same with blocks of 2^shift.
-pub fn index_all_by(stream: Stream, s: &[u8], t: &mut [u32], shift: u32) -> IndexAnswer
+pub fn index_all_by(stream: Stream, s: &[u8], t: &mut [u32], shift: u32) -> Result<Tour, Refusal>
     ensures { IndexesBy shift stream s.now t.old result t.new }
 {
-    match iter::iter(stream, s) {
-        IterAnswer::Answered(c) => match stream_finder::create_by(s, t, shift) {
-            FinderAnswer::Answered(f) => IndexAnswer::Answered(index_on(s, f, t, c)),
-            FinderAnswer::Refused(e) => IndexAnswer::Refused(e),
-        },
-        IterAnswer::Refused(e) => IndexAnswer::Refused(e),
-    }
+    let c = iter::iter(stream, s)?;
+    let f = stream_finder::create_by(s, t, shift)?;
+    Ok(index_on(s, f, t, c))
 }

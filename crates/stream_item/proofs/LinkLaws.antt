@@ -1,4 +1,5 @@
 -- Laws of links and chains: one link more, splitting, staying inside, one outcome. Assumes nothing.
+use Rattle.std.specs.Prelude.{Option, Some, None}
 use Prim.Native.Nat.{ℕ, zero, suc, ◌+◌, ◌*◌, ◌-◌, ◌≤◌, ◌<◌}
 use mathlib.Core.Path.{◌≡◌, refl, sym, ap, ap₂, ◌∙◌}
 use mathlib.Core.List.{List}
@@ -12,17 +13,15 @@ use borrow.Author.Tests.{le-leb, lt-leb, leb-true}
 use Rattle.answer.specs.Answer.{pick}
 use Rattle.field.specs.Fields.{little_at}
 use Rattle.stream_item.specs.Links.{link_at, Walk, reached, broke, passing, linked, chain, landing, land, link_of}
-use Rattle.stream_item.specs.declared.link.Link.{Link}
-use Rattle.stream_item.specs.declared.link.Link.TheVariants.{Whole, Broken}
 use Rattle.stream_item.specs.declared.link.Hit.{Hit}
 use Rattle.stream_item.specs.declared.link.Hit.TheVariants.{Landed, Missed}
 
 -- ---- a link, from the lengths and back
-pub link-whole : (s : List ℕ) (p : ℕ) → p + 2 + little_at 2 s p ≤ length s → link_at s p ≡ Whole (p + 2) (little_at 2 s p)
+pub link-whole : (s : List ℕ) (p : ℕ) → p + 2 + little_at 2 s p ≤ length s → link_at s p ≡ Some (p + 2, little_at 2 s p)
 unfolding link_at
 link-whole s p h = simp (le-leb _ _ h)
 
-pub link-broken : (s : List ℕ) (p : ℕ) → length s < p + 2 + little_at 2 s p → link_at s p ≡ Broken
+pub link-broken : (s : List ℕ) (p : ℕ) → length s < p + 2 + little_at 2 s p → link_at s p ≡ None
 unfolding link_at
 link-broken s p h = simp (lt-leb _ _ h)
 
@@ -31,12 +30,16 @@ pub record WholeAt (s : List ℕ) (p a l : ℕ) : Type 0 where
   pub len : l ≡ little_at 2 s p
   pub inside : p + 2 + little_at 2 s p ≤ length s
 
-pub whole_is : (s : List ℕ) (p a l : ℕ) → link_at s p ≡ Whole a l → WholeAt s p a l
+abbrev payload : Option (ℕ × ℕ) → ℕ × ℕ
+payload None = (0, 0)
+payload (Some x) = x
+
+pub whole_is : (s : List ℕ) (p a l : ℕ) → link_at s p ≡ Some (a, l) → WholeAt s p a l
 unfolding link_at
 whole_is s p a l e = go (leb (p + 2 + little_at 2 s p) (length s)) refl e
   where
-    go : (b : Bool) → leb (p + 2 + little_at 2 s p) (length s) ≡ b → pick b (Whole (p + 2) (little_at 2 s p)) Broken ≡ Whole a l → WholeAt s p a l
-    go true t q = record { start = cc; len = cc; inside = leb-true _ _ t }
+    go : (b : Bool) → leb (p + 2 + little_at 2 s p) (length s) ≡ b → pick {A = Option (ℕ × ℕ)} b (Some (p + 2, little_at 2 s p)) None ≡ Some (a, l) → WholeAt s p a l
+    go true t q = record { start = ap (λ o. (payload o).0) (sym q); len = ap (λ o. (payload o).1) (sym q); inside = leb-true _ _ t }
     go false t q = let z : ◌≡◌ {A = ℕ} 0 1 = cc in absurd (omega arith)
 
 -- ---- a chain, one link more
@@ -44,11 +47,11 @@ pub chain-none : (s : List ℕ) (p : ℕ) → chain s p 0 ≡ reached p
 unfolding chain
 chain-none s p = refl
 
-pub chain-pass : (s : List ℕ) (p i q a l : ℕ) → chain s p i ≡ reached q → link_at s q ≡ Whole a l → chain s p (i + 1) ≡ reached (a + l)
+pub chain-pass : (s : List ℕ) (p i q a l : ℕ) → chain s p i ≡ reached q → link_at s q ≡ Some (a, l) → chain s p (i + 1) ≡ reached (a + l)
 unfolding chain
 chain-pass s p i q a l e w = rw (add-one, e, w)
 
-pub chain-break : (s : List ℕ) (p i q : ℕ) → chain s p i ≡ reached q → link_at s q ≡ Broken → chain s p (i + 1) ≡ broke i
+pub chain-break : (s : List ℕ) (p i q : ℕ) → chain s p i ≡ reached q → link_at s q ≡ None → chain s p (i + 1) ≡ broke i
 unfolding chain
 chain-break s p i q e w = rw (add-one, e, w)
 
@@ -67,9 +70,9 @@ abbrev pub and_then : List ℕ → ℕ → ℕ → Walk → Walk
 and_then s a b (reached q) = more a (chain s q b)
 and_then s a b (broke j) = broke j
 
-more-passing : (a b : ℕ) (k : Link) → passing (a + b) k ≡ more a (passing b k)
-more-passing a b (Whole c l) = refl
-more-passing a b Broken = refl
+more-passing : (a b : ℕ) (k : Option (ℕ × ℕ)) → passing (a + b) k ≡ more a (passing b k)
+more-passing a b (Some (c, l)) = refl
+more-passing a b None = refl
 
 more-onward : (s : List ℕ) (a b : ℕ) (w : Walk) → linked s (a + b) (more a w) ≡ more a (linked s b w)
 more-onward s a b (reached q) = more-passing a b (link_at s q)
@@ -106,23 +109,23 @@ chain-bounds s p zero q e =
     record { up = omega arith; inside = λ g. omega arith }
 chain-bounds s p (suc k) q e = from (chain s p k) refl e (λ r er. chain-bounds s p k r er)
   where
-    step : (r : ℕ) → Bounded s p k r → (n : Link) → link_at s r ≡ n → passing k n ≡ reached q → Bounded s p (suc k) q
-    step r b (Whole a l) en e =
+    step : (r : ℕ) → Bounded s p k r → (n : Option (ℕ × ℕ)) → link_at s r ≡ n → passing k n ≡ reached q → Bounded s p (suc k) q
+    step r b (Some (a, l)) en e =
         let w : WholeAt s r a l = whole_is s r a l en in
         let h : a + l ≡ q = cc in
         record { up = omega arith; inside = λ g. omega arith }
-    step r b Broken en e = let z : ◌≡◌ {A = ℕ} 0 1 = cc in absurd (omega arith)
+    step r b None en e = let z : ◌≡◌ {A = ℕ} 0 1 = cc in absurd (omega arith)
 
     from : (w : Walk) → chain s p k ≡ w → linked s k w ≡ reached q → ((r : ℕ) → chain s p k ≡ reached r → Bounded s p k r) → Bounded s p (suc k) q
     from (reached r) ew e ih = step r (ih r ew) (link_at s r) refl e
     from (broke j) ew e ih = let z : ◌≡◌ {A = ℕ} 0 1 = cc in absurd (omega arith)
 
 -- ---- link k of a chain
-pub link_of-landed : (s : List ℕ) (p k q a l : ℕ) → chain s p k ≡ reached q → link_at s q ≡ Whole a l → link_of s p k ≡ Landed a l
+pub link_of-landed : (s : List ℕ) (p k q a l : ℕ) → chain s p k ≡ reached q → link_at s q ≡ Some (a, l) → link_of s p k ≡ Landed a l
 unfolding link_of
 link_of-landed s p k q a l e w = rw (e, w)
 
-pub link_of-missed : (s : List ℕ) (p k q : ℕ) → chain s p k ≡ reached q → link_at s q ≡ Broken → link_of s p k ≡ Missed k
+pub link_of-missed : (s : List ℕ) (p k q : ℕ) → chain s p k ≡ reached q → link_at s q ≡ None → link_of s p k ≡ Missed k
 unfolding link_of
 link_of-missed s p k q e w = rw (e, w)
 
@@ -130,7 +133,7 @@ pub link_of-broke : (s : List ℕ) (p k j : ℕ) → chain s p k ≡ broke j →
 unfolding link_of
 link_of-broke s p k j e = rw e
 
-pub link_of-cut : (s : List ℕ) (p i k q : ℕ) → chain s p i ≡ reached q → link_at s q ≡ Broken → i < k → link_of s p k ≡ Missed i
+pub link_of-cut : (s : List ℕ) (p i k q : ℕ) → chain s p i ≡ reached q → link_at s q ≡ None → i < k → link_of s p k ≡ Missed i
 link_of-cut s p i k q e w h =
     link_of-broke s p k i
     (ap (chain s p) (sym (add-sub_of_le h)) ∙ chain-stays s p i (suc i) (k - suc i) (sym (ap (chain s p) (add-one i)) ∙ chain-break s p i q e w))
@@ -140,9 +143,9 @@ abbrev pub more_hit : ℕ → Hit → Hit
 more_hit a (Landed b l) = Landed b l
 more_hit a (Missed j) = Missed (a + j)
 
-more-landing : (a j : ℕ) (k : Link) → landing (a + j) k ≡ more_hit a (landing j k)
-more-landing a j (Whole b l) = refl
-more-landing a j Broken = refl
+more-landing : (a j : ℕ) (k : Option (ℕ × ℕ)) → landing (a + j) k ≡ more_hit a (landing j k)
+more-landing a j (Some (b, l)) = refl
+more-landing a j None = refl
 
 more-land : (s : List ℕ) (a j : ℕ) (w : Walk) → land s (a + j) (more a w) ≡ more_hit a (land s j w)
 more-land s a j (reached q) = more-landing a j (link_at s q)
@@ -161,4 +164,4 @@ module _ (s : List ℕ) (p i q n : ℕ) (e : n ≡ little_at 2 s (q - 2)) (low :
   pub led-to : chain s p i ≡ reached (q - 2) → q + n ≤ length s → link_of s p i ≡ Landed q n
   led-to c h =
       let a : q - 2 + 2 ≡ q = omega arith in
-      link_of-landed s p i (q - 2) q n c (link-whole s (q - 2) (omega (arith, e)) ∙ ap₂ Whole a (sym e))
+      link_of-landed s p i (q - 2) q n c (link-whole s (q - 2) (omega (arith, e)) ∙ ap₂ (λ x y. Some (x, y)) a (sym e))

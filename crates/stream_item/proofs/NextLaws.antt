@@ -1,4 +1,5 @@
 -- The outcomes of `next_of`, a law for each, in the order of its tests; and what a yielded item says. Assumes nothing.
+use Rattle.std.specs.Prelude.{Some}
 use Prim.Native.Nat.{ℕ, ◌+◌, ◌≤◌, ◌<◌}
 use mathlib.Core.Path.{◌≡◌, refl}
 use mathlib.Core.List.{List, []}
@@ -18,7 +19,6 @@ use Rattle.stream_item.proofs.LinkLaws.{link-whole}
 use Rattle.field.specs.declared.index.Stream.{Stream}
 use Rattle.stream_item.specs.declared.Item.{Item}
 use Rattle.stream_item.specs.declared.iter.ItemIter.{ItemIter}
-use Rattle.stream_item.specs.declared.link.Link.TheVariants.{Whole}
 
 module _ (s : List ℕ) (c : ItemIter) where
   pub next-long : longest < length s → next_of s c ≡ refused 16 []
@@ -95,7 +95,7 @@ undone false a i d e = (refl, e)
 
 pub record Yields (s : List ℕ) (c : ItemIter) (i : Item) (d : ItemIter) : Type 0 where
   pub short : length s ≤ longest
-  pub whole : link_at s c.at ≡ Whole i.place i.length
+  pub whole : link_at s c.at ≡ Some (i.place, i.length)
   pub long : 2 ≤ i.length
   pub inside : d.at ≤ length s
   pub at : d.at ≡ i.place + i.length

@@ -1,17 +1,14 @@
 -- Document 01, "Links and the iterator": the iterator.
-use Rattle.std.specs.Prelude.{ℕ, ◌+◌, List, length, leb, ltb}
+use Rattle.std.specs.Prelude.{Result, Option, Some, None, ℕ, ◌+◌, List, length, leb, ltb}
+use Rattle.answer.specs.declared.Refusal.{Refusal}
 use Rattle.answer.specs.Answer.{Answer, answered, pick, stop, then}
-use Rattle.answer.specs.Refusals.{no}
+use Rattle.answer.specs.Refusals.{said}
 use Rattle.field.specs.Fields.{little_at}
 use Rattle.stream_header.specs.Header.{longest, header_of}
 use Rattle.field.specs.Indices.{index_in}
 use Rattle.field.specs.declared.index.Stream.{Stream}
 use Rattle.stream_item.specs.declared.Item.{Item}
 use Rattle.stream_item.specs.declared.iter.ItemIter.{ItemIter}
-use Rattle.stream_item.specs.declared.iter.IterAnswer.{IterAnswer}
-use Rattle.stream_item.specs.declared.iter.IterAnswer.TheVariants as iter
-use Rattle.stream_item.specs.declared.iter.NextAnswer.{NextAnswer}
-use Rattle.stream_item.specs.declared.iter.NextAnswer.TheVariants as next
 
 -- a fresh iterator: 16 and the header's refusals; else the cursor behind the header, at the minimum index
 unfoldable pub iter_of : Stream → List ℕ → Answer ItemIter
@@ -44,11 +41,9 @@ next_of s c =
     (answered (over_record c (little_at 2 s c.at)))))))))
 
 -- what the answers say
-abbrev pub said_iter : IterAnswer → Answer ItemIter
-said_iter (iter.Answered c) = answered c
-said_iter (iter.Refused e) = no e
+abbrev pub next_told : Option (Item × ItemIter) → Next
+next_told None = done
+next_told (Some (i, c)) = yielded i c
 
-abbrev pub said_next : NextAnswer → Answer Next
-said_next next.Done = answered done
-said_next (next.Yielded i c) = answered (yielded i c)
-said_next (next.Refused e) = no e
+abbrev pub said_next : Result (Option (Item × ItemIter)) Refusal → Answer Next
+said_next = said next_told

@@ -58,6 +58,7 @@ impl Entry {
 }
 
 // The length that a link starts with, where it is known to be there.
+#[tactic(auto, unfolding(field::specs::Fields::little_at))]
 fn length_at(s: &[u8], p: usize) -> usize
     requires { p + 2 ≤ length s.now }
     ensures { (result ≡ little_at 2 s.now p) × (result < 65536) }

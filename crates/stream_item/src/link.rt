@@ -6,13 +6,6 @@ ghost use Rattle.stream_item.specs.Led.{Led};
 use crate::length_at;
 use stream_header::LONGEST;
 
-// A link's payload, by place and length; or broken.
-#[derive(Clone, Copy)]
-pub enum Link {
-    Whole(usize, usize),
-    Broken,
-}
-
 // The payload of the link that a walk came to; or how many links it passed before one broke.
 #[derive(Clone, Copy)]
 pub enum Hit {
@@ -21,22 +14,22 @@ pub enum Hit {
 }
 
 // The link at place p.
-fn link_at(s: &[u8], p: usize) -> Link
+fn link_at(s: &[u8], p: usize) -> Option<(usize, usize)>
     ensures { result ≡ link_at s.now p }
 {
     if p > s.len() {
-        return Link::Broken;
+        return None;
     }
     let left = s.len() - p;
     if left < 2 {
-        return Link::Broken;
+        return None;
     }
     let n = length_at(s, p);
     if n <= left - 2 {
         let place = p + 2;
-        Link::Whole(place, n)
+        Some((place, n))
     } else {
-        Link::Broken
+        None
     }
 }
 
@@ -86,17 +79,17 @@ fn counted(s: &[u8], p: usize, k: u32) -> Hit
     let mut i: u32 = 0;
     while i < k {
         match link_at(s, at) {
-            Link::Whole(place, n) => {
+            Some((place, n)) => {
                 at = place + n;
                 i = i + 1;
             }
-            Link::Broken => {
+            None => {
                 return Hit::Missed(i);
             }
         }
     }
     match link_at(s, at) {
-        Link::Whole(place, n) => Hit::Landed(place, n),
-        Link::Broken => Hit::Missed(k),
+        Some((place, n)) => Hit::Landed(place, n),
+        None => Hit::Missed(k),
     }
 }

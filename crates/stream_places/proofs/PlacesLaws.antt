@@ -1,14 +1,17 @@
 -- The outcomes of loading and saving, a law for each, in the order of their tests; and a turn of the loop over the places. Assumes nothing.
+use Rattle.std.specs.Prelude.{Result, Ok, Err, IsErrAnd}
+use Rattle.answer.specs.declared.Refusal.{Refusal}
 use Prim.Native.Nat.{ℕ, suc, ◌+◌, ◌-◌, ◌*◌, ◌^◌, ◌≤◌, ◌<◌}
 use native.Mathlib.Omega.{arith}
 use native.Mathlib.Nat.{zero-add, add-sub_of_le}
 use native.Mathlib.Numerals.{add-one}
-use mathlib.Core.Path.{◌≡◌, sym, ap, ◌∙◌}
+use mathlib.Core.Path.{◌≡◌, refl, sym, ap, ◌∙◌}
 use mathlib.Core.Bool.{Bool, true, false}
 use mathlib.Core.List.{List, [], ◌++◌}
 use lib.ListN.{length, take}
 use lib.Dec.{ltb, eqb}
 use borrow.Author.Tests.{lt-ltb, le-ltb, eq-eqb, ne_eqb, ltb-false, eqb-true}
+use Rattle.answer.proofs.Told.{handed}
 use Rattle.answer.specs.Answer.{Answer, answered, refused, pick, both, then}
 use Rattle.field.specs.Fields.{little_at}
 use Rattle.field_put.specs.Bytes.{bytes, put, Puts}
@@ -17,13 +20,13 @@ use Rattle.stream_header.specs.declared.Header.{Header}
 use Rattle.stream_item.specs.Links.{Walk, reached, broke, chain}
 use Rattle.stream_item.proofs.LinkLaws.{link-broken, chain-break, chain-stays, chain-bounds}
 use Rattle.stream_item.proofs.NextLaws.{passed}
-use Rattle.stream_finder.specs.Finder.{State, state, holding}
+use Rattle.stream_finder.specs.Finder.{State, state, holding, Fills}
+use Rattle.stream_finder.specs.declared.ItemFinder.{ItemFinder}
 use Rattle.stream_places.specs.File.{FileForm, trailer_size, word_bytes, trailer_bytes, words_at, trailer_by}
-use Rattle.stream_places.specs.Places.{ends, follows, on_chain, Takes, load_for, load_by, file_of, save_for, save_by, file_size, file_buffer_after, said_save, Saves}
+use Rattle.stream_places.specs.Places.{ends, follows, on_chain, Takes, load_for, load_by, file_of, save_for, save_by, file_size, file_buffer_after, Saves}
 use Rattle.stream_places.specs.declared.trailer.Trailer.{Trailer}
-use Rattle.stream_places.specs.declared.SaveAnswer.{SaveAnswer}
-use Rattle.stream_places.specs.declared.SaveAnswer.TheVariants as save
 use Rattle.stream_places.proofs.FileLaws.{words-cons, words-none}
+use Rattle.answer.specs.Refusals.{no, itself, said}
 
 -- ---- a block of links: the walk came to its end, or broke before
 module _ (s : List ℕ) (p k i at q : ℕ) (e : chain s p i ≡ reached at) where
@@ -151,6 +154,20 @@ pub load-trailer : (F : FileForm) (s f t : List ℕ) (h : Header) (a : Answer Tr
 unfolding load_by
 load-trailer F s f t h a e g = rw (e, g)
 
+-- a file loaded by the stream's header and the file's trailer: refused by the one, or by the other, or the places loaded by both
+module _ (F : FileForm) (s f t : List ℕ) (r : Result ItemFinder Refusal) where
+  pub load-unheaded : (e : Refusal) → no e ≡ header_of s → IsErrAnd r (λ y. y ≡ e) → Fills t (load_by F s f t) r t
+  unfolding load_by
+  load-unheaded e h w = let q : r ≡ Err e = handed r e w in record { answer = rw (q, ← h) refl; table = rw (← h) refl }
+
+  pub load-untrailed : (h : Header) (e : Refusal) → answered h ≡ header_of s → no e ≡ trailer_by F f → IsErrAnd r (λ y. y ≡ e) → Fills t (load_by F s f t) r t
+  unfolding load_by
+  load-untrailed h e g k w = let q : r ≡ Err e = handed r e w in record { answer = rw (q, ← g, ← k) refl; table = rw (← g, ← k) refl }
+
+  pub load-both : (h : Header) (k : Trailer) (t' : List ℕ) → answered h ≡ header_of s → answered k ≡ trailer_by F f → Fills t (load_for s f t h k) r t' → Fills t (load_by F s f t) r t'
+  unfolding load_by
+  load-both h k t' g e l = record { answer = rw (← g, ← e) l.answer; table = rw (← g, ← e) l.table }
+
 -- ---- the outcomes of saving
 module _ (F : FileForm) (bytes : ℕ) (σ : State) (room : ℕ) (h : Header) where
   pub save-minimum : (σ.finder.minimum_index ≡ h.minimum_index → ⊥) → save_for F bytes σ room h ≡ refused 21 []
@@ -213,15 +230,20 @@ pub save-by : (F G : FileForm) (s : List ℕ) (σ : State) (room : ℕ) (h : Hea
 save-by F G s σ room h e g = ap (λ (H : FileForm). save_by H s σ room) (sym g) ∙ save-header F s σ room (answered h) e
 
 -- the contract from the case that holds
-pub saves : (o : List ℕ) (x : Answer (List ℕ)) (r : SaveAnswer) (o' : List ℕ) (a : Answer (List ℕ)) → x ≡ a → said_save r ≡ file_size a → o' ≡ file_buffer_after o a → Saves o x r o'
+pub saves : (o : List ℕ) (x : Answer (List ℕ)) (r : Result ℕ Refusal) (o' : List ℕ) (a : Answer (List ℕ)) → x ≡ a → said itself r ≡ file_size a → o' ≡ file_buffer_after o a → Saves o x r o'
 saves o x r o' a e p q = record { answer = p ∙ ap file_size (sym e); buffer = q ∙ ap (file_buffer_after o) (sym e) }
 
-pub saves-as : (o : List ℕ) (x : Answer (List ℕ)) (r : SaveAnswer) (o' : List ℕ) (a : Answer (List ℕ)) → x ≡ a → Saves o a r o' → Saves o x r o'
+pub saves-as : (o : List ℕ) (x : Answer (List ℕ)) (r : Result ℕ Refusal) (o' : List ℕ) (a : Answer (List ℕ)) → x ≡ a → Saves o a r o' → Saves o x r o'
 saves-as o x r o' a e w = saves o x r o' a e w.answer w.buffer
 
+-- the header's own refusal
+pub save-refused : (F : FileForm) (s : List ℕ) (σ : State) (o : List ℕ) (r : Result ℕ Refusal) (e : Refusal) → no e ≡ header_of s → IsErrAnd r (λ y. y ≡ e) → Saves o (save_by F s σ (length o)) r o
+save-refused F s σ o r e h w =
+    saves o (save_by F s σ (length o)) r o (no e) (save-header F s σ (length o) (no e) (sym h)) (ap (said itself) (handed r e w)) refl
+
 -- the file was written
-pub saves-file : (o : List ℕ) (x : Answer (List ℕ)) (bs : List ℕ) (r : ℕ) (o' : List ℕ) → x ≡ answered bs → Puts o 0 bs r o' → Saves o x (save.Answered r) o'
-saves-file o x bs r o' e w = saves o x (save.Answered r) o' (answered bs) e (ap (λ (n : ℕ). answered n) (w.next ∙ zero-add (length bs))) w.left
+pub saves-file : (o : List ℕ) (x : Answer (List ℕ)) (bs : List ℕ) (r : ℕ) (o' : List ℕ) → x ≡ answered bs → Puts o 0 bs r o' → Saves o x (Ok r) o'
+saves-file o x bs r o' e w = saves o x (Ok r) o' (answered bs) e (ap (λ (n : ℕ). answered n) (w.next ∙ zero-add (length bs))) w.left
 
 -- ---- what a header that was answered says of its stream
 pub header-short : (s : List ℕ) (h : Header) → header_of s ≡ answered h → length s ≤ longest

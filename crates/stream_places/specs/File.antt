@@ -5,14 +5,11 @@
 -- each table has one encoding." What follows goes by the form; R-3's and R-10's are two values of it.
 use Rattle.std.specs.Prelude.{ℕ, zero, suc, ◌+◌, ◌-◌, ◌*◌, Bool, true, not, List, [], ◌∷◌, ◌++◌, length, get_or, ltb, eqb}
 use Rattle.answer.specs.Answer.{Answer, answered, pick, stop, both}
-use Rattle.answer.specs.Refusals.{no}
 use Rattle.field.specs.Fields.{little_at}
 use Rattle.field_put.specs.Bytes.{bytes}
 use Rattle.stream_places.specs.declared.trailer.Trailer.{Trailer}
 use Rattle.stream_places.specs.declared.Width.{Width}
 use Rattle.stream_places.specs.declared.Width.TheVariants as width
-use Rattle.stream_places.specs.declared.trailer.TrailerAnswer.{TrailerAnswer}
-use Rattle.stream_places.specs.declared.trailer.TrailerAnswer.TheVariants as trailer
 
 -- ---- the two forms
 
@@ -105,8 +102,3 @@ file_form_of f = pick (spells f (length f - 4) wide.letters) wide narrow
 
 abbrev pub trailer_of_either : List ℕ → Answer Trailer
 trailer_of_either f = trailer_by (file_form_of f) f
-
--- what the answer says
-abbrev pub said_trailer : TrailerAnswer → Answer Trailer
-said_trailer (trailer.Answered k) = answered k
-said_trailer (trailer.Refused e) = no e

@@ -5,9 +5,10 @@
 -- With R-7: a block is 2^shift links, and 26 comes right before the writer's 13.
 -- R-10: "A table that fits the old form is still written in the old form [..]. The new loader takes both; an old loader meets PTIY with 20 and shows
 -- nothing. Refusals: 13 now stands for more than 65,535 only in the old writer; the new writer gives it when the distance passes 4,294,967,295."
-use Rattle.std.specs.Prelude.{ℕ, ◌+◌, ◌*◌, ◌^◌, ◌≡◌, Bool, true, false, not, List, [], ◌∷◌, ◌++◌, length, take, ltb, eqb}
+use Rattle.std.specs.Prelude.{Result, ℕ, ◌+◌, ◌*◌, ◌^◌, ◌≡◌, Bool, true, false, not, List, [], ◌∷◌, ◌++◌, length, take, ltb, eqb}
+use Rattle.answer.specs.declared.Refusal.{Refusal}
 use Rattle.answer.specs.Answer.{Answer, answered, refused, pick, stop, both, then}
-use Rattle.answer.specs.Refusals.{no}
+use Rattle.answer.specs.Refusals.{itself, said}
 use Rattle.field_put.specs.Bytes.{put}
 use Rattle.stream_header.specs.Header.{header_of}
 use Rattle.stream_header.specs.declared.Header.{Header}
@@ -15,8 +16,6 @@ use Rattle.stream_item.specs.Links.{Walk, reached, broke, chain}
 use Rattle.stream_finder.specs.Finder.{State, state, holding}
 use Rattle.stream_places.specs.File.{FileForm, narrow, wide, trailer_size, word_bytes, trailer_bytes, words_at, trailer_by, file_form_of}
 use Rattle.stream_places.specs.declared.trailer.Trailer.{Trailer}
-use Rattle.stream_places.specs.declared.SaveAnswer.{SaveAnswer}
-use Rattle.stream_places.specs.declared.SaveAnswer.TheVariants as save
 
 -- ---- places on the chain
 
@@ -121,11 +120,7 @@ abbrev pub file_buffer_after : List ℕ → Answer (List ℕ) → List ℕ
 file_buffer_after o (answered bs) = put o 0 bs
 file_buffer_after o (refused n d) = o
 
-abbrev pub said_save : SaveAnswer → Answer ℕ
-said_save (save.Answered n) = answered n
-said_save (save.Refused e) = no e
-
 -- the contract of a function that is lent the buffer o: a is the definition's answer, r the function's, o' the buffer after it
-pub record Saves (o : List ℕ) (a : Answer (List ℕ)) (r : SaveAnswer) (o' : List ℕ) : Type 0 where
-  pub answer : said_save r ≡ file_size a
+pub record Saves (o : List ℕ) (a : Answer (List ℕ)) (r : Result ℕ Refusal) (o' : List ℕ) : Type 0 where
+  pub answer : said itself r ≡ file_size a
   pub buffer : o' ≡ file_buffer_after o a

@@ -9,7 +9,7 @@
 
 pub mod trailer;
 
-ghost use Rattle.std.specs.Prelude.{◌≡◌, Bool, ◌+◌, ◌*◌, ◌^◌, ◌≤◌, ◌<◌, eqb, ltb, length, take};
+ghost use Rattle.std.specs.Prelude.{◌≡◌, ◌+◌, ◌*◌, ◌^◌, ◌≤◌, ◌<◌, eqb, ltb, length, take};
 ghost use Rattle.answer.specs.Answer.{both};
 ghost use Rattle.field.specs.Fields.{little_at};
 ghost use Rattle.field_put.specs.Bytes.{bytes, put, Room, Puts};
@@ -20,10 +20,9 @@ ghost use Rattle.stream_places.specs.Places.{ends, on_chain, Takes, load_for, lo
 
 use answer::Refusal;
 use field::fixed;
-use field::fixed::{Read8, Read16, Read32};
-use stream_finder::{FinderAnswer, ItemFinder};
-use stream_header::{Header, HeaderAnswer};
-use trailer::{Trailer, TrailerAnswer};
+use stream_finder::ItemFinder;
+use stream_header::Header;
+use trailer::Trailer;
 
 const LARGEST_SHIFT: u32 = 6;
 
@@ -84,13 +83,6 @@ fn width_for(n: usize) -> Width
     Width::Narrow
 }
 
-// How many bytes a file takes.
-#[derive(Clone, Copy)]
-pub enum SaveAnswer {
-    Answered(usize),
-    Refused(Refusal),
-}
-
 // The number of 1, 2 or 4 bytes at place p, where it is known to be there: each is two halves, and compiles to one load.
 
 fn byte_at(f: &[u8], p: usize) -> u8
@@ -100,6 +92,7 @@ fn byte_at(f: &[u8], p: usize) -> u8
     f[p]
 }
 
+#[tactic(auto, unfolding(field::specs::Fields::little_at))]
 fn half_at(f: &[u8], p: usize) -> u16
     requires { p + 2 ≤ length f.now }
     ensures { result ≡ little_at 2 f.now p }
@@ -107,6 +100,7 @@ fn half_at(f: &[u8], p: usize) -> u16
     (byte_at(f, p) as u16) + 256 * (byte_at(f, p + 1) as u16)
 }
 
+#[tactic(auto, unfolding(field::specs::Fields::little_at))]
 fn word_at(f: &[u8], p: usize) -> u32
     requires { p + 4 ≤ length f.now }
     ensures { result ≡ little_at 4 f.now p }
@@ -117,33 +111,25 @@ fn word_at(f: &[u8], p: usize) -> u32
 // ---- loading
 
 // The finder whose places are kept in the file f, for the stream s: they are the first of the lent table.
-pub fn load(s: &[u8], f: &[u8], t: &mut [u32]) -> FinderAnswer
+pub fn load(s: &[u8], f: &[u8], t: &mut [u32]) -> Result<ItemFinder, Refusal>
     ensures { Fills t.old (load_of s.now f.now t.old) result t.new }
 {
-    match Header::parse(s) {
-        HeaderAnswer::Answered(h) => match Trailer::parse(f) {
-            TrailerAnswer::Answered(k) => loaded(s, f, t, h, k),
-            TrailerAnswer::Refused(e) => FinderAnswer::Refused(e),
-        },
-        HeaderAnswer::Refused(e) => FinderAnswer::Refused(e),
-    }
+    let h = Header::parse(s)?;
+    let k = Trailer::parse(f)?;
+    loaded(s, f, t, h, k)
 }
 
 // The same of a file of either form.
-pub fn load_wide(s: &[u8], f: &[u8], t: &mut [u32]) -> FinderAnswer
+pub fn load_wide(s: &[u8], f: &[u8], t: &mut [u32]) -> Result<ItemFinder, Refusal>
     ensures { Fills t.old (load_wide_of s.now f.now t.old) result t.new }
 {
-    match Header::parse(s) {
-        HeaderAnswer::Answered(h) => match Trailer::parse_wide(f) {
-            TrailerAnswer::Answered(k) => loaded(s, f, t, h, k),
-            TrailerAnswer::Refused(e) => FinderAnswer::Refused(e),
-        },
-        HeaderAnswer::Refused(e) => FinderAnswer::Refused(e),
-    }
+    let h = Header::parse(s)?;
+    let k = Trailer::parse_wide(f)?;
+    loaded(s, f, t, h, k)
 }
 
 // The same, of a stream that has this header and a file that has this trailer.
-fn loaded(s: &[u8], f: &[u8], t: &mut [u32], h: Header, k: Trailer) -> FinderAnswer
+fn loaded(s: &[u8], f: &[u8], t: &mut [u32], h: Header, k: Trailer) -> Result<ItemFinder, Refusal>
     requires { (length s.now ≤ 4294967294) × (k.shift ≤ 6) × (4 * k.count ≤ length f.now) × (h.header_size ≤ length s.now) }
     ensures { Fills t.old (load_for s.now f.now t.old h k) result t.new }
 {
@@ -153,31 +139,31 @@ fn loaded(s: &[u8], f: &[u8], t: &mut [u32], h: Header, k: Trailer) -> FinderAns
     let count = k.count as usize;
     let shift = k.shift as u32;
     if lacks(count, minimum, maximum) {
-        return FinderAnswer::Refused(Refusal::FileWrong);
+        return Err(Refusal::FileWrong);
     }
     if k.minimum_index != minimum {
-        return FinderAnswer::Refused(Refusal::AnotherStream);
+        return Err(Refusal::AnotherStream);
     }
     if k.maximum_index != maximum {
-        return FinderAnswer::Refused(Refusal::AnotherStream);
+        return Err(Refusal::AnotherStream);
     }
     if k.stream_length as usize != s.len() {
-        return FinderAnswer::Refused(Refusal::AnotherStream);
+        return Err(Refusal::AnotherStream);
     }
     if k.header_size != start {
-        return FinderAnswer::Refused(Refusal::AnotherStream);
+        return Err(Refusal::AnotherStream);
     }
     if t.len() < count {
-        return FinderAnswer::Refused(Refusal::TableFull);
+        return Err(Refusal::TableFull);
     }
     if !taken(s, f, t, start as usize, count, links_of(shift)) {
-        return FinderAnswer::Refused(Refusal::OffTheChain);
+        return Err(Refusal::OffTheChain);
     }
-    FinderAnswer::Answered(ItemFinder {
+    Ok(ItemFinder {
         minimum_index: minimum,
         maximum_index: maximum,
         held: count,
-        shift: shift,
+        shift,
     })
 }
 
@@ -252,7 +238,6 @@ fn taken(s: &[u8], f: &[u8], t: &mut [u32], start: usize, n: usize, links: u32) 
     let good = on_chain(s, f, start, n, links);
     if good {
         fill(f, t, n);
-        return good;
     }
     good
 }
@@ -273,30 +258,31 @@ fn fill(f: &[u8], t: &mut [u32], n: usize)
 
 // The file that keeps the places of the finder f of the stream s, in the first bytes of the lent buffer. The places themselves are not looked
 // at: `load` does that.
-pub fn save(s: &[u8], f: ItemFinder, t: &[u32], out: &mut [u8]) -> SaveAnswer
+pub fn save(s: &[u8], f: ItemFinder, t: &[u32], out: &mut [u8]) -> Result<usize, Refusal>
     ensures { Saves out.old (save_of s.now (state f t.now) (length out.old)) result out.new }
 {
-    match Header::parse(s) {
-        HeaderAnswer::Answered(h) => saved(s.len(), f, t, out, h, Width::Narrow),
-        HeaderAnswer::Refused(e) => SaveAnswer::Refused(e),
-    }
+    let h = Header::parse(s)?;
+    saved(s.len(), f, t, out, h, Width::Narrow)
 }
 
 // The same in the form that holds the places: R-3's up to 65,535 of them, R-10's above.
-pub fn save_wide(s: &[u8], f: ItemFinder, t: &[u32], out: &mut [u8]) -> SaveAnswer
+pub fn save_wide(s: &[u8], f: ItemFinder, t: &[u32], out: &mut [u8]) -> Result<usize, Refusal>
     ensures { Saves out.old (save_wide_of s.now (state f t.now) (length out.old)) result out.new }
 {
-    match Header::parse(s) {
-        HeaderAnswer::Answered(h) => {
-            let w = width_for(f.held);
-            saved(s.len(), f, t, out, h, w)
-        }
-        HeaderAnswer::Refused(e) => SaveAnswer::Refused(e),
-    }
+    let h = Header::parse(s)?;
+    let w = width_for(f.held);
+    saved(s.len(), f, t, out, h, w)
 }
 
 // The file of this form, of a stream of n bytes that has this header.
-fn saved(n: usize, f: ItemFinder, t: &[u32], out: &mut [u8], h: Header, w: Width) -> SaveAnswer
+fn saved(
+    n: usize,
+    f: ItemFinder,
+    t: &[u32],
+    out: &mut [u8],
+    h: Header,
+    w: Width,
+) -> Result<usize, Refusal>
     requires { n ≤ 4294967294 }
     ensures { Saves out.old (save_for (file_form_in w) n (state f t.now) (length out.old) h) result out.new }
 {
@@ -306,23 +292,23 @@ fn saved(n: usize, f: ItemFinder, t: &[u32], out: &mut [u8], h: Header, w: Width
     let held = f.held;
     let shift = f.shift;
     if f.minimum_index != minimum {
-        return SaveAnswer::Refused(Refusal::AnotherStream);
+        return Err(Refusal::AnotherStream);
     }
     if f.maximum_index != maximum {
-        return SaveAnswer::Refused(Refusal::AnotherStream);
+        return Err(Refusal::AnotherStream);
     }
     if shift > LARGEST_SHIFT {
-        return SaveAnswer::Refused(Refusal::Shift);
+        return Err(Refusal::Shift);
     }
     if t.len() < held {
-        return SaveAnswer::Refused(Refusal::TableFull);
+        return Err(Refusal::TableFull);
     }
     if held > most_of(w) {
-        return SaveAnswer::Refused(Refusal::TableFull);
+        return Err(Refusal::TableFull);
     }
     let size = 4 * held + width_of(w) + 26;
     if out.len() < size {
-        return SaveAnswer::Refused(Refusal::NoRoom);
+        return Err(Refusal::NoRoom);
     }
     let k = Trailer {
         count: held as u32,
@@ -334,7 +320,7 @@ fn saved(n: usize, f: ItemFinder, t: &[u32], out: &mut [u8], h: Header, w: Width
         distance: size as u32,
     };
     let p = put_words(out, 0, t, held);
-    SaveAnswer::Answered(put_trailer(out, p, k, w))
+    Ok(put_trailer(out, p, k, w))
 }
 
 // The first n numbers of t at place p of a buffer that has room for them; and the place after them.

@@ -1,7 +1,8 @@
 // The trailer of a places file, behind its places: 28 bytes with the count in two, R-3 of document 02, or 30 with the count in four, R-10.
 ghost use Rattle.std.specs.Prelude.{◌≡◌, ◌+◌, ◌≤◌, length};
 ghost use Rattle.field.specs.Fields.{little_at};
-ghost use Rattle.stream_places.specs.File.{file_form_in, trailer_size, spells, trailer_at, trailer_by, trailer_of, trailer_of_either, said_trailer};
+ghost use Rattle.stream_places.specs.File.{file_form_in, trailer_size, spells, trailer_at, trailer_by, trailer_of, trailer_of_either};
+ghost use Rattle.answer.specs.Refusals.{itself, said};
 
 use crate::{Width, byte_at, half_at, least_of, letters_of, width_of, word_at};
 use answer::Refusal;
@@ -19,24 +20,18 @@ pub struct Trailer {
     pub distance: u32,
 }
 
-#[derive(Clone, Copy)]
-pub enum TrailerAnswer {
-    Answered(Trailer),
-    Refused(Refusal),
-}
-
 impl Trailer {
     // The trailer of a places file of R-3's form: its letters first, then that all of it fits this file's length. How many places to lend a table
     // for, for example, is its count.
-    pub fn parse(f: &[u8]) -> TrailerAnswer
-        ensures { said_trailer result ≡ trailer_of f.now }
+    pub fn parse(f: &[u8]) -> Result<Trailer, Refusal>
+        ensures { said itself result ≡ trailer_of f.now }
     {
         parsed(f, Width::Narrow)
     }
 
     // The same of either form: the last four letters say which it is.
-    pub fn parse_wide(f: &[u8]) -> TrailerAnswer
-        ensures { said_trailer result ≡ trailer_of_either f.now }
+    pub fn parse_wide(f: &[u8]) -> Result<Trailer, Refusal>
+        ensures { said itself result ≡ trailer_of_either f.now }
     {
         if f.len() < 4 {
             return parsed(f, Width::Narrow);
@@ -49,36 +44,36 @@ impl Trailer {
 }
 
 // The trailer of a file of this form.
-fn parsed(f: &[u8], w: Width) -> TrailerAnswer
-    ensures { said_trailer result ≡ trailer_by (file_form_in w) f.now }
+fn parsed(f: &[u8], w: Width) -> Result<Trailer, Refusal>
+    ensures { said itself result ≡ trailer_by (file_form_in w) f.now }
 {
     let width = width_of(w);
     let size = width + 26;
     if f.len() < size {
-        return TrailerAnswer::Refused(Refusal::FileWrong);
+        return Err(Refusal::FileWrong);
     }
     let letters = letters_of(w);
     if !spelt(f, f.len() - 4, &letters) {
-        return TrailerAnswer::Refused(Refusal::FileWrong);
+        return Err(Refusal::FileWrong);
     }
     let p = f.len() - size;
     if byte_at(f, p + width + 1) != 0 {
-        return TrailerAnswer::Refused(Refusal::FileWrong);
+        return Err(Refusal::FileWrong);
     }
     let r = trailer_at(f, p, w);
     if r.shift > 6 {
-        return TrailerAnswer::Refused(Refusal::FileWrong);
+        return Err(Refusal::FileWrong);
     }
     if r.distance as usize != f.len() {
-        return TrailerAnswer::Refused(Refusal::FileWrong);
+        return Err(Refusal::FileWrong);
     }
     if f.len() != 4 * (r.count as usize) + size {
-        return TrailerAnswer::Refused(Refusal::FileWrong);
+        return Err(Refusal::FileWrong);
     }
     if r.count < least_of(w) {
-        return TrailerAnswer::Refused(Refusal::FileWrong);
+        return Err(Refusal::FileWrong);
     }
-    TrailerAnswer::Answered(r)
+    Ok(r)
 }
 
 // Whether these letters stand at place p.
@@ -121,12 +116,12 @@ fn trailer_at(f: &[u8], p: usize, w: Width) -> Trailer
     let header_size = word_at(f, q + 14);
     let distance = word_at(f, q + 18);
     Trailer {
-        count: count,
-        shift: shift,
-        minimum_index: minimum_index,
-        maximum_index: maximum_index,
-        stream_length: stream_length,
-        header_size: header_size,
-        distance: distance,
+        count,
+        shift,
+        minimum_index,
+        maximum_index,
+        stream_length,
+        header_size,
+        distance,
     }
 }

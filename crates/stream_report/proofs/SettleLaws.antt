@@ -1,4 +1,6 @@
 -- The totals after a stream, a law for each outcome; and that they are those of the report. Assumes nothing.
+use Rattle.std.specs.Prelude.{Result, IsErrAnd, Option, Some, None}
+use Rattle.answer.specs.declared.Refusal.{Refusal}
 use Prim.Native.Nat.{ℕ, zero, suc, ◌+◌, ◌-◌, ◌*◌, ◌≤◌, ◌<◌}
 use mathlib.Core.Path.{◌≡◌, refl, sym, ap, ◌∙◌, subst}
 use mathlib.Core.Bool.{Bool, true, false}
@@ -13,15 +15,14 @@ use Rattle.answer.specs.Answer.{Answer, answered, refused, pick, stop}
 use Rattle.field.specs.declared.index.Stream.TheVariants as stream
 use Rattle.stream_item.specs.Iterator.{iter_of}
 use Rattle.stream_item.specs.declared.iter.ItemIter.{ItemIter}
-use Rattle.stream_report.specs.Report.{Entry, Report, count_run, count_stream, add_of, begun, refusing, most, passes, too_large, settled_report, concluded, rows, at_most_64, report_in, totals_of, flat, totals_in, report_table_after, said_report, Reports}
+use Rattle.stream_report.specs.Report.{Entry, Report, count_run, count_stream, add_of, begun, refusing, most, passes, too_large, settled_report, concluded, rows, at_most_64, report_in, totals_of, flat, totals_in, report_table_after, Reports}
 use Rattle.stream_report.specs.Held.{Known, Exact, Past, KeptTable, Finished, RunRefuses, Sound, Told, WalkCounts, totals_after, settled_of, refused_of, Fits64}
 use Rattle.stream_report.specs.declared.Totals.{Totals}
 use Rattle.stream_report.specs.declared.Count.{Count}
 use Rattle.stream_report.specs.declared.Walked.{Walked}
-use Rattle.stream_report.specs.declared.WalkAnswer.{WalkAnswer}
-use Rattle.stream_report.specs.declared.WalkAnswer.TheVariants as walk
-use Rattle.stream_report.specs.declared.ReportAnswer.{ReportAnswer}
 use Rattle.stream_report.proofs.TableLaws.{rows-length, passes-small}
+use Rattle.answer.specs.Refusals.{no, itself, said}
+use Rattle.answer.proofs.Told.{handed}
 
 -- ---- a stream that was refused
 module _ (τ : Totals) where
@@ -127,7 +128,7 @@ module _ (τ : Totals) (t : List ℕ) (kn : Known t) (h : τ.headers ≤ most) (
   refused-after true = refl
   refused-after false = refused-table
 
-  pub refusing-reports : (a : Answer Report) → a ≡ settled_report (refusing (report_in τ t)) false → (x : ReportAnswer) → said_report x ≡ refused_of τ → Reports t a x t
+  pub refusing-reports : (a : Answer Report) → a ≡ settled_report (refusing (report_in τ t)) false → (x : Result Totals Refusal) → said itself x ≡ refused_of τ → Reports t a x t
   refusing-reports a e x s = record { answer = s ∙ refused-totals ∙ ap totals_in (sym e); table = refused-after (too_large (refusing (report_in τ t))) ∙ ap (report_table_after t) (sym e) }
 
 -- ---- a stream that was counted
@@ -208,17 +209,24 @@ module _ (τ : Totals) (t : List ℕ) (s : List ℕ) (c : ItemIter) (w : Walked)
   ends_so : concluded (report_in τ t) (count_run s τ.taken c (begun (report_in τ t) c.at)) ≡ settled_report f.counting.report f.counting.full
   ends_so = ap (concluded (report_in τ t)) f.is
 
-  module _ (q : ReportAnswer) (n b : ℕ) (en : n ≡ w.cursor.index - c.index) (eb : b ≡ w.cursor.at - c.at - 2 * n) (said : said_report q ≡ settled_of τ c.at n b w.count w.largest) where
-    is-settled : said_report q ≡ totals_in (settled_report f.counting.report f.counting.full)
-    is-settled = said ∙ rw (eb, en) finished-totals
+  module _ (q : Result Totals Refusal) (n b : ℕ) (en : n ≡ w.cursor.index - c.index) (eb : b ≡ w.cursor.at - c.at - 2 * n) (settles : said itself q ≡ settled_of τ c.at n b w.count w.largest) where
+    is-settled : said itself q ≡ totals_in (settled_report f.counting.report f.counting.full)
+    is-settled = settles ∙ rw (eb, en) finished-totals
 
-    pub added-reports : (v : Totals) → said_report q ≡ answered v → Reports t (concluded (report_in τ t) (count_run s τ.taken c (begun (report_in τ t) c.at))) q t'
+    pub added-reports : (v : Totals) → said itself q ≡ answered v → Reports t (concluded (report_in τ t) (count_run s τ.taken c (begun (report_in τ t) c.at))) q t'
     added-reports v h =
         subst (λ (y : Answer Report). Reports t y q t') (sym ends_so) (record { answer = is-settled; table = finished-table v (sym is-settled ∙ h) })
 
-    pub full-reports : (m : ℕ) (d : List ℕ) → said_report q ≡ refused m d → Reports t (concluded (report_in τ t) (count_run s τ.taken c (begun (report_in τ t) c.at))) q t
+    pub full-reports : (m : ℕ) (d : List ℕ) → said itself q ≡ refused m d → Reports t (concluded (report_in τ t) (count_run s τ.taken c (begun (report_in τ t) c.at))) q t
     full-reports m d h =
         subst (λ (y : Answer Report). Reports t y q t) (sym ends_so) (record { answer = is-settled; table = after-refused (settled_report f.counting.report f.counting.full) t m d (sym is-settled ∙ h) })
+
+  -- the settlement's refusal, as `?` hands it on
+  pub handed-reports : (n b : ℕ) → n ≡ w.cursor.index - c.index → b ≡ w.cursor.at - c.at - 2 * n → (e : Refusal) → no e ≡ settled_of τ c.at n b w.count w.largest → (q : Result Totals Refusal) → IsErrAnd q (λ y. y ≡ e)
+      → Reports t (concluded (report_in τ t) (count_run s τ.taken c (begun (report_in τ t) c.at))) q t
+  handed-reports n b en eb e settles q h =
+      let x : said itself q ≡ no e = ap (said itself) (handed q e h) in
+      full-reports q n b en eb (x ∙ settles) _ _ x
 
 -- ---- from the walk's answer
 abbrev start : ℕ → Count
@@ -227,7 +235,7 @@ start n = record { last = 0; rows = n; full = false; over = false }
 pub start-sound : (t : List ℕ) (n : ℕ) → Known t → n ≤ 64 → Sound t (start n)
 start-sound t n kn h = record { size = kn.size; few = h; foremost = record { is = λ k l e. absurd (omega arith) } }
 
-module _ (τ : Totals) (t : List ℕ) (s : List ℕ) (c : ItemIter) (n : ℕ) (e : n ≡ at_most_64 τ.rows) (r : WalkAnswer) (t' : List ℕ) (k : WalkCounts s τ.taken c (start n) τ.largest t r t') where
+module _ (τ : Totals) (t : List ℕ) (s : List ℕ) (c : ItemIter) (n : ℕ) (e : n ≡ at_most_64 τ.rows) (r : Option Walked) (t' : List ℕ) (k : WalkCounts s τ.taken c (start n) τ.largest t r t') where
   start-kept : KeptTable t t (start n) (begun (report_in τ t) c.at).report.entries false
   unfolding report_in
   start-kept = inl (record { fine = refl; entries = ap (λ (m : ℕ). rows m t 0) e; said = refl; rest = refl })
@@ -236,13 +244,13 @@ module _ (τ : Totals) (t : List ℕ) (s : List ℕ) (c : ItemIter) (n : ℕ) (e
   unfolding report_in
   start-largest = refl
 
-  pub walk-done : (w : Walked) → r ≡ walk.Done w → Finished s τ.taken c (begun (report_in τ t) c.at) t w t'
-  walk-done w q = subst (λ (x : WalkAnswer). Told s τ.taken c (begun (report_in τ t) c.at) t x t') q (k.from (begun (report_in τ t) c.at) t start-kept start-largest)
+  pub walk-done : (w : Walked) → r ≡ Some w → Finished s τ.taken c (begun (report_in τ t) c.at) t w t'
+  walk-done w q = subst (λ (x : Option Walked). Told s τ.taken c (begun (report_in τ t) c.at) t x t') q (k.from (begun (report_in τ t) c.at) t start-kept start-largest)
 
-  walk_refused : r ≡ walk.Refused → RunRefuses s τ.taken c (begun (report_in τ t) c.at)
-  walk_refused q = subst (λ (x : WalkAnswer). Told s τ.taken c (begun (report_in τ t) c.at) t x t') q (k.from (begun (report_in τ t) c.at) t start-kept start-largest)
+  walk_refused : r ≡ None → RunRefuses s τ.taken c (begun (report_in τ t) c.at)
+  walk_refused q = subst (λ (x : Option Walked). Told s τ.taken c (begun (report_in τ t) c.at) t x t') q (k.from (begun (report_in τ t) c.at) t start-kept start-largest)
 
-  pub midway-reports : r ≡ walk.Refused → Known t → Fits64 τ → (x : ReportAnswer) → said_report x ≡ refused_of τ
+  pub midway-reports : r ≡ None → Known t → Fits64 τ → (x : Result Totals Refusal) → said itself x ≡ refused_of τ
       → Reports t (concluded (report_in τ t) (count_run s τ.taken c (begun (report_in τ t) c.at))) x t
   midway-reports q kn z x h =
       refusing-reports τ t kn z.headers z.records z.bytes (concluded (report_in τ t) (count_run s τ.taken c (begun (report_in τ t) c.at)))
@@ -254,6 +262,6 @@ module _ (τ : Totals) (t : List ℕ) (s : List ℕ) where
   unfolding add_of count_stream report_in
   begins c e = rw e
 
-  pub header-reports : (n : ℕ) (d : List ℕ) → iter_of stream.Types s ≡ refused n d → Known t → Fits64 τ → (x : ReportAnswer) → said_report x ≡ refused_of τ → Reports t (add_of (report_in τ t) s) x t
+  pub header-reports : (n : ℕ) (d : List ℕ) → iter_of stream.Types s ≡ refused n d → Known t → Fits64 τ → (x : Result Totals Refusal) → said itself x ≡ refused_of τ → Reports t (add_of (report_in τ t) s) x t
   unfolding add_of count_stream
   header-reports n d e kn z x h = refusing-reports τ t kn z.headers z.records z.bytes (add_of (report_in τ t) s) (rw e) x h

@@ -1,4 +1,5 @@
 -- A stream's walk by its steps: what is left of it from a cursor, with the report so far. Assumes nothing.
+use Rattle.std.specs.Prelude.{Some, None}
 use Prim.Native.Nat.{ℕ, zero, suc, ◌+◌, ◌-◌, ◌*◌, ◌≤◌, ◌<◌}
 use mathlib.Core.Path.{◌≡◌, refl, ap, ◌∙◌}
 use mathlib.Core.Bool.{Bool, true, false}
@@ -19,7 +20,6 @@ use Rattle.stream_report.specs.Report.{Counting, counted, larger, after_step, ru
 use Rattle.stream_report.specs.Held.{Known, Sound, KeptTable, Counts, Finished, RunRefuses, WalkCounts}
 use Rattle.stream_report.specs.declared.Largest.{Largest}
 use Rattle.stream_report.specs.declared.Count.{Count}
-use Rattle.stream_report.specs.declared.WalkAnswer.TheVariants as walk
 
 -- ---- a step goes on, and stays inside
 pub record Further (s : List ℕ) (c : ItemIter) (i : Item) (d : ItemIter) : Type 0 where
@@ -165,8 +165,8 @@ module _ (s : List ℕ) (number : ℕ) (t₁ : List ℕ) (first : ItemIter) (k�
   going_next i d h leaf n el en r t' q l' e =
       record { sound = q.sound; from = λ x t₀ a b. onward-next s number first x t₀ t c k l (g.from x t₀ a b) i d h leaf n el en r t' q l' e }
 
-  pub going_done : next_of s c ≡ answered done → Known t → WalkCounts s number first k₁ l₁ t₁ (walk.Done (record { count = k; largest = l; cursor = c })) t
+  pub going_done : next_of s c ≡ answered done → Known t → WalkCounts s number first k₁ l₁ t₁ (Some (record { count = k; largest = l; cursor = c })) t
   going_done h kn = record { from = λ x t₀ a b. onward-done s number first x t₀ t c k l (g.from x t₀ a b) h g.sound.few kn }
 
-  pub going-refused : (n : ℕ) (d : List ℕ) → next_of s c ≡ refused n d → WalkCounts s number first k₁ l₁ t₁ walk.Refused t
+  pub going-refused : (n : ℕ) (d : List ℕ) → next_of s c ≡ refused n d → WalkCounts s number first k₁ l₁ t₁ None t
   going-refused n d h = record { from = λ x t₀ a b. onward-refused s number first x t₀ t c k l (g.from x t₀ a b) n d h }

@@ -1,5 +1,5 @@
 -- What the private functions of the count say of the lent table: which row a leaf has, and that the table holds the entries so far.
-use Rattle.std.specs.Prelude.{ℕ, ◌+◌, ◌*◌, ◌≤◌, ◌<◌, ◌≡◌, Bool, true, false, List, ◌⊎◌, length, get_or, set, drop, ltb}
+use Rattle.std.specs.Prelude.{Option, Some, None, ℕ, ◌+◌, ◌*◌, ◌≤◌, ◌<◌, ◌≡◌, Bool, true, false, List, ◌⊎◌, length, get_or, set, drop, ltb}
 use Rattle.answer.specs.Answer.{Answer, answered, refused, pick, stop}
 use Rattle.stream_item.specs.declared.iter.ItemIter.{ItemIter}
 use Rattle.stream_report.specs.Report.{Entry, Counting, tallied, room, passes, rows, count_run, most, at_most_64}
@@ -8,8 +8,6 @@ use Rattle.stream_header.specs.Header.{longest}
 use Rattle.stream_report.specs.declared.Totals.{Totals}
 use Rattle.stream_report.specs.declared.Count.{Count}
 use Rattle.stream_report.specs.declared.Walked.{Walked}
-use Rattle.stream_report.specs.declared.WalkAnswer.{WalkAnswer}
-use Rattle.stream_report.specs.declared.WalkAnswer.TheVariants as walk
 
 -- r is the first of n rows that has the leaf, or n
 pub record First (t : List ℕ) (n leaf r : ℕ) : Type 0 where
@@ -93,11 +91,11 @@ pub record RunRefuses (s : List ℕ) (number : ℕ) (c : ItemIter) (x : Counting
   pub is : count_run s number c x ≡ refused reason details
 
 -- of a walk that began with a report whose entries the table holds
-abbrev pub Told : List ℕ → ℕ → ItemIter → Counting → List ℕ → WalkAnswer → List ℕ → Type 0
-Told s number c x t₀ (walk.Done w) t' = Finished s number c x t₀ w t'
-Told s number c x t₀ walk.Refused t' = RunRefuses s number c x
+abbrev pub Told : List ℕ → ℕ → ItemIter → Counting → List ℕ → Option Walked → List ℕ → Type 0
+Told s number c x t₀ (Some w) t' = Finished s number c x t₀ w t'
+Told s number c x t₀ None t' = RunRefuses s number c x
 
-pub record WalkCounts (s : List ℕ) (number : ℕ) (c : ItemIter) (k : Count) (l : Largest) (t : List ℕ) (r : WalkAnswer) (t' : List ℕ) : Type 0 where
+pub record WalkCounts (s : List ℕ) (number : ℕ) (c : ItemIter) (k : Count) (l : Largest) (t : List ℕ) (r : Option Walked) (t' : List ℕ) : Type 0 where
   pub from : (x : Counting) (t₀ : List ℕ) → KeptTable t₀ t k x.report.entries x.full → x.report.largest ≡ l → Told s number c x t₀ r t'
 
 -- the totals after a stream with so many header bytes, records and payload bytes

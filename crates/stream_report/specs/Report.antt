@@ -2,17 +2,16 @@
 -- (numbered from 0, refused ones too) and index that have it, streams refused. [..] Streams refused at the header or midway add only to the refused
 -- count. Refusals: 27 a total would pass 64 bits, with the report as before that stream; 28 a leaf that the report's table of 64 distinct leaves has
 -- no room for, likewise; 27 precedes 28." The numbers here have no bound: they are added up first, and then 27 is asked.
-use Rattle.std.specs.Prelude.{ℕ, zero, suc, ◌+◌, ◌*◌, ◌≡◌, Bool, true, false, List, [], ◌∷◌, ◌++◌, length, get_or, drop, ltb, eqb}
+use Rattle.std.specs.Prelude.{Result, ℕ, zero, suc, ◌+◌, ◌*◌, ◌≡◌, Bool, true, false, List, [], ◌∷◌, ◌++◌, length, get_or, drop, ltb, eqb}
+use Rattle.answer.specs.declared.Refusal.{Refusal}
 use Rattle.answer.specs.Answer.{Answer, answered, refused, pick, stop, then}
-use Rattle.answer.specs.Refusals.{no}
+use Rattle.answer.specs.Refusals.{itself, said}
 use Rattle.field.specs.Fields.{little_at}
 use Rattle.field.specs.declared.index.Stream.TheVariants as stream
 use Rattle.stream_item.specs.Iterator.{iter_of, Next, done, yielded, next_of}
 use Rattle.stream_item.specs.declared.iter.ItemIter.{ItemIter}
 use Rattle.stream_report.specs.declared.Largest.{Largest}
 use Rattle.stream_report.specs.declared.Totals.{Totals}
-use Rattle.stream_report.specs.declared.ReportAnswer.{ReportAnswer}
-use Rattle.stream_report.specs.declared.ReportAnswer.TheVariants as report
 
 -- ---- what a report is
 
@@ -216,11 +215,7 @@ abbrev pub report_table_after : List ℕ → Answer Report → List ℕ
 report_table_after t (answered ρ) = flat ρ.entries ++ drop (3 * length ρ.entries) t
 report_table_after t (refused n d) = t
 
-abbrev pub said_report : ReportAnswer → Answer Totals
-said_report (report.Added τ) = answered τ
-said_report (report.Refused e) = no e
-
 -- the contract of a function that is lent the table t: a is the definition's answer, r the function's, t' the table after it
-pub record Reports (t : List ℕ) (a : Answer Report) (r : ReportAnswer) (t' : List ℕ) : Type 0 where
-  pub answer : said_report r ≡ totals_in a
+pub record Reports (t : List ℕ) (a : Answer Report) (r : Result Totals Refusal) (t' : List ℕ) : Type 0 where
+  pub answer : said itself r ≡ totals_in a
   pub table : t' ≡ report_table_after t a

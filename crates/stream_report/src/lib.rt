@@ -4,13 +4,14 @@
 
 ghost use Rattle.std.specs.Prelude.{◌≡◌, ◌+◌, ◌-◌, ◌*◌, ◌≤◌, ◌<◌, ltb, length};
 ghost use Rattle.field.specs.Fields.{little_at};
-ghost use Rattle.stream_report.specs.Report.{fresh, totals_of, larger, most, at_most_64, count_run, begun, concluded, report_in, add_of, said_report, Reports};
+ghost use Rattle.stream_report.specs.Report.{fresh, totals_of, larger, most, at_most_64, count_run, begun, concluded, report_in, add_of, Reports};
 ghost use Rattle.stream_report.specs.Held.{First, Foremost, Known, new_table, Grows, Sound, Counts, WalkCounts, Fits64, refused_of, settled_of};
+ghost use Rattle.answer.specs.Refusals.{itself, said};
 
 use answer::Refusal;
 use field::index::Stream;
 use stream_item::iter;
-use stream_item::iter::{ItemIter, IterAnswer, NextAnswer};
+use stream_item::iter::ItemIter;
 
 // The largest number of 64 bits.
 const MOST: u64 = 18446744073709551615;
@@ -35,12 +36,6 @@ pub struct Totals {
     pub rows: u64,
 }
 
-#[derive(Clone, Copy)]
-pub enum ReportAnswer {
-    Added(Totals),
-    Refused(Refusal),
-}
-
 // The count of a stream's records in the table: the row of the last record, the rows in use, whether a leaf had no room, and whether a sum passed
 // 64 bits.
 #[derive(Clone, Copy)]
@@ -57,12 +52,6 @@ struct Walked {
     count: Count,
     largest: Largest,
     cursor: ItemIter,
-}
-
-#[derive(Clone, Copy)]
-enum WalkAnswer {
-    Done(Walked),
-    Refused,
 }
 
 // A report of no stream.
@@ -85,6 +74,7 @@ pub fn new() -> Totals
 }
 
 // A record's leaf: the first two bytes of its payload.
+#[tactic(auto, unfolding(field::specs::Fields::little_at))]
 fn leaf_at(s: &[u8], p: usize) -> u64
     requires { p + 2 ≤ length s.now }
     ensures { (result ≡ little_at 2 s.now p) × (result < 65536) }
@@ -160,14 +150,14 @@ fn count_in(t: &mut [u64; 192], k: Count, leaf: u64, n: u64) -> Count
         if grow(t, row, n) {
             return Count {
                 last: row,
-                rows: rows,
+                rows,
                 full: k.full,
                 over: k.over,
             };
         }
         return Count {
             last: k.last,
-            rows: rows,
+            rows,
             full: k.full,
             over: true,
         };
@@ -183,7 +173,7 @@ fn count_in(t: &mut [u64; 192], k: Count, leaf: u64, n: u64) -> Count
     }
     Count {
         last: k.last,
-        rows: rows,
+        rows,
         full: true,
         over: k.over,
     }
@@ -197,7 +187,7 @@ fn larger_of(l: Largest, n: u64, number: u64, index: u32) -> Largest
         return Largest {
             length: n,
             stream: number,
-            index: index,
+            index,
         };
     }
     l
@@ -226,7 +216,7 @@ fn walk(
     t: &mut [u64; 192],
     begun: Count,
     largest: Largest,
-) -> WalkAnswer
+) -> Option<Walked>
     requires { Sound t.old begun }
     ensures { WalkCounts s.now number first begun largest t.old result t.new }
 {
@@ -235,25 +225,23 @@ fn walk(
     let mut best = largest;
     loop {
         match iter::next(s, c) {
-            NextAnswer::Yielded(item, behind) => {
-                let place = item.place;
+            Ok(Some((item, behind))) => {
                 let n = item.length as u64;
-                let index = c.index;
-                let leaf = leaf_at(s, place);
+                let leaf = leaf_at(s, item.place);
                 count = count_in(t, count, leaf, n);
-                best = larger_of(best, n, number, index);
+                best = larger_of(best, n, number, c.index);
                 c = behind;
             }
-            NextAnswer::Done => {
+            Ok(None) => {
                 known(t);
-                return WalkAnswer::Done(Walked {
-                    count: count,
+                return Some(Walked {
+                    count,
                     largest: best,
                     cursor: c,
                 });
             }
-            NextAnswer::Refused(_) => {
-                return WalkAnswer::Refused;
+            Err(_) => {
+                return None;
             }
         }
     }
@@ -270,23 +258,23 @@ fn rows_of(n: u64) -> usize
 }
 
 // A stream that is refused at its header or midway adds to the numbers taken and refused alone.
-fn refuse(totals: Totals) -> ReportAnswer
-    ensures { said_report result ≡ refused_of totals }
+fn refuse(totals: Totals) -> Result<Totals, Refusal>
+    ensures { said itself result ≡ refused_of totals }
 {
     let largest = totals.largest;
     if totals.taken >= MOST {
-        return ReportAnswer::Refused(Refusal::TotalTooLarge);
+        return Err(Refusal::TotalTooLarge);
     }
     if totals.refused >= MOST {
-        return ReportAnswer::Refused(Refusal::TotalTooLarge);
+        return Err(Refusal::TotalTooLarge);
     }
-    ReportAnswer::Added(Totals {
+    Ok(Totals {
         taken: totals.taken + 1,
         refused: totals.refused + 1,
         headers: totals.headers,
         records: totals.records,
         bytes: totals.bytes,
-        largest: largest,
+        largest,
         rows: rows_of(totals.rows) as u64,
     })
 }
@@ -295,10 +283,7 @@ fn refuse(totals: Totals) -> ReportAnswer
 fn over(a: u64, b: u64) -> bool
     ensures { result ≡ ltb most (a + b) }
 {
-    if a > MOST - b {
-        return true;
-    }
-    false
+    a > MOST - b
 }
 
 // How many records a walk made, and their payload bytes, by the cursors at its ends.
@@ -324,40 +309,45 @@ fn settle(
     bytes: u64,
     count: Count,
     largest: Largest,
-) -> ReportAnswer
-    ensures { said_report result ≡ settled_of totals headers records bytes count largest }
+) -> Result<Totals, Refusal>
+    ensures { said itself result ≡ settled_of totals headers records bytes count largest }
 {
     if count.over {
-        return ReportAnswer::Refused(Refusal::TotalTooLarge);
+        return Err(Refusal::TotalTooLarge);
     }
     if over(totals.taken, 1) {
-        return ReportAnswer::Refused(Refusal::TotalTooLarge);
+        return Err(Refusal::TotalTooLarge);
     }
     if over(totals.headers, headers) {
-        return ReportAnswer::Refused(Refusal::TotalTooLarge);
+        return Err(Refusal::TotalTooLarge);
     }
     if over(totals.records, records) {
-        return ReportAnswer::Refused(Refusal::TotalTooLarge);
+        return Err(Refusal::TotalTooLarge);
     }
     if over(totals.bytes, bytes) {
-        return ReportAnswer::Refused(Refusal::TotalTooLarge);
+        return Err(Refusal::TotalTooLarge);
     }
     if count.full {
-        return ReportAnswer::Refused(Refusal::LeavesFull);
+        return Err(Refusal::LeavesFull);
     }
-    ReportAnswer::Added(Totals {
+    Ok(Totals {
         taken: totals.taken + 1,
         refused: totals.refused,
         headers: totals.headers + headers,
         records: totals.records + records,
         bytes: totals.bytes + bytes,
-        largest: largest,
+        largest,
         rows: count.rows as u64,
     })
 }
 
 // A stream whose header is no refusal: it is counted in a copy of the table, which is stored if all is well.
-fn add_from(totals: Totals, table: &mut [u64; 192], s: &[u8], first: ItemIter) -> ReportAnswer
+fn add_from(
+    totals: Totals,
+    table: &mut [u64; 192],
+    s: &[u8],
+    first: ItemIter,
+) -> Result<Totals, Refusal>
     ensures { Reports table.old (concluded (report_in totals table.old) (count_run s.now totals.taken first (begun (report_in totals table.old) first.at))) result table.new }
 {
     known(table);
@@ -371,31 +361,27 @@ fn add_from(totals: Totals, table: &mut [u64; 192], s: &[u8], first: ItemIter) -
         over: false,
     };
     match walk(s, first, totals.taken, &mut copy, count, largest) {
-        WalkAnswer::Done(w) => {
+        Some(w) => {
             let last = w.cursor;
             let counted = w.count;
             let best = w.largest;
             let records = records_of(first, last);
             let bytes = bytes_of(first, last, records);
-            match settle(totals, first.at as u64, records, bytes, counted, best) {
-                ReportAnswer::Added(after) => {
-                    *table = copy;
-                    ReportAnswer::Added(after)
-                }
-                ReportAnswer::Refused(e) => ReportAnswer::Refused(e),
-            }
+            let after = settle(totals, first.at as u64, records, bytes, counted, best)?;
+            *table = copy;
+            Ok(after)
         }
-        WalkAnswer::Refused => refuse(totals),
+        None => refuse(totals),
     }
 }
 
 // A stream is added to a report: its totals after it, with the table; or 27, then 28, with the table as it was.
-pub fn add(totals: Totals, table: &mut [u64; 192], s: &[u8]) -> ReportAnswer
+pub fn add(totals: Totals, table: &mut [u64; 192], s: &[u8]) -> Result<Totals, Refusal>
     ensures { Reports table.old (add_of (report_in totals table.old) s.now) result table.new }
 {
     match iter::iter(Stream::Types, s) {
-        IterAnswer::Answered(c) => add_from(totals, table, s, c),
-        IterAnswer::Refused(_) => {
+        Ok(c) => add_from(totals, table, s, c),
+        Err(_) => {
             known(table);
             sized(totals);
             refuse(totals)

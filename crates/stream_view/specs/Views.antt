@@ -1,7 +1,8 @@
 -- Document 01, "Links and the iterator": an entry's view and its raw kind, over the TPI stream t and the IPI stream p.
-use Rattle.std.specs.Prelude.{ℕ, ◌+◌, List, [], ◌∷◌, length, take, drop, ltb}
+use Rattle.std.specs.Prelude.{Result, ℕ, ◌+◌, List, [], ◌∷◌, length, take, drop, ltb}
+use Rattle.answer.specs.declared.Refusal.{Refusal}
 use Rattle.answer.specs.Answer.{Answer, answered, refused, stop}
-use Rattle.answer.specs.Refusals.{no}
+use Rattle.answer.specs.Refusals.{said}
 use Rattle.field.specs.Fields.{little_at}
 use Rattle.field_text.specs.Texts.{Part}
 use Rattle.stream_header.specs.Header.{longest}
@@ -11,10 +12,6 @@ use Rattle.field.specs.declared.index.ItemIndex.{ItemIndex}
 use Rattle.field.specs.declared.index.ItemIndex.TheVariants as index
 use Rattle.stream_item.specs.declared.Entry.{Entry}
 use Rattle.stream_item.specs.declared.Entry.TheVariants as entry
-use Rattle.stream_view.specs.declared.ViewAnswer.{ViewAnswer}
-use Rattle.stream_view.specs.declared.ViewAnswer.TheVariants as view
-use Rattle.stream_view.specs.declared.RawKindAnswer.{RawKindAnswer}
-use Rattle.stream_view.specs.declared.RawKindAnswer.TheVariants as kind
 
 -- 1 if it passes the end
 unfoldable pub part_of : List ℕ → ℕ → ℕ → Answer Part
@@ -58,10 +55,8 @@ abbrev pub raw_kind_of : List ℕ → List ℕ → Entry → Answer ℕ
 raw_kind_of t p e = short_of t p (entry_kind t p e)
 
 -- what the answers say
-abbrev pub said_view : ViewAnswer → Answer Part
-said_view (view.Answered p n) = answered (record { place = p; length = n })
-said_view (view.Refused e) = no e
+abbrev pub viewed : ℕ × ℕ → Part
+viewed x = record { place = x.0; length = x.1 }
 
-abbrev pub said_raw_kind : RawKindAnswer → Answer ℕ
-said_raw_kind (kind.Answered k) = answered k
-said_raw_kind (kind.Refused e) = no e
+abbrev pub said_view : Result (ℕ × ℕ) Refusal → Answer Part
+said_view = said viewed

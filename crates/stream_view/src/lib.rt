@@ -2,90 +2,74 @@
 #![tactic(auto)]
 
 ghost use Rattle.std.specs.Prelude.{◌≡◌};
-ghost use Rattle.stream_view.specs.Views.{part_of, view_of, said_view, view_bytes, kind_at, raw_kind_of, said_raw_kind};
+ghost use Rattle.stream_view.specs.Views.{part_of, view_of, said_view, view_bytes, kind_at, raw_kind_of};
+ghost use Rattle.answer.specs.Refusals.{itself, said};
 
 use answer::Refusal;
 use field::fixed;
-use field::fixed::Read16;
 use field::index::ItemIndex;
 use stream_header::LONGEST;
 use stream_item::Entry;
-
-// The payload's place and length in the stream that the entry names.
-#[derive(Clone, Copy)]
-pub enum ViewAnswer {
-    Answered(usize, usize),
-    Refused(Refusal),
-}
 
 // A part of one of the two streams; or no bytes, and why.
 #[derive(Clone, Copy)]
 pub struct EntryView<'a> {
     pub bytes: &'a [u8],
-    pub answer: ViewAnswer,
-}
-
-#[derive(Clone, Copy)]
-pub enum RawKindAnswer {
-    Answered(u16),
-    Refused(Refusal),
+    pub answer: Result<(usize, usize), Refusal>,
 }
 
 // Whether the part of s at this place, of this length, is there.
 #[tactic(auto, unfolding(crate::specs::Views::part_of))]
-fn inside(s: &[u8], place: usize, length: usize) -> ViewAnswer
+fn inside(s: &[u8], place: usize, length: usize) -> Result<(usize, usize), Refusal>
     ensures { said_view result ≡ part_of s.now place length }
 {
     if place > s.len() {
-        return ViewAnswer::Refused(Refusal::Ended);
+        return Err(Refusal::Ended);
     }
     if length > s.len() - place {
-        return ViewAnswer::Refused(Refusal::Ended);
+        return Err(Refusal::Ended);
     }
-    ViewAnswer::Answered(place, length)
+    Ok((place, length))
 }
 
 // The leaf that the part starts with.
 #[tactic(auto, unfolding(crate::specs::Views::kind_at, field::specs::Fields::fixed_at))]
-fn kind_at(s: &[u8], place: usize, length: usize) -> RawKindAnswer
-    ensures { said_raw_kind result ≡ kind_at s.now place length }
+fn kind_at(s: &[u8], place: usize, length: usize) -> Result<u16, Refusal>
+    ensures { said itself result ≡ kind_at s.now place length }
 {
     if place > s.len() {
-        return RawKindAnswer::Refused(Refusal::Ended);
+        return Err(Refusal::Ended);
     }
     if length > s.len() - place {
-        return RawKindAnswer::Refused(Refusal::Ended);
+        return Err(Refusal::Ended);
     }
     if length < 2 {
-        return RawKindAnswer::Refused(Refusal::Ended);
+        return Err(Refusal::Ended);
     }
-    match fixed::u16_at(s, place) {
-        Read16::Got(kind, _) => RawKindAnswer::Answered(kind),
-        Read16::Ended => RawKindAnswer::Refused(Refusal::Ended),
-    }
+    let (kind, _) = fixed::u16_at(s, place)?;
+    Ok(kind)
 }
 
 // Where the payload of an entry lies: the answer of `view` alone.
-pub fn view_answer<'a>(tpi: &'a [u8], ipi: &'a [u8], entry: Entry) -> ViewAnswer
+pub fn view_answer<'a>(
+    tpi: &'a [u8],
+    ipi: &'a [u8],
+    entry: Entry,
+) -> Result<(usize, usize), Refusal>
     ensures { said_view result ≡ view_of tpi.now ipi.now entry }
 {
     if tpi.len() > LONGEST {
-        return ViewAnswer::Refused(Refusal::TooLong);
+        return Err(Refusal::TooLong);
     }
     if ipi.len() > LONGEST {
-        return ViewAnswer::Refused(Refusal::TooLong);
+        return Err(Refusal::TooLong);
     }
     match entry {
-        Entry::Record(item) => {
-            let place = item.place;
-            let length = item.length;
-            let index = item.index;
-            match index {
-                ItemIndex::Types(_) => inside(tpi, place, length),
-                ItemIndex::Ids(_) => inside(ipi, place, length),
-            }
-        }
-        Entry::Marker(index) => ViewAnswer::Refused(Refusal::NotFound(index.number())),
+        Entry::Record(item) => match item.index {
+            ItemIndex::Types(_) => inside(tpi, item.place, item.length),
+            ItemIndex::Ids(_) => inside(ipi, item.place, item.length),
+        },
+        Entry::Marker(index) => Err(Refusal::NotFound(index.number())),
     }
 }
 
@@ -101,15 +85,10 @@ pub fn bytes_of<'a>(tpi: &'a [u8], ipi: &'a [u8], entry: Entry) -> &'a [u8]
         return &tpi[0..0];
     }
     match entry {
-        Entry::Record(item) => {
-            let place = item.place;
-            let length = item.length;
-            let index = item.index;
-            match index {
-                ItemIndex::Types(_) => field::run::bytes_at(tpi, place, length),
-                ItemIndex::Ids(_) => field::run::bytes_at(ipi, place, length),
-            }
-        }
+        Entry::Record(item) => match item.index {
+            ItemIndex::Types(_) => field::run::bytes_at(tpi, item.place, item.length),
+            ItemIndex::Ids(_) => field::run::bytes_at(ipi, item.place, item.length),
+        },
         Entry::Marker(_) => &tpi[0..0],
     }
 }
@@ -124,25 +103,20 @@ pub fn view<'a>(tpi: &'a [u8], ipi: &'a [u8], entry: Entry) -> EntryView<'a>
 }
 
 // The leaf that an entry starts with: 0xffff, a reserved value, for the marker.
-pub fn raw_kind(tpi: &[u8], ipi: &[u8], entry: Entry) -> RawKindAnswer
-    ensures { said_raw_kind result ≡ raw_kind_of tpi.now ipi.now entry }
+pub fn raw_kind(tpi: &[u8], ipi: &[u8], entry: Entry) -> Result<u16, Refusal>
+    ensures { said itself result ≡ raw_kind_of tpi.now ipi.now entry }
 {
     if tpi.len() > LONGEST {
-        return RawKindAnswer::Refused(Refusal::TooLong);
+        return Err(Refusal::TooLong);
     }
     if ipi.len() > LONGEST {
-        return RawKindAnswer::Refused(Refusal::TooLong);
+        return Err(Refusal::TooLong);
     }
     match entry {
-        Entry::Record(item) => {
-            let place = item.place;
-            let length = item.length;
-            let index = item.index;
-            match index {
-                ItemIndex::Types(_) => kind_at(tpi, place, length),
-                ItemIndex::Ids(_) => kind_at(ipi, place, length),
-            }
-        }
-        Entry::Marker(_) => RawKindAnswer::Answered(0xffff),
+        Entry::Record(item) => match item.index {
+            ItemIndex::Types(_) => kind_at(tpi, item.place, item.length),
+            ItemIndex::Ids(_) => kind_at(ipi, item.place, item.length),
+        },
+        Entry::Marker(_) => Ok(0xffff),
     }
 }

@@ -1,7 +1,6 @@
 -- Document 01, "Attribute words": what a pointer word answers. To compare: a line of the two lists is an arm of data.rs's `pointer_kind` or
 -- `pointer_mode`, in its order; `(0x0c is Ptr64)` is `0x0c => PointerKind::Ptr64`.
-use Rattle.std.specs.Prelude.{ℕ, Bool, true, false, List, [], ◌∷◌, eqb}
-use Rattle.std.proofs.Math.Option.{Option, none, some}
+use Rattle.std.specs.Prelude.{Option, None, Some, ℕ, Bool, true, false, List, [], ◌∷◌, eqb}
 use Rattle.answer.specs.Answer.{Answer, answered, refused, pick, then}
 use Rattle.answer.specs.Tables.{Line, ◌is◌, find}
 use Rattle.word_attributes.specs.Bits.{bits}
@@ -38,8 +37,8 @@ pointer_modes =
 
 -- a good kind or mode is in its list; a bad one is 12, "pointer word"
 abbrev pub good_or_12 : {A : Type 0} → Option A → Answer A
-good_or_12 (some a) = answered a
-good_or_12 none = refused 12 []
+good_or_12 (Some a) = answered a
+good_or_12 None = refused 12 []
 
 unfoldable pub kind_of : ℕ → Answer PointerKind
 kind_of w = good_or_12 (find (bits 0 4 w) pointer_kinds)

@@ -8,7 +8,7 @@ ghost use Rattle.std.specs.Prelude.{◌≡◌, eqb};
 ghost use Rattle.word_attributes.specs.Bits.{bit, bits};
 ghost use Rattle.word_attributes.specs.Words.{method_property, introducing};
 ghost use Rattle.word_attributes.specs.Pointers.{kind_of, mode_of, to_member, is_reference, to_member_of, reference_of, pointer_kind_size, size_of};
-ghost use Rattle.word_attributes.specs.Said.{said_kind, said_mode, said_flag, said_pointer_size};
+ghost use Rattle.answer.specs.Refusals.{itself, said};
 
 use answer::Refusal;
 
@@ -409,34 +409,6 @@ impl PointerMode {
     }
 }
 
-// What `pointer_kind` answers.
-#[derive(Clone, Copy)]
-pub enum KindAnswer {
-    Answered(PointerKind),
-    Refused(Refusal),
-}
-
-// What `pointer_mode` answers.
-#[derive(Clone, Copy)]
-pub enum ModeAnswer {
-    Answered(PointerMode),
-    Refused(Refusal),
-}
-
-// What `pointer_to_member` and `is_reference` answer: they need the mode.
-#[derive(Clone, Copy)]
-pub enum FlagAnswer {
-    Answered(bool),
-    Refused(Refusal),
-}
-
-// What `size` answers.
-#[derive(Clone, Copy)]
-pub enum SizeAnswer {
-    Answered(u8),
-    Refused(Refusal),
-}
-
 // The word of a pointer record.
 #[derive(Clone, Copy)]
 pub struct PointerAttributes(pub u32);
@@ -471,51 +443,49 @@ impl PointerAttributes {
     pub const SIZE_COUNT: u32 = 64;
 
     // The kind of the pointer; 12 for 13 to 31.
-    pub fn pointer_kind(self) -> KindAnswer
-        ensures { said_kind result ≡ kind_of self.0 }
+    pub fn pointer_kind(self) -> Result<PointerKind, Refusal>
+        ensures { said itself result ≡ kind_of self.0 }
     {
         let kind = self.0 / Self::KIND_UNIT % Self::KIND_COUNT;
         match kind {
-            0x00 => KindAnswer::Answered(PointerKind::Near16),
-            0x01 => KindAnswer::Answered(PointerKind::Far16),
-            0x02 => KindAnswer::Answered(PointerKind::Huge16),
-            0x03 => KindAnswer::Answered(PointerKind::BaseSeg),
-            0x04 => KindAnswer::Answered(PointerKind::BaseVal),
-            0x05 => KindAnswer::Answered(PointerKind::BaseSegVal),
-            0x06 => KindAnswer::Answered(PointerKind::BaseAddr),
-            0x07 => KindAnswer::Answered(PointerKind::BaseSegAddr),
-            0x08 => KindAnswer::Answered(PointerKind::BaseType),
-            0x09 => KindAnswer::Answered(PointerKind::BaseSelf),
-            0x0a => KindAnswer::Answered(PointerKind::Near32),
-            0x0b => KindAnswer::Answered(PointerKind::Far32),
-            0x0c => KindAnswer::Answered(PointerKind::Ptr64),
-            _ => KindAnswer::Refused(Refusal::PointerWord),
+            0x00 => Ok(PointerKind::Near16),
+            0x01 => Ok(PointerKind::Far16),
+            0x02 => Ok(PointerKind::Huge16),
+            0x03 => Ok(PointerKind::BaseSeg),
+            0x04 => Ok(PointerKind::BaseVal),
+            0x05 => Ok(PointerKind::BaseSegVal),
+            0x06 => Ok(PointerKind::BaseAddr),
+            0x07 => Ok(PointerKind::BaseSegAddr),
+            0x08 => Ok(PointerKind::BaseType),
+            0x09 => Ok(PointerKind::BaseSelf),
+            0x0a => Ok(PointerKind::Near32),
+            0x0b => Ok(PointerKind::Far32),
+            0x0c => Ok(PointerKind::Ptr64),
+            _ => Err(Refusal::PointerWord),
         }
     }
 
     // The mode of the pointer; 12 for 5 to 7.
-    pub fn pointer_mode(self) -> ModeAnswer
-        ensures { said_mode result ≡ mode_of self.0 }
+    pub fn pointer_mode(self) -> Result<PointerMode, Refusal>
+        ensures { said itself result ≡ mode_of self.0 }
     {
         let mode = self.0 / Self::MODE_UNIT % Self::MODE_COUNT;
         match mode {
-            0x00 => ModeAnswer::Answered(PointerMode::Pointer),
-            0x01 => ModeAnswer::Answered(PointerMode::LValueReference),
-            0x02 => ModeAnswer::Answered(PointerMode::Member),
-            0x03 => ModeAnswer::Answered(PointerMode::MemberFunction),
-            0x04 => ModeAnswer::Answered(PointerMode::RValueReference),
-            _ => ModeAnswer::Refused(Refusal::PointerWord),
+            0x00 => Ok(PointerMode::Pointer),
+            0x01 => Ok(PointerMode::LValueReference),
+            0x02 => Ok(PointerMode::Member),
+            0x03 => Ok(PointerMode::MemberFunction),
+            0x04 => Ok(PointerMode::RValueReference),
+            _ => Err(Refusal::PointerWord),
         }
     }
 
     // Does it point to a member, data or function? 12 for a bad mode.
-    pub fn pointer_to_member(self) -> FlagAnswer
-        ensures { said_flag result ≡ to_member_of self.0 }
+    pub fn pointer_to_member(self) -> Result<bool, Refusal>
+        ensures { said itself result ≡ to_member_of self.0 }
     {
-        match self.pointer_mode() {
-            ModeAnswer::Answered(mode) => FlagAnswer::Answered(mode.is_member()),
-            ModeAnswer::Refused(e) => FlagAnswer::Refused(e),
-        }
+        let mode = self.pointer_mode()?;
+        Ok(mode.is_member())
     }
 
     // Is this a flat `0:32` pointer?
@@ -554,27 +524,23 @@ impl PointerAttributes {
     }
 
     // Is it a C++ reference, and no C pointer? 12 for a bad mode.
-    pub fn is_reference(self) -> FlagAnswer
-        ensures { said_flag result ≡ reference_of self.0 }
+    pub fn is_reference(self) -> Result<bool, Refusal>
+        ensures { said itself result ≡ reference_of self.0 }
     {
-        match self.pointer_mode() {
-            ModeAnswer::Answered(mode) => FlagAnswer::Answered(mode.is_reference()),
-            ModeAnswer::Refused(e) => FlagAnswer::Refused(e),
-        }
+        let mode = self.pointer_mode()?;
+        Ok(mode.is_reference())
     }
 
     // The size of the pointer in bytes. Only a zero in the word asks for the kind, so only then a bad kind is 12.
-    pub fn size(self) -> SizeAnswer
-        ensures { said_pointer_size result ≡ size_of self.0 }
+    pub fn size(self) -> Result<u8, Refusal>
+        ensures { said itself result ≡ size_of self.0 }
     {
         let size = self.0 / Self::SIZE_UNIT % Self::SIZE_COUNT;
         if size != 0 {
-            return SizeAnswer::Answered(size as u8);
+            return Ok(size as u8);
         }
-        match self.pointer_kind() {
-            KindAnswer::Answered(kind) => SizeAnswer::Answered(kind.size()),
-            KindAnswer::Refused(e) => SizeAnswer::Refused(e),
-        }
+        let kind = self.pointer_kind()?;
+        Ok(kind.size())
     }
 
     // Is this a MoCOM pointer (`^` or `%`)?

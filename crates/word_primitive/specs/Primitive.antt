@@ -1,13 +1,9 @@
 -- Document 01, "Indices and primitives": what the primitive reader answers for every index, and what its answer enums say.
-use Rattle.std.specs.Prelude.{ℕ, ◌/◌, ◌%◌, ◌^◌, [], ◌∷◌, leb}
-use Rattle.std.proofs.Math.Option.{Option, none, some}
+use Rattle.std.specs.Prelude.{Option, None, Some, ℕ, ◌/◌, ◌%◌, ◌^◌, [], ◌∷◌, leb}
 use Rattle.answer.specs.Answer.{Answer, answered, refused, pick}
 use Rattle.answer.specs.Tables.{find}
-use Rattle.answer.specs.Refusals.{no}
 use Rattle.word_primitive.specs.Kinds.{kinds, indirections}
 use Rattle.word_primitive.specs.declared.PrimitiveType.{PrimitiveType}
-use Rattle.word_primitive.specs.declared.PrimitiveAnswer.{PrimitiveAnswer}
-use Rattle.word_primitive.specs.declared.PrimitiveAnswer.TheVariants as primitive
 
 -- 8, "not found", with the index
 abbrev pub unknown : {A : Type 0} → ℕ → Answer A
@@ -15,8 +11,8 @@ unknown i = refused 8 (i ∷ [])
 
 -- go on from what a list has; what it has not is unknown
 abbrev pub known : {A B : Type 0} → ℕ → Option A → (A → Answer B) → Answer B
-known i none f = unknown i
-known i (some a) f = f a
+known i None f = unknown i
+known i (Some a) f = f a
 
 -- "A primitive is an index below 0x1000. Bits 8 to 11 are the indirection, .. else 8. The low byte is one of the 42 kinds, else 8.
 -- An index from 0x1000 up given to the primitive reader is 8."
@@ -26,7 +22,3 @@ primitive_of i =
     (known i (find (i / 2 ^ 8 % 2 ^ 4) indirections) (λ d.
     known i (find (i % 2 ^ 8) kinds) (λ k.
     answered (record { kind = k; indirection = d }))))
-
-abbrev pub said_primitive : PrimitiveAnswer → Answer PrimitiveType
-said_primitive (primitive.Answered p) = answered p
-said_primitive (primitive.Refused e) = no e

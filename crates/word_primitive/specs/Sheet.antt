@@ -1,7 +1,6 @@
 -- Document 02, R-8: "Hold the answers in a table of 4,096 numbers, one per primitive index, with its rule shown over the whole table at once."
 -- What number stands in the sheet for 01's answer, and what a number stands for.
-use Rattle.std.specs.Prelude.{ℕ, ◌+◌, ◌*◌, ◌/◌, ◌%◌, ◌^◌, ◌≡◌, eqb}
-use Rattle.std.proofs.Math.Option.{Option, none, some}
+use Rattle.std.specs.Prelude.{Option, None, Some, ℕ, ◌+◌, ◌*◌, ◌/◌, ◌%◌, ◌^◌, ◌≡◌, eqb}
 use Rattle.answer.specs.Answer.{Answer, answered, refused, pick}
 use Rattle.answer.specs.Tables.{find}
 use Rattle.word_primitive.specs.Kinds.{kinds, indirections}
@@ -23,8 +22,8 @@ sheet_at i = number_for i (primitive_of i)
 
 -- what a list has for a key, or else its first line
 abbrev pub or_else : {A : Type 0} → A → Option A → A
-or_else a none = a
-or_else a (some b) = b
+or_else a None = a
+or_else a (Some b) = b
 
 -- the kind that a low byte stands for, and the indirection that a high byte stands for; each asked only where the sheet does not refuse
 unfoldable pub kind_by : ℕ → PrimitiveKind

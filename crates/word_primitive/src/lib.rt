@@ -4,8 +4,9 @@
 #![tactic(auto)]
 
 ghost use Rattle.std.specs.Prelude.{◌≡◌};
-ghost use Rattle.word_primitive.specs.Primitive.{said_primitive, primitive_of};
+ghost use Rattle.word_primitive.specs.Primitive.{primitive_of};
 ghost use Rattle.word_primitive.specs.Sheet.{sheet_at, kind_by, indirection_by};
+ghost use Rattle.answer.specs.Refusals.{itself, said};
 
 use answer::Refusal;
 use field::index::TypeIndex;
@@ -127,13 +128,6 @@ pub enum Indirection {
 pub struct PrimitiveType {
     pub kind: PrimitiveKind,
     pub indirection: Indirection,
-}
-
-// What `primitive` answers.
-#[derive(Clone, Copy)]
-pub enum PrimitiveAnswer {
-    Answered(PrimitiveType),
-    Refused(Refusal),
 }
 
 // What stands in the sheet where 01 refuses.
@@ -282,21 +276,21 @@ fn indirection_by(high: u16) -> Indirection
 }
 
 // The primitive type that a type index names.
-pub fn primitive(index: TypeIndex) -> PrimitiveAnswer
-    ensures { said_primitive result ≡ primitive_of index.0 }
+pub fn primitive(index: TypeIndex) -> Result<PrimitiveType, Refusal>
+    ensures { said itself result ≡ primitive_of index.0 }
 {
     numbered(index.0)
 }
 
 // The same of the index's number.
-fn numbered(index: u32) -> PrimitiveAnswer
-    ensures { said_primitive result ≡ primitive_of index }
+fn numbered(index: u32) -> Result<PrimitiveType, Refusal>
+    ensures { said itself result ≡ primitive_of index }
 {
     let number = entry(index);
     if number == REFUSED {
-        return PrimitiveAnswer::Refused(Refusal::NotFound(index));
+        return Err(Refusal::NotFound(index));
     }
     let kind = kind_by(number % 256);
     let indirection = indirection_by(number / 256);
-    PrimitiveAnswer::Answered(PrimitiveType { kind, indirection })
+    Ok(PrimitiveType { kind, indirection })
 }

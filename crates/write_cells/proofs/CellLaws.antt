@@ -1,10 +1,10 @@
 -- What a cell's kind says of its value. Assumes nothing.
+use Rattle.std.specs.Prelude.{None, Some}
 use Prim.Native.Nat.{ℕ, ◌+◌, ◌<◌, ◌%◌, ◌/◌, ◌^◌}
 use native.Mathlib.Omega.{arith}
 use mathlib.Core.Bool.{Bool, true, false}
 use mathlib.Core.Path.{◌≡◌, refl}
 use mathlib.Core.List.{List}
-use mathlib.Core.Option.{none, some}
 use lib.IntN.{ℤ, pos, negsuc}
 use lib.ListN.{length}
 use lib.Dec.{eqb, leb, ltb}
@@ -188,7 +188,7 @@ pub run-bad : (t : List ℕ) (p n k : ℕ) → (n ≡ k → ⊥) → of_many (ma
 unfolding bytes_in
 run-bad t p n k h = go (leb (p + n) (length t)) refl
   where
-    go : (b : Bool) → leb (p + n) (length t) ≡ b → of_many (many (pick b (some (part_at t p n)) none)) (λ bs. only (eqb (length bs) k) bs) ≡ bad
+    go : (b : Bool) → leb (p + n) (length t) ≡ b → of_many (many (pick b (Some (part_at t p n)) None)) (λ bs. only (eqb (length bs) k) bs) ≡ bad
     go true f = rw (part_length t p n (leb-true _ _ f), ne_eqb n k h)
     go false f = refl
 

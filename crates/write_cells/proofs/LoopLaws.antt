@@ -74,9 +74,9 @@ measure-more (answered x) (answered y) n k e = let f : length x ≡ k = cc in ap
 measure-more (answered x) (refused m d) n k e = refl
 measure-more (refused m d) b n k e = let z : ◌≡◌ {A = ℕ} 0 1 = cc in absurd (omega arith)
 
-pub measure-stop : (a b : Encoded) (n : ℕ) → then a (λ bs. answered (length bs)) ≡ refused 17 [] → measure_of (and_also a b) n ≡ refused 17 []
-measure-stop (answered x) b n e = let z : ◌≡◌ {A = ℕ} 0 1 = cc in absurd (omega arith)
-measure-stop (refused m d) b n e = let f : m ≡ 17 = cc in let g : d ≡ [] = cc in rw (f, g)
+pub measure-stop : (a b : Encoded) (n k : ℕ) (d : List ℕ) → then a (λ bs. answered (length bs)) ≡ refused k d → measure_of (and_also a b) n ≡ refused k d
+measure-stop (answered x) b n k d e = let z : ◌≡◌ {A = ℕ} 0 1 = cc in absurd (omega arith)
+measure-stop (refused m c) b n k d e = cc
 
 pub measure-none : (b : Encoded) (n : ℕ) → b ≡ answered [] → measure_of b n ≡ answered (min (n + 0) 65536)
 measure-none b n e = rw e
@@ -191,9 +191,6 @@ module _ (t row : List ℕ) (i n w : ℕ) (long : length row ≡ 27) where
           → measure_of (left_at t row i n w) m ≡ measure_of (left_at t row (i + 1) (n / 32) v) (m + min (k + 0) 65536)
       size-next m k f = ap (λ (b : Encoded). measure_of b m) turn ∙ measure-more (piece_of t x) after m k f
 
-      pub size-stop : (m : ℕ) → then (piece_of t x) (λ bs. answered (length bs)) ≡ refused 17 [] → measure_of (left_at t row i n w) m ≡ refused 17 []
-      size-stop m f = ap (λ (b : Encoded). measure_of b m) turn ∙ measure-stop (piece_of t x) after m f
-
       module _ (fit : encodes (left_at t row i n w) ≡ true) where
         both-good : encodes (and_also (piece_of t x) after) ≡ true
         both-good = sym (ap encodes turn) ∙ fit
@@ -206,3 +203,9 @@ module _ (t row : List ℕ) (i n w : ℕ) (long : length row ≡ 27) where
 
         pub next-held : encoded_bytes (left_at t row i n w) ≡ raw t x ++ encoded_bytes (left_at t row (i + 1) (n / 32) v)
         next-held = ap encoded_bytes turn ∙ held_both (piece_of t x) after both-good ∙ ap (λ (l : List ℕ). l ++ encoded_bytes after) (piece-held t x (good-first (piece_of t x) after both-good))
+
+    -- the next field is refused
+    pub size-stop : 0 < n → 0 < get_or row (3 * i) 0 → (x : Piece)
+        → piece_of t x ≡ write_field (field_of (n % 32)) w (cell_in t (get_or row (3 * i) 0) (get_or row (3 * i + 1) 0) (get_or row (3 * i + 2) 0))
+        → (m k : ℕ) (d : List ℕ) → refused k d ≡ then (piece_of t x) (λ bs. answered (length bs)) → refused k d ≡ measure_of (left_at t row i n w) m
+    size-stop g a x e m k d f = sym (ap (λ (b : Encoded). measure_of b m) (turn g a x e _ refl) ∙ measure-stop (piece_of t x) _ m k d (sym f))

@@ -21,16 +21,16 @@ use Rattle.write_cells.specs.Cells.{left_bytes, cell_bytes}
 use Rattle.write_cells.proofs.LoopLaws.{measure_of, good-is}
 
 -- what measuring has shown
-pub measured-bad : (b : Encoded) → measure_of b 2 ≡ refused 17 [] → b ≡ bad
-measured-bad (answered bs) e = let z : ◌≡◌ {A = ℕ} 0 1 = cc in absurd (omega arith)
-measured-bad (refused n d) e = let f : n ≡ 17 = cc in let g : d ≡ [] = cc in rw (f, g)
+pub measured-bad : (b : Encoded) (n : ℕ) (d : List ℕ) → refused n d ≡ measure_of b 2 → b ≡ refused n d
+measured-bad (answered bs) n d e = let z : ◌≡◌ {A = ℕ} 0 1 = cc in absurd (omega arith)
+measured-bad (refused m c) n d e = cc
 
 -- good, and n is the length of the fields and of the leaf, held at 65,536
 pub record Sized (b : Encoded) (n : ℕ) : Type 0 where
   pub fine : encodes b ≡ true
   pub count : n ≡ min (2 + length (encoded_bytes b)) 65536
 
-pub measured-size : (b : Encoded) (n : ℕ) → measure_of b 2 ≡ answered n → Sized b n
+pub measured-size : (b : Encoded) (n : ℕ) → answered n ≡ measure_of b 2 → Sized b n
 measured-size (answered bs) n e = record { fine = refl; count = cc }
 measured-size (refused m d) n e = let z : ◌≡◌ {A = ℕ} 0 1 = cc in absurd (omega arith)
 
@@ -54,8 +54,8 @@ module _ (leaf layout : ℕ) (t row : List ℕ) (small-leaf : leaf < 65536) (the
   unfolding fixed_bytes
   with-leaf = rw (lt-ltb leaf 65536 small-leaf)
 
-  pub bad-fields : left_bytes 9 layout 0 t row ≡ bad → cell_bytes (layout_in layout) leaf t row ≡ bad
-  bad-fields e = by-fields ∙ with-leaf ∙ rw e
+  pub bad-fields : (n : ℕ) (d : List ℕ) → left_bytes 9 layout 0 t row ≡ refused n d → cell_bytes (layout_in layout) leaf t row ≡ refused n d
+  bad-fields n d e = by-fields ∙ with-leaf ∙ rw e
 
   module _ (s : List ℕ) (p n pad : ℕ) (z : Sized (left_bytes 9 layout 0 t row) n) (e : pad ≡ missing (n + 2)) where
     abbrev all : List ℕ

@@ -1,6 +1,5 @@
 -- A cell of a row as a value to write.
-use Rattle.std.specs.Prelude.{ℕ, List, ◌∷◌}
-use Rattle.std.proofs.Math.Option.{Option}
+use Rattle.std.specs.Prelude.{Option, ℕ, List, ◌∷◌}
 use Rattle.record_layout.specs.Fields.{Shown, number}
 use Rattle.record_layout.specs.Layouts.{Layout}
 use Rattle.write_layout.specs.Fields.{ToWrite, given, given_all, Encoded, fixed_bytes, and_also, write_fields}

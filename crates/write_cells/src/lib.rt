@@ -15,13 +15,14 @@ ghost use Rattle.write_layout.specs.Fields.{fixed_bytes, numeric_bytes, optional
 ghost use Rattle.write_layout.specs.Records.{record_bytes, write_record};
 ghost use Rattle.write_layout.specs.Types.{written_leaves};
 ghost use Rattle.write_layout.specs.Buffer.{lay, Writes};
-ghost use Rattle.write_pieces.specs.Pieces.{piece_of, said_measure, said_write};
+ghost use Rattle.write_pieces.specs.Pieces.{piece_of};
 ghost use Rattle.record_cells.specs.Codes.{field_of, layout_in};
 ghost use Rattle.write_cells.specs.Cells.{cell_in, left_bytes, cell_bytes, cell_values};
+ghost use Rattle.answer.specs.Refusals.{itself, said};
 
 use answer::Refusal;
-use word_attributes::{FlagAnswer, KindAnswer, ModeAnswer, PointerAttributes};
-use write_pieces::{Measure, Piece, WriteAnswer};
+use word_attributes::PointerAttributes;
+use write_pieces::Piece;
 
 // Numbers, which may be too large for their field.
 
@@ -110,10 +111,7 @@ fn optional_type(kind: u64, value: u64) -> Piece
     if kind != 2 {
         return Piece::Bad;
     }
-    if value == 0 {
-        return Piece::Bad;
-    }
-    if value == 0xffff {
+    if value == 0 || value == 0xffff {
         return Piece::Bad;
     }
     narrow32(value)
@@ -142,10 +140,10 @@ fn pointer_word(kind: u64, value: u64) -> Piece
         return Piece::Bad;
     }
     let low = (value % 0x1_0000_0000) as u32;
-    let KindAnswer::Answered(_) = PointerAttributes(low).pointer_kind() else {
+    let Ok(_) = PointerAttributes(low).pointer_kind() else {
         return Piece::Bad;
     };
-    let ModeAnswer::Answered(_) = PointerAttributes(low).pointer_mode() else {
+    let Ok(_) = PointerAttributes(low).pointer_mode() else {
         return Piece::Bad;
     };
     narrow32(value)
@@ -174,31 +172,20 @@ fn no_piece(kind: u64) -> Piece
 fn size_piece(kind: u64, value: u64) -> Piece
     ensures { (t : List ℕ) (more w : ℕ) → piece_of t result ≡ write_field size w (cell_in t kind value more) }
 {
-    if kind == 3 {
-        return write_pieces::fields::natural(value);
+    match kind {
+        3 | 4 => write_pieces::fields::natural(value),
+        _ => Piece::Bad,
     }
-    if kind == 4 {
-        return write_pieces::fields::natural(value);
-    }
-    Piece::Bad
 }
 
 fn numeric_piece(kind: u64, value: u64) -> Piece
     ensures { (t : List ℕ) (more w : ℕ) → piece_of t result ≡ write_field numeric w (cell_in t kind value more) }
 {
-    if kind == 3 {
-        return write_pieces::fields::natural(value);
+    match kind {
+        3 | 4 => write_pieces::fields::natural(value),
+        5 | 6 => negative(value),
+        _ => Piece::Bad,
     }
-    if kind == 4 {
-        return write_pieces::fields::natural(value);
-    }
-    if kind == 5 {
-        return negative(value);
-    }
-    if kind == 6 {
-        return negative(value);
-    }
-    Piece::Bad
 }
 
 fn text_piece(kind: u64, place: u64, length: u64) -> Piece
@@ -254,7 +241,7 @@ fn class_piece(kind: u64, value: u64, w: u64) -> Piece
     ensures { (t : List ℕ) (more : ℕ) → piece_of t result ≡ write_field member_class w (cell_in t kind value more) }
 {
     let low = (w % 0x1_0000_0000) as u32;
-    let FlagAnswer::Answered(to_member) = PointerAttributes(low).pointer_to_member() else {
+    let Ok(to_member) = PointerAttributes(low).pointer_to_member() else {
         return no_piece(kind);
     };
     if to_member {
@@ -267,13 +254,10 @@ fn offset_piece(kind: u64, value: u64, w: u64) -> Piece
     ensures { (t : List ℕ) (more : ℕ) → piece_of t result ≡ write_field offset w (cell_in t kind value more) }
 {
     let property = w / 4 % 8;
-    if property == 4 {
-        return number32(kind, value);
+    match property {
+        4 | 6 => number32(kind, value),
+        _ => no_piece(kind),
     }
-    if property == 6 {
-        return number32(kind, value);
-    }
-    no_piece(kind)
 }
 
 // The piece of the field of this code, where w is the word.
@@ -417,9 +401,9 @@ fn word_after(code: u64, kind: u64, value: u64, w: u64) -> u64
 }
 
 // How many bytes the leaf and the fields of this layout take, from the cells of the row, one for each, held at 65,536; 17 where they would not read back.
-fn measure_fields(text: &[u8], layout: u64, row: &[u64; 27]) -> Measure
+fn measure_fields(text: &[u8], layout: u64, row: &[u64; 27]) -> Result<usize, Refusal>
     requires { length row.now ≡ 27 }
-    ensures { said_measure result ≡ then (left_bytes 9 layout 0 text.now row.now) (λ bs. answered (min (2 + length bs) 65536)) }
+    ensures { said itself result ≡ then (left_bytes 9 layout 0 text.now row.now) (λ bs. answered (min (2 + length bs) 65536)) }
 {
     let mut n: usize = 2;
     let mut i: usize = 0;
@@ -427,33 +411,31 @@ fn measure_fields(text: &[u8], layout: u64, row: &[u64; 27]) -> Measure
     let mut word: u64 = 0;
     while 0 < rest {
         if i == 9 {
-            return Measure::Size(write_pieces::capped_sum(n, 0));
+            return Ok(write_pieces::capped_sum(n, 0));
         }
         let k = 3 * i;
         let kind = row[k];
         if kind == 0 {
-            return Measure::Bad;
+            return Err(Refusal::WouldNotReadBack);
         }
         let value = row[k + 1];
         let more = row[k + 2];
         let code = rest % 32;
         let x = field_piece(code, kind, value, more, word);
-        let Measure::Size(size) = put::size_of(text, x) else {
-            return Measure::Bad;
-        };
+        let size = put::size_of(text, x)?;
         n += write_pieces::capped_sum(size, 0);
         word = word_after(code, kind, value, word);
         rest /= 32;
         i += 1;
     }
     if i == 9 {
-        return Measure::Size(write_pieces::capped_sum(n, 0));
+        return Ok(write_pieces::capped_sum(n, 0));
     }
     let k = 3 * i;
     if row[k] != 0 {
-        return Measure::Bad;
+        return Err(Refusal::WouldNotReadBack);
     }
-    Measure::Size(write_pieces::capped_sum(n, 0))
+    Ok(write_pieces::capped_sum(n, 0))
 }
 
 // The fields of this layout, where they are good and there is room for them; the place after them.
@@ -511,49 +493,55 @@ fn write_by(
     row: &[u64; 27],
     out: &mut [u8],
     at: usize,
-) -> WriteAnswer
+) -> Result<usize, Refusal>
     requires { length row.now ≡ 27 }
-    ensures { Writes out.old (lay (record_bytes (cell_bytes (layout_in layout) leaf text.now row.now)) out.old at) (said_write result) out.new }
+    ensures { Writes out.old (lay (record_bytes (cell_bytes (layout_in layout) leaf text.now row.now)) out.old at) (said itself result) out.new }
 {
     if layout == 0 {
-        return WriteAnswer::Refused(Refusal::WouldNotReadBack);
+        return Err(Refusal::WouldNotReadBack);
     }
-    let Measure::Size(n) = measure_fields(text, layout, row) else {
-        return WriteAnswer::Refused(Refusal::WouldNotReadBack);
-    };
+    let n = measure_fields(text, layout, row)?;
     let pad = put::pad_count(n + 2);
     let length = n + (pad as usize);
     if 65535 < length {
-        return WriteAnswer::Refused(Refusal::RecordTooLong);
+        return Err(Refusal::RecordTooLong);
     }
     if out.len() < at {
-        return WriteAnswer::Refused(Refusal::NoRoom);
+        return Err(Refusal::NoRoom);
     }
     if out.len() - at < length + 2 {
-        return WriteAnswer::Refused(Refusal::NoRoom);
+        return Err(Refusal::NoRoom);
     }
-    let e = put_record(text, leaf, layout, row, out, at, length as u16, pad);
-    WriteAnswer::Written(e)
+    Ok(put_record(text, leaf, layout, row, out, at, length as u16, pad))
 }
 
 // A record of the type stream, and of the id stream, from its leaf and its row, at a place of a lent buffer. Its strings are parts of the text. A field list and
 // a method list have elements, and are written with them by crates/write_list: here they are 17.
 
-pub fn write_type(text: &[u8], leaf: u16, row: [u64; 27], out: &mut [u8], at: usize) -> WriteAnswer
-    ensures { Writes out.old (lay (write_record written_leaves (given_all text.now (cell_values leaf row))) out.old at) (said_write result) out.new }
+pub fn write_type(
+    text: &[u8],
+    leaf: u16,
+    row: [u64; 27],
+    out: &mut [u8],
+    at: usize,
+) -> Result<usize, Refusal>
+    ensures { Writes out.old (lay (write_record written_leaves (given_all text.now (cell_values leaf row))) out.old at) (said itself result) out.new }
 {
-    if leaf == 0x1203 {
-        return WriteAnswer::Refused(Refusal::WouldNotReadBack);
-    }
-    if leaf == 0x1206 {
-        return WriteAnswer::Refused(Refusal::WouldNotReadBack);
+    if leaf == 0x1203 || leaf == 0x1206 {
+        return Err(Refusal::WouldNotReadBack);
     }
     let layout = record_cells::layout::type_layout(leaf);
     write_by(text, leaf, layout, &row, out, at)
 }
 
-pub fn write_id(text: &[u8], leaf: u16, row: [u64; 27], out: &mut [u8], at: usize) -> WriteAnswer
-    ensures { Writes out.old (lay (write_record id_leaves (given_all text.now (cell_values leaf row))) out.old at) (said_write result) out.new }
+pub fn write_id(
+    text: &[u8],
+    leaf: u16,
+    row: [u64; 27],
+    out: &mut [u8],
+    at: usize,
+) -> Result<usize, Refusal>
+    ensures { Writes out.old (lay (write_record id_leaves (given_all text.now (cell_values leaf row))) out.old at) (said itself result) out.new }
 {
     let layout = record_cells::layout::id_layout(leaf);
     write_by(text, leaf, layout, &row, out, at)

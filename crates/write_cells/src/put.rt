@@ -6,10 +6,11 @@ ghost use Rattle.field.specs.Bytes.{bytes};
 ghost use Rattle.field_put.specs.Bytes.{Puts, Room};
 ghost use Rattle.write_layout.specs.Runs.{part_at, no_zero, pads, zeros};
 ghost use Rattle.write_layout.specs.Records.{missing};
-ghost use Rattle.write_pieces.specs.Pieces.{raw, fine, piece_of, said_measure};
+ghost use Rattle.write_pieces.specs.Pieces.{raw, fine, piece_of};
+ghost use Rattle.answer.specs.Refusals.{itself, said};
 
-use field_text::ReadString;
-use write_pieces::{Measure, Piece};
+use answer::Refusal;
+use write_pieces::Piece;
 
 fn put8(out: &mut [u8], p: usize, x: u8) -> usize
     requires { Room out.old p (bytes 1 x) }
@@ -81,16 +82,9 @@ fn put_part(text: &[u8], q: usize, n: usize, out: &mut [u8], p: usize) -> usize
     requires { (q + n ≤ length text.now) × (Room out.old p (part_at text.now q n)) }
     ensures { Puts out.old p (part_at text.now q n) result out.new }
 {
-    let mut from = q;
-    let mut to = p;
-    let mut left = n;
-    while 0 < left {
-        out[to] = text[from];
-        from += 1;
-        to += 1;
-        left -= 1;
-    }
-    to
+    let end = p + n;
+    out[p..end].copy_from_slice(&text[q..q + n]);
+    end
 }
 
 // The same, and a zero byte.
@@ -106,28 +100,18 @@ fn put_zeros(out: &mut [u8], p: usize, n: u16) -> usize
     requires { Room out.old p (zeros n) }
     ensures { Puts out.old p (zeros n) result out.new }
 {
-    let mut to = p;
-    let mut left = n;
-    while 0 < left {
-        out[to] = 0;
-        to += 1;
-        left -= 1;
-    }
-    to
+    let end = p + n as usize;
+    out[p..end].fill(0);
+    end
 }
 
 pub fn put_pads(out: &mut [u8], p: usize, n: u8) -> usize
     requires { (n ≤ 3) × (Room out.old p (pads n)) }
     ensures { Puts out.old p (pads n) result out.new }
 {
-    let mut to = p;
-    let mut left = n;
-    while 0 < left {
-        out[to] = 240 + left;
-        to += 1;
-        left -= 1;
-    }
-    to
+    let end = p + n as usize;
+    out[p..end].copy_from_slice(&[0xf3, 0xf2, 0xf1][3 - n as usize..]);
+    end
 }
 
 // Whether none of these n bytes is zero.
@@ -135,49 +119,39 @@ fn no_zero(text: &[u8], q: usize, n: usize) -> bool
     requires { q + n ≤ length text.now }
     ensures { result ≡ no_zero (part_at text.now q n) }
 {
-    let end = q + n;
-    match field_text::string_at(&text[q..end], 0) {
-        ReadString::Got(_, _) => false,
-        ReadString::Ended => true,
+    match field_text::string_at(&text[q..q + n], 0) {
+        Ok(_) => false,
+        Err(_) => true,
     }
 }
 
 // How many bytes a piece takes.
-pub fn size_of(text: &[u8], x: Piece) -> Measure
-    ensures { said_measure result ≡ then (piece_of text.now x) (λ bs. answered (length bs)) }
+pub fn size_of(text: &[u8], x: Piece) -> Result<usize, Refusal>
+    ensures { said itself result ≡ then (piece_of text.now x) (λ bs. answered (length bs)) }
 {
     match x {
-        Piece::Nothing => Measure::Size(0),
-        Piece::Bad => Measure::Bad,
-        Piece::Byte(_) => Measure::Size(1),
-        Piece::Half(_) => Measure::Size(2),
-        Piece::Word(_) => Measure::Size(4),
-        Piece::Wide8(_, _) => Measure::Size(3),
-        Piece::Wide16(_, _) => Measure::Size(4),
-        Piece::Wide32(_, _) => Measure::Size(6),
-        Piece::Wide64(_, _) => Measure::Size(10),
+        Piece::Nothing => Ok(0),
+        Piece::Bad => Err(Refusal::WouldNotReadBack),
+        Piece::Byte(_) => Ok(1),
+        Piece::Half(_) => Ok(2),
+        Piece::Word(_) => Ok(4),
+        Piece::Wide8(_, _) => Ok(3),
+        Piece::Wide16(_, _) => Ok(4),
+        Piece::Wide32(_, _) => Ok(6),
+        Piece::Wide64(_, _) => Ok(10),
         Piece::Text(p, n) => {
-            if text.len() < p {
-                return Measure::Bad;
+            if text.len() < p || text.len() - p < n || !no_zero(text, p, n) {
+                return Err(Refusal::WouldNotReadBack);
             }
-            if text.len() - p < n {
-                return Measure::Bad;
-            }
-            if no_zero(text, p, n) {
-                return Measure::Size(n + 1);
-            }
-            Measure::Bad
+            Ok(n + 1)
         }
         Piece::Run(p, n) => {
-            if text.len() < p {
-                return Measure::Bad;
+            if text.len() < p || text.len() - p < n {
+                return Err(Refusal::WouldNotReadBack);
             }
-            if text.len() - p < n {
-                return Measure::Bad;
-            }
-            Measure::Size(n)
+            Ok(n)
         }
-        Piece::Zeros(n) => Measure::Size(n as usize),
+        Piece::Zeros(n) => Ok(n as usize),
     }
 }
 

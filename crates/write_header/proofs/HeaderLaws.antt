@@ -2,7 +2,7 @@
 use Prim.Native.Nat.{ℕ, ◌-◌, ◌≤◌, ◌<◌}
 use native.Mathlib.Omega.{arith}
 use mathlib.Core.Path.{◌≡◌, refl}
-use mathlib.Core.List.{List, []}
+use mathlib.Core.List.{List, [], ◌∷◌, append-nil}
 use lib.ListN.{length}
 use borrow.Author.Tests.{lt-ltb, le-ltb}
 use Rattle.answer.specs.Answer.{answered, refused}
@@ -11,12 +11,23 @@ use Rattle.stream_header.specs.declared.Header.{Header}
 use Rattle.write_layout.specs.Records.{limited}
 use Rattle.write_layout.specs.Buffer.{lay, Writes}
 use Rattle.write_layout.proofs.RunLaws.{length-zeros}
-use Rattle.write_header.specs.Headers.{header_fields, header_bytes}
+use Rattle.write_pieces.specs.declared.Piece.TheVariants as piece
+use Rattle.write_pieces.specs.Pieces.{pieces_of, piece_of, fine, raw}
+use Rattle.write_header.specs.Headers.{offset_bits, header_fields, header_bytes}
 
 -- header_size bytes
 pub header-length : (h : Header) → 56 ≤ h.header_size → length (header_fields h) ≡ h.header_size
 unfolding header_fields bytes
 header-length h k = omega (arith, length-zeros (h.header_size - 56))
+
+-- its pieces, where a, b and d are the bits of the three offsets
+pub fields-are : (t : List ℕ) (h : Header) (a b d : ℕ) → a ≡ offset_bits h.hash_values.offset → b ≡ offset_bits h.ti_off.offset → d ≡ offset_bits h.hash_adj.offset
+    → pieces_of t (
+    piece.Word h.version ∷ piece.Word h.header_size ∷ piece.Word h.minimum_index ∷ piece.Word h.maximum_index ∷ piece.Word h.gprec_size ∷ piece.Half h.tpi_hash_stream
+    ∷ piece.Half h.tpi_hash_pad_stream ∷ piece.Word h.hash_key_size ∷ piece.Word h.hash_bucket_size ∷ piece.Word a ∷ piece.Word h.hash_values.size ∷ piece.Word b
+    ∷ piece.Word h.ti_off.size ∷ piece.Word d ∷ piece.Word h.hash_adj.size ∷ piece.Zeros (h.header_size - 56) ∷ []) ≡ answered (header_fields h)
+unfolding pieces_of piece_of fine raw header_fields
+fields-are t h a b d e f g = rw (e, f, g, append-nil)
 
 module _ (h : Header) (s : List ℕ) (p : ℕ) where
   pub small : h.header_size < 56 → Writes s (lay (header_bytes h) s p) (refused 2 []) s

@@ -1,11 +1,11 @@
 -- What is written by a layout reads back by it: `back`, for every layout at once, whatever is said of a number's form. Assumes nothing.
+use Rattle.std.specs.Prelude.{None, Some}
 use Prim.Native.Nat.{ℕ, zero, suc, ◌+◌, ◌-◌, ◌^◌}
 use native.Mathlib.Omega.{arith}
 use native.Mathlib.Nat.{zero-add}
 use mathlib.Core.Bool.{Bool, true, false}
 use mathlib.Core.Path.{◌≡◌, refl, ap, sym, ◌∙◌}
 use mathlib.Core.List.{List, [], ◌∷◌, ◌++◌, append_assoc}
-use mathlib.Core.Option.{none, some}
 use lib.ListN.{length, drop, length-append}
 use lib.Seq.{take-append_seam}
 use lib.Dec.{ltb, eqb}
@@ -59,14 +59,14 @@ written_both (answered x) (refused n d) bs h = refusal h
 written_both (refused n d) b bs h = refusal h
 
 -- a string
-zero-back : (bs ys : List ℕ) (n : ℕ) → no_zero bs ≡ true → to_zero (bs ++ 0 ∷ ys) n ≡ some (n + length bs)
+zero-back : (bs ys : List ℕ) (n : ℕ) → no_zero bs ≡ true → to_zero (bs ++ 0 ∷ ys) n ≡ Some (n + length bs)
 unfolding to_zero no_zero
-zero-back [] ys n h = ap some (omega arith)
+zero-back [] ys n h = ap Some (omega arith)
 zero-back (zero ∷ bs) ys n h = never h
-zero-back (suc b ∷ bs) ys n h = zero-back bs ys (suc n) h ∙ ap some (omega arith)
+zero-back (suc b ∷ bs) ys n h = zero-back bs ys (suc n) h ∙ ap Some (omega arith)
 
 -- a part that stands in s shows its bytes
-part-back : (s : List ℕ) (p : ℕ) (xs ys : List ℕ) → Stands s p xs ys → bytes_in s (record { place = p; length = length xs }) ≡ some xs
+part-back : (s : List ℕ) (p : ℕ) (xs ys : List ℕ) → Stands s p xs ys → bytes_in s (record { place = p; length = length xs }) ≡ Some xs
 unfolding bytes_in part_at
 part-back s p xs ys st = rw (le-leb _ _ (room s p xs ys st.inside st.here), st.here, take-append_seam xs ys)
 
@@ -114,7 +114,7 @@ module _ {W : Type 0} (form : ℤ → ℕ → W) (s : List ℕ) (p : ℕ) (bs ys
   back-optional nones z (number n) w = go (among n nones) refl w
     where
       go : (b : Bool) → among n nones ≡ b → pick b bad (fixed_bytes 4 n) ≡ answered bs
-          → Back form s p bs (and_then (and_then (fixed_at 4 s p) (λ m q. got (pick (among m nones) none (some m)) q)) (λ o q. got (or_absent o) q)) (number n)
+          → Back form s p bs (and_then (and_then (fixed_at 4 s p) (λ m q. got (pick (among m nones) None (Some m)) q)) (λ o q. got (or_absent o) q)) (number n)
       go true e f = refusal f
       go false e f = record { value = number n; read = rw (fixed-here 4 n f, e); shows = refl; form_is = tt }
   back-optional nones z (numeral x u) w = refusal w
@@ -175,12 +175,12 @@ module _ {W : Type 0} (form : ℤ → ℕ → W) (s : List ℕ) (p : ℕ) (bs ys
   back-string (number n) w = refusal w
   back-string (numeral z u) w = refusal w
   back-string absent w = refusal w
-  back-string (many none) w = refusal w
-  back-string (many (some xs)) w =
+  back-string (many None) w = refusal w
+  back-string (many (Some xs)) w =
       let a = passed (no_zero xs) (xs ++ (0 ∷ [])) bs w in
       let st' : Stands s p (xs ++ (0 ∷ [])) ys = rw a.bytes_are st in
       let e : drop p s ≡ xs ++ 0 ∷ ys = st'.here ∙ append_assoc xs (0 ∷ []) ys in
-      let z : to_zero (drop p s) 0 ≡ some (length xs) = rw e (zero-back xs ys 0 a.test_is ∙ ap some (zero-add (length xs))) in
+      let z : to_zero (drop p s) 0 ≡ Some (length xs) = rw e (zero-back xs ys 0 a.test_is ∙ ap Some (zero-add (length xs))) in
       let l : p + length xs + 1 ≡ p + length bs = omega (arith, length-append xs (0 ∷ []), ap length a.bytes_are) in
       record {
         value = many (record { place = p; length = length xs });
@@ -195,8 +195,8 @@ module _ {W : Type 0} (form : ℤ → ℕ → W) (s : List ℕ) (p : ℕ) (bs ys
   back-run n (number m) w = refusal w
   back-run n (numeral z u) w = refusal w
   back-run n absent w = refusal w
-  back-run n (many none) w = refusal w
-  back-run n (many (some xs)) w =
+  back-run n (many None) w = refusal w
+  back-run n (many (Some xs)) w =
       let a = passed (eqb (length xs) n) xs bs w in
       let st' : Stands s p xs ys = rw a.bytes_are st in
       let l : length xs ≡ n = eqb-true _ _ a.test_is in

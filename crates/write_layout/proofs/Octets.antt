@@ -1,10 +1,10 @@
 -- What is written is bytes, or 17 and nothing else, where the strings and runs given are bytes. Assumes nothing.
+use Rattle.std.specs.Prelude.{Option, None, Some}
 use Prim.Native.Nat.{ℕ, zero, suc, ◌-◌, ◌^◌}
 use native.Mathlib.Omega.{arith}
 use mathlib.Core.Bool.{Bool, true, false}
 use mathlib.Core.Path.{◌≡◌, refl}
 use mathlib.Core.List.{List, [], ◌∷◌, ◌++◌}
-use mathlib.Core.Option.{Option, none, some}
 use lib.ListN.{length}
 use lib.Dec.{ltb, eqb}
 use lib.IntN.{ℤ, pos, negsuc}
@@ -85,8 +85,8 @@ many-sound : (v : ToWrite) (f : List ℕ → Encoded) → InBytes v → ((bs : L
 many-sound (number n) f i h = refl
 many-sound (numeral z u) f i h = refl
 many-sound absent f i h = refl
-many-sound (many none) f i h = refl
-many-sound (many (some bs)) f i h = h bs i
+many-sound (many None) f i h = refl
+many-sound (many (Some bs)) f i h = h bs i
 
 fixed-sound : (k n : ℕ) → Sound (fixed_bytes k n)
 unfolding fixed_bytes
@@ -143,8 +143,8 @@ fields-sound (f ∷ fs) w [] i = refl
 fields-sound (f ∷ fs) w (v ∷ vs) i = also-sound (write_field f w v) (write_fields fs (word_after f v w) vs) (field-sound f w v i.0) (fields-sound fs (word_after f v w) vs i.1)
 
 layout-sound : (l : Option Layout) (vs : List ToWrite) → AllInBytes vs → Sound (written_by l vs)
-layout-sound none vs i = refl
-layout-sound (some fs) vs i = fields-sound fs 0 vs i
+layout-sound None vs i = refl
+layout-sound (Some fs) vs i = fields-sound fs 0 vs i
 
 pub leaf-sound : (table : Table) (vs : List ToWrite) → AllInBytes vs → Sound (write_leaf table vs)
 unfolding write_leaf AllInBytes

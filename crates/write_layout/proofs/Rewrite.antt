@@ -1,10 +1,10 @@
 -- Whatever is read can be written: a field that read as v is not refused, so that 17 is for what no bytes read as. Assumes nothing.
+use Rattle.std.specs.Prelude.{Option, None, Some}
 use Prim.Native.Nat.{ℕ, zero, suc, ◌+◌, ◌-◌, ◌^◌, ◌≤◌, ◌<◌}
 use native.Mathlib.Omega.{arith}
 use mathlib.Core.Bool.{Bool, true, false}
 use mathlib.Core.Path.{◌≡◌, refl, ap}
 use mathlib.Core.List.{List, [], ◌∷◌, ◌++◌, append-nil}
-use mathlib.Core.Option.{Option, none, some}
 use lib.ListN.{length, take, drop, length-drop}
 use lib.Dec.{ltb, eqb}
 use lib.IntN.{ℤ, pos, negsuc}
@@ -63,10 +63,10 @@ pub record Zero (bs : List ℕ) (m n : ℕ) : Type 0 where
   pub inside : count < length bs
   pub clean : no_zero (take count bs) ≡ true
 
-none-some : {X : Type 0} {n : ℕ} → ◌≡◌ {A = Option ℕ} none (some n) → X
+none-some : {X : Type 0} {n : ℕ} → ◌≡◌ {A = Option ℕ} None (Some n) → X
 none-some {X} {n} h = let z : ◌≡◌ {A = ℕ} 0 1 = cc in absurd (omega arith)
 
-zero-at : (bs : List ℕ) (m n : ℕ) → to_zero bs m ≡ some n → Zero bs m n
+zero-at : (bs : List ℕ) (m n : ℕ) → to_zero bs m ≡ Some n → Zero bs m n
 unfolding to_zero no_zero
 zero-at [] m n e = none-some e
 zero-at (zero ∷ bs) m n e = let f : m ≡ n = cc in record { count = 0; sum = omega arith; inside = omega arith; clean = refl }
@@ -152,8 +152,8 @@ module _ {W : Type 0} (form : ℤ → ℕ → W) (s : List ℕ) (small : AllByte
       go (to_zero (drop p s) 0) refl u.value u.place u.was (same-value (many u.value) v u.place q u.gives)
     where
       go : (o : Option ℕ) → to_zero (drop p s) 0 ≡ o → (x : Part) (e : ℕ) → part_or o p ≡ got x e → many x ≡ v → Answers (of_many (given s v) string_bytes)
-      go none f x e g i = refusal g
-      go (some n) f x e g i =
+      go None f x e g i = refusal g
+      go (Some n) f x e g i =
           let z = zero-at (drop p s) 0 n f in
           let j = same-value (record { place = p; length = n }) x (p + n + 1) e g in
           let c : z.count ≡ n = omega (arith, z.sum) in
@@ -222,8 +222,8 @@ no_answer {X} {A} {n} {d} {a} h = let z : ◌≡◌ {A = ℕ} 0 1 = cc in absurd
 by_layout : (table : Table) (s : List ℕ) → AllBytes s → (leaf p : ℕ) (l : Option Layout) → find leaf table ≡ l → Answers (fixed_bytes 2 leaf) → (values : List Shown)
     → and_then (reading.by_layout l leaf s p) (λ vs e. answered vs) ≡ answered values → Answers (write_leaf table (given_all s values))
 unfolding write_leaf values-or
-by_layout table s small leaf p none f a values h = no_answer h
-by_layout table s small leaf p (some fs) f a values h = go (read_fields_by form_of fs 0 s p) refl h
+by_layout table s small leaf p None f a values h = no_answer h
+by_layout table s small leaf p (Some fs) f a values h = go (read_fields_by form_of fs 0 s p) refl h
   where
     go : (r : Read (List Shown)) → read_fields_by form_of fs 0 s p ≡ r → and_then (and_then r (λ vs e. got (number leaf ∷ vs) e)) (λ vs e. answered vs) ≡ answered values
         → Answers (write_leaf table (given_all s values))

@@ -1,11 +1,11 @@
 -- The statements of specs/RoundTrip.antt. Assumes nothing.
+use Rattle.std.specs.Prelude.{Option, None, Some}
 use Prim.Native.Nat.{ℕ, ◌+◌, ◌^◌}
 use native.Mathlib.Omega.{arith}
 use native.Mathlib.Nat.{le_refl}
 use mathlib.Core.Bool.{Bool, true, false}
 use mathlib.Core.Path.{◌≡◌, refl, ap, sym, ◌∙◌}
 use mathlib.Core.List.{List, [], ◌∷◌, ◌++◌}
-use mathlib.Core.Option.{Option, none, some}
 use lib.ListN.{length, length-append}
 use lib.Dec.{ltb}
 use borrow.Author.Tests.{ltb-true, ltb-false, le-ltb}
@@ -56,8 +56,8 @@ pub record LeafBack (table : Table) (s : List ℕ) (vs : List ToWrite) : Type 0 
 by_layout : (table : Table) (l : Option Layout) (leaf : ℕ) (vs : List ToWrite) (s bs ys : List ℕ) → find leaf table ≡ l → written_by l vs ≡ answered bs
     → (p : ℕ) → fixed_at 2 s 0 ≡ got leaf p → Stands s p bs ys → LeafBack table s (number leaf ∷ vs)
 unfolding record_of leaf_of read_leaf NoShorter
-by_layout table none leaf vs s bs ys f w p r st = refusal w
-by_layout table (some fs) leaf vs s bs ys f w p r st =
+by_layout table None leaf vs s bs ys f w p r st = refusal w
+by_layout table (Some fs) leaf vs s bs ys f w p r st =
     let b = back form_of fs 0 vs s p bs ys w st in
     record { values = number leaf ∷ b.values; read = rw (r, f, b.read); shows = ap (λ (l : List ToWrite). number leaf ∷ l) b.shows; forms = (tt, no-shorter b.values b.forms) }
 

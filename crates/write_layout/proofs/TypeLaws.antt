@@ -1,10 +1,10 @@
 -- The table without the two lists: a leaf that is left is written as by the whole table, and one that is not is 17. Assumes nothing.
+use Rattle.std.specs.Prelude.{Option, None, Some}
 use Prim.Native.Nat.{ℕ, ◌^◌}
 use native.Mathlib.Omega.{arith}
 use mathlib.Core.Bool.{Bool, true, false}
 use mathlib.Core.Path.{◌≡◌, refl, sym, ap, ◌∙◌}
 use mathlib.Core.List.{List, [], ◌∷◌}
-use mathlib.Core.Option.{Option, none, some}
 use lib.Dec.{ltb, eqb}
 use borrow.Author.Tests.{eqb-true}
 use Rattle.answer.specs.Answer.{answered, refused, pick}
@@ -17,17 +17,17 @@ use Rattle.write_layout.specs.Records.{write_leaf, record_bytes, write_record}
 use Rattle.write_layout.specs.Types.{without, element_leaves, written_leaves, TypesWritten}
 
 -- what is found without some leaves
-find-without : (leaf : ℕ) (leaves : List ℕ) (table : Table) → find leaf (without leaves table) ≡ pick (among leaf leaves) none (find leaf table)
+find-without : (leaf : ℕ) (leaves : List ℕ) (table : Table) → find leaf (without leaves table) ≡ pick (among leaf leaves) None (find leaf table)
 unfolding find without
 find-without leaf leaves [] = go (among leaf leaves)
   where
-    go : (b : Bool) → ◌≡◌ {A = Option Layout} none (pick b none none)
+    go : (b : Bool) → ◌≡◌ {A = Option Layout} None (pick b None None)
     go true = refl
     go false = refl
 find-without leaf leaves ((m is fs) ∷ table) = go (among m leaves) refl (eqb leaf m) refl (find-without leaf leaves table)
   where
-    go : (b : Bool) → among m leaves ≡ b → (c : Bool) → eqb leaf m ≡ c → find leaf (without leaves table) ≡ pick (among leaf leaves) none (find leaf table)
-        → find leaf (pick b (without leaves table) ((m is fs) ∷ without leaves table)) ≡ pick (among leaf leaves) none (pick c (some fs) (find leaf table))
+    go : (b : Bool) → among m leaves ≡ b → (c : Bool) → eqb leaf m ≡ c → find leaf (without leaves table) ≡ pick (among leaf leaves) None (find leaf table)
+        → find leaf (pick b (without leaves table) ((m is fs) ∷ without leaves table)) ≡ pick (among leaf leaves) None (pick c (Some fs) (find leaf table))
     go true e true f later =
         let a : among leaf leaves ≡ true = ap (λ (k : ℕ). among k leaves) (eqb-true leaf m f) ∙ e in
         later ∙ rw a

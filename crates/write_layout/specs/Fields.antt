@@ -3,8 +3,7 @@
 --
 -- Strings and the elements of counted lists are given as parts of a lent text. `given` puts the bytes in place of the part; none where the part
 -- passes the end of the text. 17 is for what would not read back.
-use Rattle.std.specs.Prelude.{ℕ, ◌+◌, ◌^◌, Bool, true, false, List, [], ◌∷◌, ◌++◌, length, leb, ltb, eqb, ℤ, pos, negsuc}
-use Rattle.std.proofs.Math.Option.{Option, none, some}
+use Rattle.std.specs.Prelude.{Option, None, Some, ℕ, ◌+◌, ◌^◌, Bool, true, false, List, [], ◌∷◌, ◌++◌, length, leb, ltb, eqb, ℤ, pos, negsuc}
 use Rattle.answer.specs.Answer.{Answer, answered, refused, pick, then}
 use Rattle.answer.specs.Tables.{among}
 use Rattle.field.specs.Bytes.{bytes}
@@ -21,7 +20,7 @@ abbrev pub ToWrite : Type 0
 ToWrite = Value (Option (List ℕ)) (Unit {0})
 
 unfoldable pub bytes_in : List ℕ → Part → Option (List ℕ)
-bytes_in t x = pick (leb (x.place + x.length) (length t)) (some (part_at t x.place x.length)) none
+bytes_in t x = pick (leb (x.place + x.length) (length t)) (Some (part_at t x.place x.length)) None
 
 -- a value that was read, or that a caller has, with the text that its parts lie in
 abbrev pub given : {W : Type 0} → List ℕ → Value Part W → ToWrite
@@ -78,8 +77,8 @@ abbrev pub of_many : ToWrite → (List ℕ → Encoded) → Encoded
 of_many (number n) f = bad
 of_many (numeral z u) f = bad
 of_many absent f = bad
-of_many (many none) f = bad
-of_many (many (some bs)) f = f bs
+of_many (many None) f = bad
+of_many (many (Some bs)) f = f bs
 
 -- a number of k bytes
 unfoldable pub fixed_bytes : ℕ → ℕ → Encoded

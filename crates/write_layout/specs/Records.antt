@@ -1,6 +1,5 @@
 -- R-1: a record as it is written: its length, its leaf, its fields, pad bytes.
-use Rattle.std.specs.Prelude.{ℕ, ◌+◌, ◌-◌, ◌%◌, List, [], ◌∷◌, ◌++◌, length, ltb}
-use Rattle.std.proofs.Math.Option.{Option, none, some}
+use Rattle.std.specs.Prelude.{Option, None, Some, ℕ, ◌+◌, ◌-◌, ◌%◌, List, [], ◌∷◌, ◌++◌, length, ltb}
 use Rattle.answer.specs.Answer.{answered, stop, then}
 use Rattle.answer.specs.Tables.{find}
 use Rattle.field.specs.Bytes.{bytes}
@@ -11,8 +10,8 @@ use Rattle.write_layout.specs.Fields.{ToWrite, Encoded, bad, fixed_bytes, and_al
 
 -- 17 for a leaf that the table does not have
 abbrev pub written_by : Option Layout → List ToWrite → Encoded
-written_by none vs = bad
-written_by (some fs) vs = write_fields fs 0 vs
+written_by None vs = bad
+written_by (Some fs) vs = write_fields fs 0 vs
 
 -- the leaf, and the fields of its layout
 abbrev pub leaf_bytes : Table → ToWrite → List ToWrite → Encoded

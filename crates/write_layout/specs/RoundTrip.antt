@@ -1,7 +1,6 @@
 -- R-1's promises over the table, once for all leaves: "Reading back gives the fields, and writing those the same bytes", and 17 is for fields
 -- that would not read back. proofs/RoundTripProof.antt has them.
-use Rattle.std.specs.Prelude.{ℕ, ◌+◌, ◌%◌, ◌≤◌, ◌≡◌, false, List, [], ◌∷◌, ◌++◌, length, ℤ}
-use Rattle.std.proofs.Math.Option.{none, some}
+use Rattle.std.specs.Prelude.{None, Some, ℕ, ◌+◌, ◌%◌, ◌≤◌, ◌≡◌, false, List, [], ◌∷◌, ◌++◌, length, ℤ}
 use Rattle.answer.specs.Answer.{answered, Read, got}
 use Rattle.field.specs.Bytes.{bytes}
 use Rattle.field_text.specs.Texts.{Part}
@@ -73,8 +72,8 @@ pub record WouldRead (table : Table) (vs : List ToWrite) : Type 0 where
 
 -- the bytes of what is to be written are bytes, as those of every `&[u8]` are
 abbrev pub InBytes : ToWrite → Type 0
-InBytes (many (some bs)) = AllBytes bs
-InBytes (many none) = Unit {0}
+InBytes (many (Some bs)) = AllBytes bs
+InBytes (many None) = Unit {0}
 InBytes (number n) = Unit {0}
 InBytes (numeral z u) = Unit {0}
 InBytes absent = Unit {0}

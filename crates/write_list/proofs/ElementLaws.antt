@@ -15,7 +15,7 @@ use Rattle.field.specs.Bytes.{bytes}
 use Rattle.field.proofs.ByteLaws.{length-bytes}
 use Rattle.field_put.specs.Bytes.{put, Puts, Room}
 use Rattle.write_layout.specs.Runs.{pads}
-use Rattle.write_layout.specs.Fields.{Encoded, bad, fixed_bytes, and_also, encodes, encoded_bytes}
+use Rattle.write_layout.specs.Fields.{Encoded, fixed_bytes, and_also, encodes, encoded_bytes}
 use Rattle.write_layout.specs.Records.{missing, limited, filled, record_bytes}
 use Rattle.write_layout.specs.Lists.{filled_member, filled_each}
 use Rattle.write_layout.specs.Buffer.{lay, Writes}
@@ -77,14 +77,14 @@ pub measure-all : (leaf : ℕ) (t : List ℕ) (rows : List (List ℕ)) → measu
 measure-all leaf t rows = measure-is leaf t false rows 0 ∙ simp zero-add
 
 module _ (leaf : ℕ) (t : List ℕ) (rows : List (List ℕ)) (i : ℕ) (d : List ℕ) (h : i < length rows) where
-  pub measure-turn : (n k : ℕ) → then (element_bytes leaf t (get_or rows i d)) (λ bs. answered (min (length bs) 65536)) ≡ answered k
+  pub measure-turn : (n k : ℕ) → answered k ≡ then (element_bytes leaf t (get_or rows i d)) (λ bs. answered (min (length bs) 65536))
       → measure_of leaf t false (drop i rows) n ≡ measure_of leaf t (ends_after leaf (get_or rows i d)) (drop (i + 1) rows) (min (n + (k + missing k)) 65536)
   unfolding measure_of
-  measure-turn n k e = rw (drop-cons rows i d, add-one, measure_of, e)
+  measure-turn n k e = rw (drop-cons rows i d, add-one, measure_of, ← e)
 
-  pub measure-stop : (n : ℕ) → then (element_bytes leaf t (get_or rows i d)) (λ bs. answered (min (length bs) 65536)) ≡ refused 17 [] → measure_of leaf t false (drop i rows) n ≡ refused 17 []
+  pub measure-stop : (n m : ℕ) (e : List ℕ) → refused m e ≡ then (element_bytes leaf t (get_or rows i d)) (λ bs. answered (min (length bs) 65536)) → measure_of leaf t false (drop i rows) n ≡ refused m e
   unfolding measure_of
-  measure-stop n e = rw (drop-cons rows i d, measure_of, e)
+  measure-stop n m e f = rw (drop-cons rows i d, measure_of, ← f)
 
   pub measure-late : (n : ℕ) → measure_of leaf t true (drop i rows) n ≡ refused 17 []
   unfolding measure_of
@@ -138,7 +138,7 @@ pub held-done : (leaf : ℕ) (t : List ℕ) (rows : List (List ℕ)) (i : ℕ) �
 unfolding held_all put
 held-done leaf t rows i h s p = rw (drop_of_length-le rows h) (record { next = omega arith; left = refl })
 
-pub size-held : (b : Encoded) (k : ℕ) → then b (λ bs. answered (min (length bs) 65536)) ≡ answered k → k ≤ 65536
+pub size-held : (b : Encoded) (k : ℕ) → answered k ≡ then b (λ bs. answered (min (length bs) 65536)) → k ≤ 65536
 size-held (answered bs) k e = let f : min (length bs) 65536 ≡ k = cc in omega arith
 size-held (refused n d) k e = let z : ◌≡◌ {A = ℕ} 0 1 = cc in absurd (omega arith)
 
@@ -172,13 +172,15 @@ unfolding missing
 nothing-missing n h = omega arith
 
 module _ (leaf : ℕ) (t : List ℕ) (rows : List (List ℕ)) (k : leaf < 65536) where
-  pub list-bad : then (elements_bytes leaf t false rows) (λ bs. answered (min (length bs) 65536)) ≡ refused 17 [] → and_also (fixed_bytes 2 leaf) (elements_bytes leaf t false rows) ≡ bad
+  -- a refusal of one of them is that of the list
+  pub list-bad : (n : ℕ) (d : List ℕ) → refused n d ≡ then (elements_bytes leaf t false rows) (λ bs. answered (min (length bs) 65536))
+      → and_also (fixed_bytes 2 leaf) (elements_bytes leaf t false rows) ≡ refused n d
   unfolding fixed_bytes
-  list-bad e = rw (lt-ltb leaf 65536 k) (go (elements_bytes leaf t false rows) e)
+  list-bad n d e = rw (lt-ltb leaf 65536 k) (go (elements_bytes leaf t false rows) e)
     where
-      go : (b : Encoded) → then b (λ bs. answered (min (length bs) 65536)) ≡ refused 17 [] → and_also (answered (bytes 2 leaf)) b ≡ bad
+      go : (b : Encoded) → refused n d ≡ then b (λ bs. answered (min (length bs) 65536)) → and_also (answered (bytes 2 leaf)) b ≡ refused n d
       go (answered bs) f = let z : ◌≡◌ {A = ℕ} 0 1 = cc in absurd (omega arith)
-      go (refused n d) f = let a : n ≡ 17 = cc in let c : d ≡ [] = cc in rw (a, c)
+      go (refused m c) f = cc
 
   -- good, and n is the length of the elements, held at 65,536
   pub record Sized (n : ℕ) : Type 0 where
@@ -186,11 +188,11 @@ module _ (leaf : ℕ) (t : List ℕ) (rows : List (List ℕ)) (k : leaf < 65536)
     pub count : n ≡ min (length (held_all leaf t rows)) 65536
     pub is : and_also (fixed_bytes 2 leaf) (elements_bytes leaf t false rows) ≡ answered (bytes 2 leaf ++ held_all leaf t rows)
 
-  pub list-size : (n : ℕ) → then (elements_bytes leaf t false rows) (λ bs. answered (min (length bs) 65536)) ≡ answered n → Sized n
+  pub list-size : (n : ℕ) → answered n ≡ then (elements_bytes leaf t false rows) (λ bs. answered (min (length bs) 65536)) → Sized n
   unfolding fixed_bytes
   list-size n e = go (elements_bytes leaf t false rows) refl e
     where
-      go : (b : Encoded) → elements_bytes leaf t false rows ≡ b → then b (λ bs. answered (min (length bs) 65536)) ≡ answered n → Sized n
+      go : (b : Encoded) → elements_bytes leaf t false rows ≡ b → answered n ≡ then b (λ bs. answered (min (length bs) 65536)) → Sized n
       go (refused m d) f g = let z : ◌≡◌ {A = ℕ} 0 1 = cc in absurd (omega arith)
       go (answered bs) f g =
           let m = elements leaf t false rows bs f in

@@ -1,10 +1,10 @@
 -- The elements of a written list read back, one after the other, and then the list ends. Assumes nothing.
+use Rattle.std.specs.Prelude.{Option, None, Some}
 use Prim.Native.Nat.{ℕ, zero, suc, ◌+◌, ◌%◌, ◌^◌, ◌≤◌, ◌<◌}
 use native.Mathlib.Omega.{arith}
 use mathlib.Core.Bool.{Bool, true, false}
 use mathlib.Core.Path.{◌≡◌, refl, ap, sym, subst, ◌∙◌}
 use mathlib.Core.List.{List, [], ◌∷◌, ◌++◌, map, append_assoc, append-nil}
-use mathlib.Core.Option.{Option, none, some}
 use lib.ListN.{length, take, drop, length-append, length-drop}
 use lib.Seq.{take_at, drop_at}
 use lib.Dec.{ltb, eqb, lit<}
@@ -54,13 +54,13 @@ pub record RecordBack (table : Table) (s : List ℕ) (p : ℕ) (bs : List ℕ) (
   pub rest_given : List ToWrite
   pub leads_with : vs ≡ number leaf ∷ rest_given
   pub layout : Layout
-  pub found : find leaf table ≡ some layout
+  pub found : find leaf table ≡ Some layout
 
 by_layout : (table : Table) (l : Option Layout) (leaf : ℕ) (vs : List ToWrite) (s : List ℕ) (p : ℕ) (bs zs ys : List ℕ) → find leaf table ≡ l → written_by l vs ≡ answered zs
     → fixed_at 2 s p ≡ got leaf (p + length (bytes 2 leaf)) → Stands s (p + length (bytes 2 leaf)) zs ys → bytes 2 leaf ++ zs ≡ bs → RecordBack table s p bs (number leaf ∷ vs)
 unfolding read_record read_leaf bytes NoShorter
-by_layout table none leaf vs s p bs zs ys f w r st e = refusal w
-by_layout table (some fs) leaf vs s p bs zs ys f w r st e =
+by_layout table None leaf vs s p bs zs ys f w r st e = refusal w
+by_layout table (Some fs) leaf vs s p bs zs ys f w r st e =
     let b = back form_of fs 0 vs s (p + length (bytes 2 leaf)) zs ys w st in
     let l : p + length (bytes 2 leaf) + length zs ≡ p + length bs = omega (arith, length-append (bytes 2 leaf) zs, ap length e) in
     record {
@@ -99,14 +99,14 @@ record-ends table s p bs vs k = rw k.leaf_is (sym (ap ends_list k.leads_with))
 
 -- no member's leaf begins with a byte that reads as padding
 quiet_step : (leaf m : ℕ) (b : Bool) → eqb leaf m ≡ b → m % 256 < 0xf0 → (a : Layout) (rest : Option Layout) (fs : Layout)
-    → (rest ≡ some fs → leaf % 256 < 0xf0) → pick b (some a) rest ≡ some fs → leaf % 256 < 0xf0
+    → (rest ≡ Some fs → leaf % 256 < 0xf0) → pick b (Some a) rest ≡ Some fs → leaf % 256 < 0xf0
 quiet_step leaf m true e q a rest fs f h = rw (eqb-true leaf m e) q
 quiet_step leaf m false e q a rest fs f h = f h
 
-no-layout : {X : Type 0} {fs : Layout} → ◌≡◌ {A = Option Layout} none (some fs) → X
+no-layout : {X : Type 0} {fs : Layout} → ◌≡◌ {A = Option Layout} None (Some fs) → X
 no-layout {X} {fs} h = let z : ◌≡◌ {A = ℕ} 0 1 = cc in absurd (omega arith)
 
-leaf-quiet : (leaf : ℕ) (fs : Layout) → find leaf member_leaves ≡ some fs → leaf % 256 < 0xf0
+leaf-quiet : (leaf : ℕ) (fs : Layout) → find leaf member_leaves ≡ Some fs → leaf % 256 < 0xf0
 unfolding find member_leaves
 leaf-quiet leaf fs =
     quiet_step leaf 0x1400 _ refl (lit< tt) _ _ fs

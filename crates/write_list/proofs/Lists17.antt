@@ -1,11 +1,11 @@
 -- 17 of a list is given exactly if no payload has its elements: what is written reads back, and whatever the list reader gives can be written. Assumes
 -- nothing.
+use Rattle.std.specs.Prelude.{Option, None, Some}
 use Prim.Native.Nat.{ℕ, zero, suc, ◌^◌, ◌≤◌, ◌<◌}
 use native.Mathlib.Omega.{arith}
 use mathlib.Core.Bool.{Bool, true, false}
 use mathlib.Core.Path.{◌≡◌, refl, ap, sym, subst, ◌∙◌}
 use mathlib.Core.List.{List, [], ◌∷◌, ◌++◌}
-use mathlib.Core.Option.{Option, none, some}
 use lib.ListN.{length}
 use lib.Dec.{leb, ltb, eqb, lit<}
 use borrow.Author.Tests.{lt-ltb}
@@ -51,8 +51,8 @@ re-at table s small q values e h =
     go u.value u.place (find u.value table) refl b u.gives
   where
     go : (leaf p : ℕ) (l : Option Layout) → find leaf table ≡ l → leaf < 256 ^ 2 → reading.by_layout l leaf s p ≡ got values e → Answers (write_leaf table (given_all s values))
-    go leaf p none f b g = no_answer g
-    go leaf p (some fs) f b g =
+    go leaf p None f b g = no_answer g
+    go leaf p (Some fs) f b g =
         let t = from (read_fields_by form_of fs 0 s p) (λ vs x. got (number leaf ∷ vs) x) values e g in
         let y = re-fields form_of s small fs 0 p t.value t.place t.was in
         rw (← same-value (number leaf ∷ t.value) values t.place e t.gives, f)

@@ -1,4 +1,5 @@
 -- The row of a member or method stands for its values. Assumes nothing.
+use Rattle.std.specs.Prelude.{ℕ, Option, Some, None}
 use mathlib.Core.Bool.{Bool, true, false}
 use mathlib.Core.Path.{◌≡◌, refl}
 use mathlib.Core.List.{map}
@@ -6,8 +7,6 @@ use Rattle.field_number.specs.declared.Number.{Number}
 use Rattle.field_number.specs.declared.Number.TheVariants as a_number
 use Rattle.record_layout.specs.Fields.{plain}
 use Rattle.record_member.specs.Said.{member_values, entry_values}
-use Rattle.record_member.specs.declared.OptOffset.{OptOffset}
-use Rattle.record_member.specs.declared.OptOffset.TheVariants as offset
 use Rattle.record_member.specs.declared.Member.{Member}
 use Rattle.record_member.specs.declared.Member.TheVariants as a
 use Rattle.record_member.specs.declared.MethodListEntry.{MethodListEntry}
@@ -34,17 +33,17 @@ member-shows (a.OverloadedMethod m) = refl
 member-shows (a.Nested m) = refl
 member-shows (a.Method m) = go m.vtable_offset refl
   where
-    go : (o : OptOffset) → m.vtable_offset ≡ o → row_values (row_of_member (a.Method m)) ≡ map plain (member_values (a.Method m))
-    go offset.None e = rw e
-    go (offset.Some n) e = rw e
+    go : (o : Option ℕ) → m.vtable_offset ≡ o → row_values (row_of_member (a.Method m)) ≡ map plain (member_values (a.Method m))
+    go None e = rw e
+    go (Some n) e = rw e
 
 method-shows : (m : MethodListEntry) → list_method (row_of_method m) ≡ map plain (entry_values m)
 unfolding list_method
 method-shows m = go m.vtable_offset refl
   where
-    go : (o : OptOffset) → m.vtable_offset ≡ o → list_method (row_of_method m) ≡ map plain (entry_values m)
-    go offset.None e = rw e
-    go (offset.Some n) e = rw e
+    go : (o : Option ℕ) → m.vtable_offset ≡ o → list_method (row_of_method m) ≡ map plain (entry_values m)
+    go None e = rw e
+    go (Some n) e = rw e
 
 pub rows-show : RowsShow
 rows-show = record { of_member = member-shows; of_method = method-shows }

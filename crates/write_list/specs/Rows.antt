@@ -1,15 +1,13 @@
 -- A member of a field list as a row of eight numbers: its leaf, then the numbers of its fields in the layout's order, then zeros that are not
 -- looked at. A string is two numbers, place and length; a number that may be negative is a sign, 0 or not, and n or -1 - n; an offset that may be
 -- absent is a mark, 0 or not, and the offset. A method of a method list likewise, without a leaf.
-use Rattle.std.specs.Prelude.{ℕ, ◌≡◌, List, [], ◌∷◌, map, get_or, eqb, ℤ, pos, negsuc}
+use Rattle.std.specs.Prelude.{Option, Some, None, ℕ, ◌≡◌, List, [], ◌∷◌, map, get_or, eqb, ℤ, pos, negsuc}
 use Rattle.answer.specs.Answer.{pick}
 use Rattle.field_text.specs.Texts.{Part}
 use Rattle.field_number.specs.declared.Number.{Number}
 use Rattle.field_number.specs.declared.Number.TheVariants as a_number
 use Rattle.record_layout.specs.Fields.{Value, number, numeral, absent, many, plain}
 use Rattle.record_member.specs.Said.{virtual_leaf, member_values, entry_values}
-use Rattle.record_member.specs.declared.OptOffset.{OptOffset}
-use Rattle.record_member.specs.declared.OptOffset.TheVariants as offset
 use Rattle.record_member.specs.declared.Member.{Member}
 use Rattle.record_member.specs.declared.Member.TheVariants as a
 use Rattle.record_member.specs.declared.MethodListEntry.{MethodListEntry}
@@ -109,13 +107,13 @@ abbrev pub magnitude : Number → ℕ
 magnitude (a_number.Natural n) = n
 magnitude (a_number.Negative n) = n
 
-abbrev pub offset_mark : OptOffset → ℕ
-offset_mark offset.None = 0
-offset_mark (offset.Some n) = 1
+abbrev pub offset_mark : Option ℕ → ℕ
+offset_mark None = 0
+offset_mark (Some n) = 1
 
-abbrev pub offset_or_0 : OptOffset → ℕ
-offset_or_0 offset.None = 0
-offset_or_0 (offset.Some n) = n
+abbrev pub offset_or_0 : Option ℕ → ℕ
+offset_or_0 None = 0
+offset_or_0 (Some n) = n
 
 abbrev pub row_of_member : Member → List ℕ
 row_of_member (a.BaseClass m) = 0x1400 ∷ m.attributes.0 ∷ m.base_class.0 ∷ m.offset.value ∷ 0 ∷ 0 ∷ 0 ∷ 0 ∷ []

@@ -14,12 +14,13 @@ ghost use Rattle.write_layout.specs.Fields.{given_all, bad, fixed_bytes, numeric
 ghost use Rattle.write_layout.specs.Records.{write_leaf, missing, record_bytes};
 ghost use Rattle.write_layout.specs.Lists.{filled_member, field_list_bytes, method_list_bytes};
 ghost use Rattle.write_layout.specs.Buffer.{lay, Writes};
-ghost use Rattle.write_pieces.specs.Pieces.{piece_of, pieces_of, said_measure, said_write};
+ghost use Rattle.write_pieces.specs.Pieces.{piece_of, pieces_of};
 ghost use Rattle.write_list.specs.Rows.{text_to_write, signed_of, present_of, base_class, direct_base, indirect_base, continuation, table_pointer, enumerate, data_member, static_member, overloads, nested, one_method, list_method, member_rows, method_rows};
 ghost use Rattle.write_list.specs.Elements.{given_bare, element_bytes, ends_after, elements_bytes, good_all, held_all};
+ghost use Rattle.answer.specs.Refusals.{itself, said};
 
 use answer::Refusal;
-use write_pieces::{Measure, Piece, WriteAnswer};
+use write_pieces::Piece;
 
 // Numbers of a row, which may be too large for their field.
 
@@ -240,41 +241,20 @@ fn no_member() -> [Piece; 16]
 fn member_pieces(row: [u64; 8]) -> [Piece; 16]
     ensures { (t : List ℕ) → pieces_of t result ≡ element_bytes 0x1203 t row }
 {
-    let leaf = row[0];
-    if leaf == 0x1400 {
-        return base_class(row);
+    match row[0] {
+        0x1400 => base_class(row),
+        0x1401 => direct_base(row),
+        0x1402 => indirect_base(row),
+        0x1404 => list_end(row),
+        0x1409 => table_pointer(row),
+        0x1502 => enumerate_value(row),
+        0x150d => data_member(row),
+        0x150e => static_member(row),
+        0x150f => overloaded(row),
+        0x1510 => nested_type(row),
+        0x1511 => one_method(row),
+        _ => no_member(),
     }
-    if leaf == 0x1401 {
-        return direct_base(row);
-    }
-    if leaf == 0x1402 {
-        return indirect_base(row);
-    }
-    if leaf == 0x1404 {
-        return list_end(row);
-    }
-    if leaf == 0x1409 {
-        return table_pointer(row);
-    }
-    if leaf == 0x1502 {
-        return enumerate_value(row);
-    }
-    if leaf == 0x150d {
-        return data_member(row);
-    }
-    if leaf == 0x150e {
-        return static_member(row);
-    }
-    if leaf == 0x150f {
-        return overloaded(row);
-    }
-    if leaf == 0x1510 {
-        return nested_type(row);
-    }
-    if leaf == 0x1511 {
-        return one_method(row);
-    }
-    no_member()
 }
 
 fn method_pieces(row: [u64; 8]) -> [Piece; 16]
@@ -294,19 +274,17 @@ fn element_pieces(leaf: u16, row: [u64; 8]) -> [Piece; 16]
     ensures { (t : List ℕ) → pieces_of t result ≡ element_bytes leaf t row }
 {
     if leaf == 0x1203 {
-        return member_pieces(row);
+        member_pieces(row)
+    } else {
+        method_pieces(row)
     }
-    method_pieces(row)
 }
 
 // Whether nothing may follow: after a continuation.
 fn ends_after(leaf: u16, row: [u64; 8]) -> bool
     ensures { result ≡ ends_after leaf row }
 {
-    if leaf == 0x1203 {
-        return row[0] == 0x1404;
-    }
-    false
+    leaf == 0x1203 && row[0] == 0x1404
 }
 
 // k bytes and what fills them.
@@ -318,32 +296,27 @@ fn filled_size(k: usize) -> usize
 }
 
 // How many bytes a row's element takes, before it is filled; held at 65,536.
-fn measure_row(leaf: u16, text: &[u8], row: [u64; 8]) -> Measure
-    ensures { said_measure result ≡ then (element_bytes leaf text.now row) (λ bs. answered (min (length bs) 65536)) }
+fn measure_row(leaf: u16, text: &[u8], row: [u64; 8]) -> Result<usize, Refusal>
+    ensures { said itself result ≡ then (element_bytes leaf text.now row) (λ bs. answered (min (length bs) 65536)) }
 {
     write_pieces::measured(text, element_pieces(leaf, row))
 }
 
 // How many bytes the elements take, each filled, held at 65,536.
-fn measure_elements(leaf: u16, text: &[u8], rows: &[[u64; 8]]) -> Measure
-    ensures { said_measure result ≡ then (elements_bytes leaf text.now false rows.now) (λ bs. answered (min (length bs) 65536)) }
+fn measure_elements(leaf: u16, text: &[u8], rows: &[[u64; 8]]) -> Result<usize, Refusal>
+    ensures { said itself result ≡ then (elements_bytes leaf text.now false rows.now) (λ bs. answered (min (length bs) 65536)) }
 {
     let mut n = 0;
-    let mut i = 0;
     let mut ended = false;
-    while i < rows.len() {
+    for row in rows {
         if ended {
-            return Measure::Bad;
+            return Err(Refusal::WouldNotReadBack);
         }
-        let row = rows[i];
-        let Measure::Size(k) = measure_row(leaf, text, row) else {
-            return Measure::Bad;
-        };
+        let k = measure_row(leaf, text, *row)?;
         n = write_pieces::capped_sum(n, filled_size(k));
-        ended = ends_after(leaf, row);
-        i += 1;
+        ended = ends_after(leaf, *row);
     }
-    Measure::Size(n)
+    Ok(n)
 }
 
 // One element, where it is good and there is room for it; the place after its pad bytes.
@@ -353,8 +326,8 @@ fn put_element(leaf: u16, text: &[u8], row: [u64; 8], out: &mut [u8], p: usize) 
 {
     let xs = element_pieces(leaf, row);
     match write_pieces::write_filled(text, xs, out, p) {
-        WriteAnswer::Written(q) => q,
-        WriteAnswer::Refused(_) => p,
+        Ok(q) => q,
+        Err(_) => p,
     }
 }
 
@@ -364,11 +337,8 @@ fn put_elements(leaf: u16, text: &[u8], rows: &[[u64; 8]], out: &mut [u8], p: us
     ensures { Puts out.old p (held_all leaf text.now rows.now) result out.new }
 {
     let mut to = p;
-    let mut i = 0;
-    while i < rows.len() {
-        let row = rows[i];
-        to = put_element(leaf, text, row, out, to);
-        i += 1;
+    for row in rows {
+        to = put_element(leaf, text, *row, out, to);
     }
     to
 }
@@ -391,36 +361,49 @@ fn put_list(
 }
 
 // The list of this leaf. Its elements are filled, so that the record needs no pad bytes of its own.
-fn write_list(leaf: u16, text: &[u8], rows: &[[u64; 8]], out: &mut [u8], at: usize) -> WriteAnswer
-    ensures { Writes out.old (lay (record_bytes (and_also (fixed_bytes 2 leaf) (elements_bytes leaf text.now false rows.now))) out.old at) (said_write result) out.new }
+fn write_list(
+    leaf: u16,
+    text: &[u8],
+    rows: &[[u64; 8]],
+    out: &mut [u8],
+    at: usize,
+) -> Result<usize, Refusal>
+    ensures { Writes out.old (lay (record_bytes (and_also (fixed_bytes 2 leaf) (elements_bytes leaf text.now false rows.now))) out.old at) (said itself result) out.new }
 {
-    let Measure::Size(n) = measure_elements(leaf, text, rows) else {
-        return WriteAnswer::Refused(Refusal::WouldNotReadBack);
-    };
+    let n = measure_elements(leaf, text, rows)?;
     let length = n + 2;
     if 65535 < length {
-        return WriteAnswer::Refused(Refusal::RecordTooLong);
+        return Err(Refusal::RecordTooLong);
     }
     if out.len() < at {
-        return WriteAnswer::Refused(Refusal::NoRoom);
+        return Err(Refusal::NoRoom);
     }
     if out.len() - at < length + 2 {
-        return WriteAnswer::Refused(Refusal::NoRoom);
+        return Err(Refusal::NoRoom);
     }
-    let e = put_list(leaf, text, rows, out, at, length as u16);
-    WriteAnswer::Written(e)
+    Ok(put_list(leaf, text, rows, out, at, length as u16))
 }
 
 // A field list at a place of the buffer, a row for each member. Everything else of the buffer stays as it was.
-pub fn write_field_list(text: &[u8], rows: &[[u64; 8]], out: &mut [u8], at: usize) -> WriteAnswer
-    ensures { Writes out.old (lay (field_list_bytes (member_rows text.now rows.now)) out.old at) (said_write result) out.new }
+pub fn write_field_list(
+    text: &[u8],
+    rows: &[[u64; 8]],
+    out: &mut [u8],
+    at: usize,
+) -> Result<usize, Refusal>
+    ensures { Writes out.old (lay (field_list_bytes (member_rows text.now rows.now)) out.old at) (said itself result) out.new }
 {
     write_list(0x1203, text, rows, out, at)
 }
 
 // A method list at a place of the buffer, a row for each method. Everything else of the buffer stays as it was.
-pub fn write_method_list(text: &[u8], rows: &[[u64; 8]], out: &mut [u8], at: usize) -> WriteAnswer
-    ensures { Writes out.old (lay (method_list_bytes (method_rows text.now rows.now)) out.old at) (said_write result) out.new }
+pub fn write_method_list(
+    text: &[u8],
+    rows: &[[u64; 8]],
+    out: &mut [u8],
+    at: usize,
+) -> Result<usize, Refusal>
+    ensures { Writes out.old (lay (method_list_bytes (method_rows text.now rows.now)) out.old at) (said itself result) out.new }
 {
     write_list(0x1206, text, rows, out, at)
 }

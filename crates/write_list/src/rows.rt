@@ -7,8 +7,7 @@ use field::index::TypeIndex;
 use field_number::Number;
 use record_member::{
     BaseClassType, EnumerateType, Member, MemberType, MethodListEntry, MethodType, NestedType,
-    OptOffset, OverloadedMethodType, StaticMemberType, VirtualBaseClassType,
-    VirtualFunctionTablePointerType,
+    OverloadedMethodType, StaticMemberType, VirtualBaseClassType, VirtualFunctionTablePointerType,
 };
 
 fn base_class_row(m: BaseClassType) -> [u64; 8]
@@ -101,21 +100,8 @@ fn continuation_row(t: TypeIndex) -> [u64; 8]
 fn virtual_base_row(m: VirtualBaseClassType) -> [u64; 8]
     ensures { result ≡ row_of_member (Member.VirtualBaseClass m) }
 {
-    let direct = m.direct;
-    if direct {
-        return [
-            0x1401,
-            m.attributes.0 as u64,
-            m.base_class.0 as u64,
-            m.base_pointer.0 as u64,
-            m.base_pointer_offset.value,
-            m.virtual_base_offset.value,
-            0,
-            0,
-        ];
-    }
     [
-        0x1402,
+        if m.direct { 0x1401 } else { 0x1402 },
         m.attributes.0 as u64,
         m.base_class.0 as u64,
         m.base_pointer.0 as u64,
@@ -129,9 +115,7 @@ fn virtual_base_row(m: VirtualBaseClassType) -> [u64; 8]
 fn enumerate_row(m: EnumerateType) -> [u64; 8]
     ensures { result ≡ row_of_member (Member.Enumerate m) }
 {
-    let v = m.value;
-    let value = v.value;
-    match value {
+    match m.value.value {
         Number::Natural(n) => [
             0x1502,
             m.attributes.0 as u64,
@@ -158,9 +142,8 @@ fn enumerate_row(m: EnumerateType) -> [u64; 8]
 fn method_row(m: MethodType) -> [u64; 8]
     ensures { result ≡ row_of_member (Member.Method m) }
 {
-    let offset = m.vtable_offset;
-    match offset {
-        OptOffset::None => [
+    match m.vtable_offset {
+        None => [
             0x1511,
             m.attributes.0 as u64,
             m.method_type.0 as u64,
@@ -170,7 +153,7 @@ fn method_row(m: MethodType) -> [u64; 8]
             m.name.length as u64,
             0,
         ],
-        OptOffset::Some(x) => [
+        Some(x) => [
             0x1511,
             m.attributes.0 as u64,
             m.method_type.0 as u64,
@@ -205,9 +188,8 @@ pub fn of_member(m: Member) -> [u64; 8]
 pub fn of_method(m: MethodListEntry) -> [u64; 8]
     ensures { result ≡ row_of_method m }
 {
-    let offset = m.vtable_offset;
-    match offset {
-        OptOffset::None => [
+    match m.vtable_offset {
+        None => [
             m.attributes.0 as u64,
             m.method_type.0 as u64,
             0,
@@ -217,7 +199,7 @@ pub fn of_method(m: MethodListEntry) -> [u64; 8]
             0,
             0,
         ],
-        OptOffset::Some(x) => [
+        Some(x) => [
             m.attributes.0 as u64,
             m.method_type.0 as u64,
             1,

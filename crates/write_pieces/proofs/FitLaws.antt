@@ -1,10 +1,10 @@
 -- What the piece of a field stands for, in the words of writing by a layout. Assumes nothing.
+use Rattle.std.specs.Prelude.{None, Some}
 use Prim.Native.Nat.{ℕ, suc, ◌+◌, ◌-◌, ◌^◌, ◌≤◌, ◌<◌}
 use native.Mathlib.Omega.{arith}
 use mathlib.Core.Bool.{Bool, true, false}
 use mathlib.Core.Path.{◌≡◌, refl, ◌∙◌}
 use mathlib.Core.List.{List, [], ◌∷◌, ◌++◌}
-use mathlib.Core.Option.{none, some}
 use lib.ListN.{length}
 use lib.Dec.{leb, eqb}
 use lib.IntN.{pos, negsuc}
@@ -80,7 +80,7 @@ pub text-piece : (t : List ℕ) (p n : ℕ) → piece_of t (piece.Text p n) ≡ 
 unfolding piece_of fine raw bytes_in string_bytes
 text-piece t p n = go (leb (p + n) (length t))
   where
-    go : (b : Bool) → only (both b (no_zero (part_at t p n))) (part_at t p n ++ (0 ∷ [])) ≡ of_many (many (pick b (some (part_at t p n)) none)) (λ bs. only (no_zero bs) (bs ++ (0 ∷ [])))
+    go : (b : Bool) → only (both b (no_zero (part_at t p n))) (part_at t p n ++ (0 ∷ [])) ≡ of_many (many (pick b (Some (part_at t p n)) None)) (λ bs. only (no_zero bs) (bs ++ (0 ∷ [])))
     go true = refl
     go false = refl
 
@@ -90,7 +90,7 @@ unfolding piece_of fine raw bytes_in
 run-piece t p n k e = go (leb (p + n) (length t)) refl
   where
     go : (b : Bool) → leb (p + n) (length t) ≡ b
-        → only b (part_at t p n) ≡ of_many (many (pick b (some (part_at t p n)) none)) (λ bs. only (eqb (length bs) k) bs)
+        → only b (part_at t p n) ≡ of_many (many (pick b (Some (part_at t p n)) None)) (λ bs. only (eqb (length bs) k) bs)
     go true f = rw (eq-eqb _ _ (part_length t p n (leb-true _ _ f) ∙ e))
     go false f = refl
 

@@ -27,25 +27,23 @@ filled-length bs = length-append bs (pads (missing (length bs + 2))) ∙ ap (λ 
 
 -- what measuring the pieces has shown
 module _ (t : List ℕ) (xs : List Piece) where
-  abbrev measured : Answer ℕ
-  measured = then (pieces_of t xs) (λ bs. answered (min (length bs) 65536))
-
-  pub measured-bad : then (pieces_of t xs) (λ bs. answered (min (length bs) 65536)) ≡ refused 17 [] → pieces_of t xs ≡ bad
-  measured-bad e = go (pieces_of t xs) e
+  -- a refusal of one of them is that of all
+  pub measured-bad : (n : ℕ) (d : List ℕ) → refused n d ≡ then (pieces_of t xs) (λ bs. answered (min (length bs) 65536)) → pieces_of t xs ≡ refused n d
+  measured-bad n d e = go (pieces_of t xs) e
     where
-      go : (b : Encoded) → then b (λ bs. answered (min (length bs) 65536)) ≡ refused 17 [] → b ≡ bad
+      go : (b : Encoded) → refused n d ≡ then b (λ bs. answered (min (length bs) 65536)) → b ≡ refused n d
       go (answered bs) f = let z : ◌≡◌ {A = ℕ} 0 1 = cc in absurd (omega arith)
-      go (refused n d) f = let a : n ≡ 17 = cc in let b : d ≡ [] = cc in rw (a, b)
+      go (refused m e) f = cc
 
   -- fine, and n is their length, held at 65,536
   pub record Sized (n : ℕ) : Type 0 where
     pub fine : fine_all t xs ≡ true
     pub held : n ≡ min (length (raw_all t xs)) 65536
 
-  pub measured-size : (n : ℕ) → then (pieces_of t xs) (λ bs. answered (min (length bs) 65536)) ≡ answered n → Sized n
+  pub measured-size : (n : ℕ) → answered n ≡ then (pieces_of t xs) (λ bs. answered (min (length bs) 65536)) → Sized n
   measured-size n e = go (fine_all t xs) refl (rw (pieces-fine t xs) at e)
     where
-      go : (b : Bool) → fine_all t xs ≡ b → then (only b (raw_all t xs)) (λ bs. answered (min (length bs) 65536)) ≡ answered n → Sized n
+      go : (b : Bool) → fine_all t xs ≡ b → answered n ≡ then (only b (raw_all t xs)) (λ bs. answered (min (length bs) 65536)) → Sized n
       go true f g = record { fine = f; held = cc }
       go false f g = let z : ◌≡◌ {A = ℕ} 0 1 = cc in absurd (omega arith)
 
@@ -69,6 +67,11 @@ short bs n e h =
 
 -- the ways out
 module _ (b : Encoded) (s : List ℕ) (p : ℕ) where
+  -- a refusal that is passed on
+  pub refuse-by : (n : ℕ) (d : List ℕ) → b ≡ refused n d → (r : Answer ℕ) → r ≡ refused n d → Writes s (lay (record_bytes b) s p) r s
+  unfolding lay record_bytes
+  refuse-by n d e r f = rw (e, f) (record { answer = refl; left = refl })
+
   pub refuse-bad : b ≡ bad → Writes s (lay (record_bytes b) s p) (refused 17 []) s
   unfolding lay record_bytes
   refuse-bad e = rw e (record { answer = refl; left = refl })
@@ -99,9 +102,9 @@ module _ (b : Encoded) (s : List ℕ) (p : ℕ) where
 -- Without a length field ----------------------------------------------------------------------------------------------------------
 
 module _ (b : Encoded) (s : List ℕ) (p : ℕ) where
-  pub limited-bad : b ≡ bad → Writes s (lay (limited b) s p) (refused 17 []) s
+  pub limited-bad : (n : ℕ) (d : List ℕ) → b ≡ refused n d → Writes s (lay (limited b) s p) (refused n d) s
   unfolding lay limited
-  limited-bad e = rw e (record { answer = refl; left = refl })
+  limited-bad n d e = rw e (record { answer = refl; left = refl })
 
   module _ (bs : List ℕ) (e : b ≡ answered bs) where
     pub limited-long : 65535 < length bs → Writes s (lay (limited b) s p) (refused 18 []) s
@@ -115,6 +118,15 @@ module _ (b : Encoded) (s : List ℕ) (p : ℕ) where
     pub limited-laid : (r : ℕ) (s' : List ℕ) → length bs ≤ 65535 → p + length bs ≤ length s → Puts s p bs r s' → Writes s (lay (limited b) s p) (answered r) s'
     unfolding lay limited
     limited-laid r s' h k w = rw (e, le-ltb _ _ h, le-ltb _ _ k) (record { answer = ap answered w.next; left = w.left })
+
+-- pieces that were refused, as they are and filled by pad bytes
+module _ (t : List ℕ) (xs : List Piece) (s : List ℕ) (p n : ℕ) (d : List ℕ) (e : refused n d ≡ then (pieces_of t xs) (λ bs. answered (min (length bs) 65536))) (r : Answer ℕ) (f : r ≡ refused n d) where
+  pub plain-bad : Writes s (lay (limited (pieces_of t xs)) s p) r s
+  plain-bad = rw f (limited-bad (pieces_of t xs) s p n d (measured-bad t xs n d e))
+
+  pub filled-bad : Writes s (lay (limited (filled_each (pieces_of t xs))) s p) r s
+  unfolding filled_each
+  filled-bad = rw f (limited-bad (filled_each (pieces_of t xs)) s p n d (rw (measured-bad t xs n d e)))
 
 -- pieces as they are, that were measured as n
 module _ (t : List ℕ) (xs : List Piece) (s : List ℕ) (p n : ℕ) (z : Sized t xs n) where
@@ -135,10 +147,6 @@ module _ (t : List ℕ) (xs : List Piece) (s : List ℕ) (p n : ℕ) (z : Sized 
     plain_done k r s' w = limited-laid _ s p (raw_all t xs) (pieces_are t xs z.fine) r s' (omega (arith, plain-same)) (omega (arith, plain-same)) w
 
 -- pieces filled by pad bytes
-pub filled-bad : (b : Encoded) (s : List ℕ) (p : ℕ) → b ≡ bad → Writes s (lay (limited (filled_each b)) s p) (refused 17 []) s
-unfolding filled_each
-filled-bad b s p e = limited-bad (filled_each b) s p (rw e)
-
 pub member-length : (bs : List ℕ) → length (filled_member bs) ≡ length bs + missing (length bs)
 unfolding filled_member
 member-length bs = length-append bs (pads (missing (length bs))) ∙ ap (λ (k : ℕ). length bs + k) (length-pads (missing (length bs)))

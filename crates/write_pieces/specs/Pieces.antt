@@ -1,17 +1,12 @@
 -- What a piece of a record is: the bytes that it stands for, or 17.
 use Rattle.std.specs.Prelude.{ℕ, ◌+◌, Bool, true, false, List, [], ◌∷◌, ◌++◌, length, leb}
-use Rattle.answer.specs.Answer.{Answer, answered, refused, both}
-use Rattle.answer.specs.Refusals.{no}
+use Rattle.answer.specs.Answer.{answered, both}
 use Rattle.field.specs.Bytes.{bytes}
 use Rattle.field_number.specs.Forms.{prefixed}
 use Rattle.write_layout.specs.Runs.{part_at, no_zero, zeros}
 use Rattle.write_layout.specs.Fields.{Encoded, only, and_also}
 use Rattle.write_pieces.specs.declared.Piece.{Piece}
 use Rattle.write_pieces.specs.declared.Piece.TheVariants as piece
-use Rattle.write_pieces.specs.declared.Measure.{Measure}
-use Rattle.write_pieces.specs.declared.Measure.TheVariants as measure
-use Rattle.write_pieces.specs.declared.WriteAnswer.{WriteAnswer}
-use Rattle.write_pieces.specs.declared.WriteAnswer.TheVariants as write
 
 -- the bytes of a piece, where it is fine
 unfoldable pub raw : List ℕ → Piece → List ℕ
@@ -58,12 +53,3 @@ fine_all t (x ∷ xs) = both (fine t x) (fine_all t xs)
 unfoldable pub raw_all : List ℕ → List Piece → List ℕ
 raw_all t [] = []
 raw_all t (x ∷ xs) = raw t x ++ raw_all t xs
-
--- what the answers say
-abbrev pub said_measure : Measure → Answer ℕ
-said_measure (measure.Size n) = answered n
-said_measure measure.Bad = refused 17 []
-
-abbrev pub said_write : WriteAnswer → Answer ℕ
-said_write (write.Written p) = answered p
-said_write (write.Refused e) = no e

@@ -13,7 +13,8 @@ ghost use Rattle.write_layout.specs.Runs.{part_at, no_zero, pads, zeros};
 ghost use Rattle.write_layout.specs.Records.{missing, limited};
 ghost use Rattle.write_layout.specs.Lists.{filled_each};
 ghost use Rattle.write_layout.specs.Buffer.{lay, Writes};
-ghost use Rattle.write_pieces.specs.Pieces.{raw, fine, raw_all, fine_all, piece_of, pieces_of, said_measure, said_write};
+ghost use Rattle.write_pieces.specs.Pieces.{raw, fine, raw_all, fine_all, piece_of, pieces_of};
+ghost use Rattle.answer.specs.Refusals.{itself, said};
 
 use answer::Refusal;
 
@@ -36,22 +37,6 @@ pub enum Piece {
     // So many bytes of the text from this place on.
     Run(usize, usize),
     Zeros(u16),
-}
-
-// How many bytes pieces take, held at 65,536, or that one of them is bad: 17.
-#[derive(Clone, Copy)]
-pub enum Measure {
-    Size(usize),
-    Bad,
-}
-
-// What every writer answers.
-#[derive(Clone, Copy)]
-pub enum WriteAnswer {
-    // The place after what was written.
-    Written(usize),
-    // The buffer is as it was.
-    Refused(Refusal),
 }
 
 // Numbers of 1, 2 and 4 bytes, where there is room for them.
@@ -124,16 +109,9 @@ fn put_part(text: &[u8], q: usize, n: usize, out: &mut [u8], p: usize) -> usize
     requires { (q + n ≤ length text.now) × (Room out.old p (part_at text.now q n)) }
     ensures { Puts out.old p (part_at text.now q n) result out.new }
 {
-    let mut from = q;
-    let mut to = p;
-    let mut left = n;
-    while 0 < left {
-        out[to] = text[from];
-        from += 1;
-        to += 1;
-        left -= 1;
-    }
-    to
+    let end = p + n;
+    out[p..end].copy_from_slice(&text[q..q + n]);
+    end
 }
 
 // The same, and a zero byte.
@@ -149,28 +127,18 @@ fn put_zeros(out: &mut [u8], p: usize, n: u16) -> usize
     requires { Room out.old p (zeros n) }
     ensures { Puts out.old p (zeros n) result out.new }
 {
-    let mut to = p;
-    let mut left = n;
-    while 0 < left {
-        out[to] = 0;
-        to += 1;
-        left -= 1;
-    }
-    to
+    let end = p + n as usize;
+    out[p..end].fill(0);
+    end
 }
 
 fn put_pads(out: &mut [u8], p: usize, n: u8) -> usize
     requires { (n ≤ 3) × (Room out.old p (pads n)) }
     ensures { Puts out.old p (pads n) result out.new }
 {
-    let mut to = p;
-    let mut left = n;
-    while 0 < left {
-        out[to] = 240 + left;
-        to += 1;
-        left -= 1;
-    }
-    to
+    let end = p + n as usize;
+    out[p..end].copy_from_slice(&[0xf3, 0xf2, 0xf1][3 - n as usize..]);
+    end
 }
 
 // Whether none of these n bytes is zero.
@@ -178,54 +146,36 @@ fn no_zero(text: &[u8], q: usize, n: usize) -> bool
     requires { q + n ≤ length text.now }
     ensures { result ≡ no_zero (part_at text.now q n) }
 {
-    let mut from = q;
-    let mut left = n;
-    while 0 < left {
-        if text[from] == 0 {
-            return false;
-        }
-        from += 1;
-        left -= 1;
-    }
-    true
+    !text[q..q + n].contains(&0)
 }
 
 // How many bytes a piece takes.
-fn size_of(text: &[u8], x: Piece) -> Measure
-    ensures { said_measure result ≡ then (piece_of text.now x) (λ bs. answered (length bs)) }
+fn size_of(text: &[u8], x: Piece) -> Result<usize, Refusal>
+    ensures { said itself result ≡ then (piece_of text.now x) (λ bs. answered (length bs)) }
 {
     match x {
-        Piece::Nothing => Measure::Size(0),
-        Piece::Bad => Measure::Bad,
-        Piece::Byte(_) => Measure::Size(1),
-        Piece::Half(_) => Measure::Size(2),
-        Piece::Word(_) => Measure::Size(4),
-        Piece::Wide8(_, _) => Measure::Size(3),
-        Piece::Wide16(_, _) => Measure::Size(4),
-        Piece::Wide32(_, _) => Measure::Size(6),
-        Piece::Wide64(_, _) => Measure::Size(10),
+        Piece::Nothing => Ok(0),
+        Piece::Bad => Err(Refusal::WouldNotReadBack),
+        Piece::Byte(_) => Ok(1),
+        Piece::Half(_) => Ok(2),
+        Piece::Word(_) => Ok(4),
+        Piece::Wide8(_, _) => Ok(3),
+        Piece::Wide16(_, _) => Ok(4),
+        Piece::Wide32(_, _) => Ok(6),
+        Piece::Wide64(_, _) => Ok(10),
         Piece::Text(p, n) => {
-            if text.len() < p {
-                return Measure::Bad;
+            if text.len() < p || text.len() - p < n || !no_zero(text, p, n) {
+                return Err(Refusal::WouldNotReadBack);
             }
-            if text.len() - p < n {
-                return Measure::Bad;
-            }
-            if no_zero(text, p, n) {
-                return Measure::Size(n + 1);
-            }
-            Measure::Bad
+            Ok(n + 1)
         }
         Piece::Run(p, n) => {
-            if text.len() < p {
-                return Measure::Bad;
+            if text.len() < p || text.len() - p < n {
+                return Err(Refusal::WouldNotReadBack);
             }
-            if text.len() - p < n {
-                return Measure::Bad;
-            }
-            Measure::Size(n)
+            Ok(n)
         }
-        Piece::Zeros(n) => Measure::Size(n as usize),
+        Piece::Zeros(n) => Ok(n as usize),
     }
 }
 
@@ -264,20 +214,15 @@ pub fn capped_sum(n: usize, k: usize) -> usize
 }
 
 // How many bytes the pieces take, held at 65,536.
-pub fn measured(text: &[u8], xs: [Piece; 16]) -> Measure
-    ensures { said_measure result ≡ then (pieces_of text.now xs) (λ bs. answered (min (length bs) 65536)) }
+pub fn measured(text: &[u8], xs: [Piece; 16]) -> Result<usize, Refusal>
+    ensures { said itself result ≡ then (pieces_of text.now xs) (λ bs. answered (min (length bs) 65536)) }
 {
     let mut n = 0;
-    let mut i = 0;
-    while i < 16 {
-        let x = xs[i];
-        let Measure::Size(k) = size_of(text, x) else {
-            return Measure::Bad;
-        };
+    for x in xs {
+        let k = size_of(text, x)?;
         n = capped_sum(n, k);
-        i += 1;
     }
-    Measure::Size(n)
+    Ok(n)
 }
 
 // The pieces, where they are fine and there is room for them; the place after them.
@@ -286,11 +231,8 @@ fn put_pieces(text: &[u8], xs: [Piece; 16], out: &mut [u8], p: usize) -> usize
     ensures { Puts out.old p (raw_all text.now xs) result out.new }
 {
     let mut to = p;
-    let mut i = 0;
-    while i < 16 {
-        let x = xs[i];
+    for x in xs {
         to = put_piece(text, x, out, to);
-        i += 1;
     }
     to
 }
@@ -313,43 +255,47 @@ fn put_filled(text: &[u8], xs: [Piece; 16], out: &mut [u8], p: usize, pad: u8) -
 }
 
 // The pieces as they are, without a length and pad bytes. 17, 18 and 19 before the first byte is written.
-pub fn write_plain(text: &[u8], xs: [Piece; 16], out: &mut [u8], at: usize) -> WriteAnswer
-    ensures { Writes out.old (lay (limited (pieces_of text.now xs)) out.old at) (said_write result) out.new }
+pub fn write_plain(
+    text: &[u8],
+    xs: [Piece; 16],
+    out: &mut [u8],
+    at: usize,
+) -> Result<usize, Refusal>
+    ensures { Writes out.old (lay (limited (pieces_of text.now xs)) out.old at) (said itself result) out.new }
 {
-    let Measure::Size(n) = measured(text, xs) else {
-        return WriteAnswer::Refused(Refusal::WouldNotReadBack);
-    };
+    let n = measured(text, xs)?;
     if 65535 < n {
-        return WriteAnswer::Refused(Refusal::RecordTooLong);
+        return Err(Refusal::RecordTooLong);
     }
     if out.len() < at {
-        return WriteAnswer::Refused(Refusal::NoRoom);
+        return Err(Refusal::NoRoom);
     }
     if out.len() - at < n {
-        return WriteAnswer::Refused(Refusal::NoRoom);
+        return Err(Refusal::NoRoom);
     }
-    let e = put_pieces(text, xs, out, at);
-    WriteAnswer::Written(e)
+    Ok(put_pieces(text, xs, out, at))
 }
 
 // The pieces and pad bytes that fill them to a multiple of four, without a length: a member of a field list.
-pub fn write_filled(text: &[u8], xs: [Piece; 16], out: &mut [u8], at: usize) -> WriteAnswer
-    ensures { Writes out.old (lay (limited (filled_each (pieces_of text.now xs))) out.old at) (said_write result) out.new }
+pub fn write_filled(
+    text: &[u8],
+    xs: [Piece; 16],
+    out: &mut [u8],
+    at: usize,
+) -> Result<usize, Refusal>
+    ensures { Writes out.old (lay (limited (filled_each (pieces_of text.now xs))) out.old at) (said itself result) out.new }
 {
-    let Measure::Size(n) = measured(text, xs) else {
-        return WriteAnswer::Refused(Refusal::WouldNotReadBack);
-    };
+    let n = measured(text, xs)?;
     let pad = pad_count(n);
     let length = n + (pad as usize);
     if 65535 < length {
-        return WriteAnswer::Refused(Refusal::RecordTooLong);
+        return Err(Refusal::RecordTooLong);
     }
     if out.len() < at {
-        return WriteAnswer::Refused(Refusal::NoRoom);
+        return Err(Refusal::NoRoom);
     }
     if out.len() - at < length {
-        return WriteAnswer::Refused(Refusal::NoRoom);
+        return Err(Refusal::NoRoom);
     }
-    let e = put_filled(text, xs, out, at, pad);
-    WriteAnswer::Written(e)
+    Ok(put_filled(text, xs, out, at, pad))
 }

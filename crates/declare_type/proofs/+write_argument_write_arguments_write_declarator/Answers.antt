@@ -9,28 +9,28 @@ use Rattle.declare_type.proofs.ArgumentLaws.{never-refused, void-room, void-puts
 use Rattle.declare_type.proofs.+write_argument_write_arguments_write_declarator.Goals as goal
 
 pub write_argument-overflow_add-m : goal.write_argument-overflow_add-m
-write_argument-overflow_add-m t c = omega (arith, argument-fits _ _ _ c.requires _ _ (rw c.start-around.ensures at (sym c.in-Fits.is ∙ c.measure_declarator.ensures)), c.well_formed.1.1.1.1.1.0.0)
+write_argument-overflow_add-m t c = omega (arith, argument-fits _ _ _ c.requires _ _ (rw c.start-around.ensures at (sym c.in-Ok.is ∙ c.measure_declarator.ensures)), c.well_formed.1.1.1.1.1.0.0)
 
 pub write_argument-write_declarator-requires : goal.write_argument-write_declarator-requires
-write_argument-write_declarator-requires t c = (omega (arith, c.decreases), rw c.start-around.ensures (argument-sides _ _ _ c.requires _ _ (rw c.start-around.ensures at (sym c.in-Fits.is ∙ c.measure_declarator.ensures))))
+write_argument-write_declarator-requires t c = (omega (arith, c.decreases), rw c.start-around.ensures (argument-sides _ _ _ c.requires _ _ (rw c.start-around.ensures at (sym c.in-Ok.is ∙ c.measure_declarator.ensures))))
 
-pub write_argument-returns-in-Fits : goal.write_argument-returns-in-Fits
-write_argument-returns-in-Fits t c = argument-puts _ _ _ c.requires _ _ _ _ (rw c.start-around.ensures at (sym c.in-Fits.is ∙ c.measure_declarator.ensures)) (rw c.start-around.ensures at c.write_declarator.ensures)
+pub write_argument-returns-in-Ok : goal.write_argument-returns-in-Ok
+write_argument-returns-in-Ok t c = argument-puts _ _ _ c.requires _ _ _ _ (rw c.start-around.ensures at (sym c.in-Ok.is ∙ c.measure_declarator.ensures)) (rw c.start-around.ensures at c.write_declarator.ensures)
 
-pub write_argument-returns-in-Refused : goal.write_argument-returns-in-Refused
-write_argument-returns-in-Refused t c = argument-never _ _ _ c.requires _ (rw c.start-around.ensures at (sym c.in-Refused.is ∙ c.measure_declarator.ensures))
+pub write_argument-returns-in-Err : goal.write_argument-returns-in-Err
+write_argument-returns-in-Err t c = argument-never _ _ _ c.requires _ (rw c.start-around.ensures at (sym c.in-Err.is ∙ c.measure_declarator.ensures))
 
 pub write_arguments-write_token-requires : goal.write_arguments-write_token-requires
-write_arguments-write_token-requires t c = void-room (λ j. walk c.args.s.now (state c.args.f c.args.t.now) c.args.d j around_first) _ _ _ _ _ _ c.list_of.ensures.0 c.requires _ _ c.in-At.is c.if-n-eq0.true
+write_arguments-write_token-requires t c = void-room (λ j. walk c.args.s.now (state c.args.f c.args.t.now) c.args.d j around_first) _ _ _ _ _ _ c.list_of.ensures.0 c.requires _ _ c.in-Ok.is c.if-n-eq0.true
 
 pub write_arguments-returns-then-n-eq0 : goal.write_arguments-returns-then-n-eq0
-write_arguments-returns-then-n-eq0 t c = void-puts (λ j. walk c.args.s.now (state c.args.f c.args.t.now) c.args.d j around_first) _ _ _ _ _ _ c.list_of.ensures.0 c.requires _ _ c.in-At.is _ _ c.if-n-eq0.true c.write_token.ensures
+write_arguments-returns-then-n-eq0 t c = void-puts (λ j. walk c.args.s.now (state c.args.f c.args.t.now) c.args.d j around_first) _ _ _ _ _ _ c.list_of.ensures.0 c.requires _ _ c.in-Ok.is _ _ c.if-n-eq0.true c.write_token.ensures
 
 pub write_arguments-write_argument-e-requires : goal.write_arguments-write_argument-e-requires
-write_arguments-write_argument-e-requires t c = (omega (arith, c.decreases), rw c.index_at-first.ensures (argument-room (λ j. walk c.args.s.now (state c.args.f c.args.t.now) c.args.d j around_first) _ _ _ _ _ _ c.list_of.ensures.0 c.requires _ _ c.in-At.is (omega arith)))
+write_arguments-write_argument-e-requires t c = (omega (arith, c.decreases), rw c.index_at-first.ensures (argument-room (λ j. walk c.args.s.now (state c.args.f c.args.t.now) c.args.d j around_first) _ _ _ _ _ _ c.list_of.ensures.0 c.requires _ _ c.in-Ok.is (omega arith)))
 
 pub write_arguments-loop-left-init : goal.write_arguments-loop-left-init
-write_arguments-loop-left-init t c = (omega (arith, (rw c.in-At.is at c.list_of.ensures.1)), argument-rest (λ j. walk c.args.s.now (state c.args.f c.args.t.now) c.args.d j around_first) _ _ _ _ _ _ c.list_of.ensures.0 c.requires _ _ c.in-At.is _ _ (omega arith) (rw c.index_at-first.ensures at c.write_argument-e.ensures))
+write_arguments-loop-left-init t c = (omega (arith, (rw c.in-Ok.is at c.list_of.ensures.1)), argument-rest (λ j. walk c.args.s.now (state c.args.f c.args.t.now) c.args.d j around_first) _ _ _ _ _ _ c.list_of.ensures.0 c.requires _ _ c.in-Ok.is _ _ (omega arith) (rw c.index_at-first.ensures at c.write_argument-e.ensures))
 
 pub write_arguments-write_token-k-requires : goal.write_arguments-write_token-k-requires
 write_arguments-write_token-k-requires t c = comma-fits (λ j. walk c.args.s.now (state c.args.f c.args.t.now) c.args.d j around_first) _ _ _ _ _ _ _ _ c.loop-left.invariant.1 (omega arith)
@@ -41,11 +41,11 @@ write_arguments-write_argument-e-requires-in-loop-left t c = (omega (arith, c.de
 pub write_arguments-loop-left-preserved : goal.write_arguments-loop-left-preserved
 write_arguments-loop-left-preserved t c = (omega arith, next-rest (λ j. walk c.args.s.now (state c.args.f c.args.t.now) c.args.d j around_first) _ _ _ _ _ _ _ _ c.loop-left.invariant.1 _ _ _ _ (omega arith) c.write_token-k.ensures (rw c.index_at-next.ensures at c.write_argument-e-in-loop-left.ensures))
 
-pub write_arguments-returns-in-At : goal.write_arguments-returns-in-At
-write_arguments-returns-in-At t c = argument-all (λ j. walk c.args.s.now (state c.args.f c.args.t.now) c.args.d j around_first) _ _ _ _ _ _ c.list_of.ensures.0 c.requires _ _ c.in-At.is _ _ (omega arith) (rw c.index_at-first.ensures at c.write_argument-e.ensures) _ _ (rest_all (λ j. walk c.args.s.now (state c.args.f c.args.t.now) c.args.d j around_first) _ _ _ _ _ _ _ _ c.loop-left.invariant.1 (omega arith))
+pub write_arguments-returns-in-Ok : goal.write_arguments-returns-in-Ok
+write_arguments-returns-in-Ok t c = argument-all (λ j. walk c.args.s.now (state c.args.f c.args.t.now) c.args.d j around_first) _ _ _ _ _ _ c.list_of.ensures.0 c.requires _ _ c.in-Ok.is _ _ (omega arith) (rw c.index_at-first.ensures at c.write_argument-e.ensures) _ _ (rest_all (λ j. walk c.args.s.now (state c.args.f c.args.t.now) c.args.d j around_first) _ _ _ _ _ _ _ _ c.loop-left.invariant.1 (omega arith))
 
-pub write_arguments-returns-in-Refused : goal.write_arguments-returns-in-Refused
-write_arguments-returns-in-Refused t c = never-refused (λ j. walk c.args.s.now (state c.args.f c.args.t.now) c.args.d j around_first) _ _ _ _ _ _ c.list_of.ensures.0 c.requires _ c.in-Refused.is
+pub write_arguments-returns-in-Err : goal.write_arguments-returns-in-Err
+write_arguments-returns-in-Err t c = never-refused (λ j. walk c.args.s.now (state c.args.f c.args.t.now) c.args.d j around_first) _ _ _ _ _ _ c.list_of.ensures.0 c.requires _ c.in-Err.is
 
 pub write_declarator-returns-then-d-eq0 : goal.write_declarator-returns-then-d-eq0
 write_declarator-returns-then-d-eq0 t c = no_room _ _ _ _ _ _ (deep-eq _ _ c.args.d _ _ c.if-d-eq0.true) c.requires

@@ -1,22 +1,22 @@
 -- `stream_drop::drop` meets its contract: the header's refusals, 29, and then those of a fit stream. Assumes nothing.
+use Rattle.std.specs.Prelude.{Ok}
+use mathlib.Core.Path.{refl, ap, sym, ◌∙◌}
 use Rattle.answer.proofs.Told.{told}
-use Rattle.stream_header.specs.Header.{said_header}
-use Rattle.stream_item.specs.Iterator.{said_iter}
 use Rattle.stream_fit.specs.Fit.{said_fit}
 use Rattle.stream_drop.proofs.DropLaws.{by-header, by-iter, by-fit, not-fit, by-yes}
 use Rattle.stream_drop.proofs.drop.Goals as goal
 
-pub returns-in-Refused : goal.returns-in-Refused
-returns-in-Refused c = by-header _ _ _ _ _ (told said_header c.parse.ensures c.in-Refused.is)
+pub returns-in_err-h : goal.returns-in_err-h
+returns-in_err-h c = by-header _ _ _ _ _ _ c.in_err-h.ensures c.from_residual.ensures.1
 
-pub returns-in-Refused-iter : goal.returns-in-Refused-iter
-returns-in-Refused-iter c = by-iter _ _ _ _ _ (told said_header c.parse.ensures c.in-Answered.is) _ (told said_iter c.iter.ensures c.in-Refused-iter.is)
+pub returns-in_err-c : goal.returns-in_err-c
+returns-in_err-c c = by-iter _ _ _ _ _ _ c.in_ok-h.ensures _ c.in_err-c.ensures c.from_residual-in_err-c.ensures.1
 
-pub returns-in-Refused-fit : goal.returns-in-Refused-fit
-returns-in-Refused-fit c = by-fit _ _ _ _ _ (told said_header c.parse.ensures c.in-Answered.is) _ (told said_iter c.iter.ensures c.in-Answered-iter.is) _ (told said_fit c.fit.ensures c.in-Refused-fit.is)
+pub returns-in_err-fit : goal.returns-in_err-fit
+returns-in_err-fit c = by-fit _ _ _ _ _ _ c.in_ok-h.ensures _ c.in_ok-c.ensures _ c.in_err-fit.ensures c.from_residual-in_err-fit.ensures.1
 
-pub returns-in-No : goal.returns-in-No
-returns-in-No c = not-fit _ _ _ _ _ (told said_header c.parse.ensures c.in-Answered.is) _ (told said_iter c.iter.ensures c.in-Answered-iter.is) _ _ (told said_fit c.fit.ensures c.in-No.is)
+pub returns-in-Unfit : goal.returns-in-Unfit
+returns-in-Unfit c = not-fit _ _ _ _ _ _ c.in_ok-h.ensures _ c.in_ok-c.ensures _ _ (sym (told said_fit c.fit.ensures (c.in_ok-fit.was ∙ ap Ok c.in-Unfit.is))) refl
 
-pub returns-in-Yes : goal.returns-in-Yes
-returns-in-Yes c = by-yes _ _ _ _ _ (told said_header c.parse.ensures c.in-Answered.is) _ (told said_iter c.iter.ensures c.in-Answered-iter.is) (told said_fit c.fit.ensures c.in-Yes.is) _ _ _ c.dropped.ensures
+pub returns-in-Fit : goal.returns-in-Fit
+returns-in-Fit c = by-yes _ _ _ _ _ _ c.in_ok-h.ensures _ c.in_ok-c.ensures (sym (told said_fit c.fit.ensures (c.in_ok-fit.was ∙ ap Ok c.in-Fit.is))) _ _ c.dropped.ensures

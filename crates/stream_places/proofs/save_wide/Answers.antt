@@ -1,9 +1,6 @@
--- `stream_places::save_wide` meets its contract: the header's own answer, or the file written by it in the form that holds the places. Assumes nothing.
-use mathlib.Core.Path.{refl}
-use Rattle.answer.proofs.Told.{told}
-use Rattle.stream_header.specs.Header.{said_header}
-use Rattle.stream_places.proofs.PlacesLaws.{save-header, saves}
+-- `stream_places::save_wide` meets its contract where the header is refused. Assumes nothing.
+use Rattle.stream_places.proofs.PlacesLaws.{save-refused}
 use Rattle.stream_places.proofs.save_wide.Goals as goal
 
-pub returns-in-Refused : goal.returns-in-Refused
-returns-in-Refused c = saves _ _ _ _ _ (save-header _ _ _ _ _ (told said_header c.parse.ensures c.in-Refused.is)) refl refl
+pub returns-in_err-h : goal.returns-in_err-h
+returns-in_err-h c = save-refused _ _ _ _ _ _ c.in_err-h.ensures c.from_residual.ensures.1

@@ -1,10 +1,10 @@
--- `write_pieces::no_zero` meets its contract: what is left to look at stands in the invariant. Assumes nothing.
-use Rattle.write_layout.proofs.RunLaws.{part_none}
-use mathlib.Core.Path.{◌≡◌, ◌∙◌, sym}
-use native.Mathlib.Omega.{arith}
-use Rattle.write_layout.specs.Runs.{no_zero}
+-- `write_pieces::no_zero` meets its contract: the test of the part, in the words of the definition. Assumes nothing.
+use Prim.Native.Nat.{◌+◌}
+use mathlib.Core.Path.{refl}
+use Rattle.write_layout.proofs.RunLaws.{none_zero, part-is}
 use Rattle.write_pieces.proofs.no_zero.Goals as goal
 
 pub returns : goal.returns
-unfolding no_zero
-returns c = let z : c.loop-left.left ≡ 0 = omega arith in sym (c.loop-left.invariant.1 ∙ rw (z, part_none, no_zero))
+returns c =
+    let a = c.args in
+    rw (c.contains.ensures.value, none_zero, part-is a.text.now a.q a.n (a.q + a.n) refl)

@@ -11,21 +11,19 @@ use Rattle.write_pieces.proofs.put_pieces.Goals as goal
 pub put_piece-to-requires : goal.put_piece-to-requires
 put_piece-to-requires c =
     let a = c.args in
-    let l = c.loop-i in
-    let h : l.i < length a.xs = omega arith in
-    (fine-head _ _ _ _ h l.invariant.2, room-first _ _ _ _ (rw (raw-cons a.text.now a.xs l.i piece.Nothing h) at l.invariant.3))
+    let l = c.loop-x in
+    let h : l.x-index < length a.xs = omega arith in
+    (fine-head _ _ _ _ h l.invariant.0, room-first _ _ _ _ (rw (raw-cons a.text.now a.xs l.x-index piece.Nothing h) at l.invariant.1))
 
-pub loop-i-preserved : goal.loop-i-preserved
-loop-i-preserved c =
+pub loop-x-preserved : goal.loop-x-preserved
+loop-x-preserved c =
     let a = c.args in
-    let l = c.loop-i in
-    let h : l.i < length a.xs = omega arith in
+    let l = c.loop-x in
+    let h : l.x-index < length a.xs = omega arith in
     let w = c.put_piece-to.ensures in
-    let e = raw-cons a.text.now a.xs l.i piece.Nothing h in (
-      l.invariant.0,
-      omega arith,
-      fine-tail a.text.now a.xs l.i piece.Nothing h l.invariant.2,
-      room_after _ _ _ _ _ _ (rw e at l.invariant.3) w,
-      puts-length _ _ _ _ _ w ∙ l.invariant.4,
-      λ r s v. l.invariant.5 r s (rw e (puts-both _ _ _ _ _ _ _ _ w v)),
+    let e = raw-cons a.text.now a.xs l.x-index piece.Nothing h in (
+      fine-tail a.text.now a.xs l.x-index piece.Nothing h l.invariant.0,
+      room_after _ _ _ _ _ _ (rw e at l.invariant.1) w,
+      puts-length _ _ _ _ _ w ∙ l.invariant.2,
+      λ r s v. l.invariant.3 r s (rw e (puts-both _ _ _ _ _ _ _ _ w v)),
     )

@@ -4,10 +4,10 @@ use Rattle.field.specs.Indices.{said_type}
 use Rattle.declare_type.specs.Nodes.{index_at}
 use Rattle.declare_type.proofs.node.index_at.Goals as goal
 
-pub returns-in-Got : goal.returns-in-Got
+pub returns-in-Ok : goal.returns-in-Ok
 unfolding index_at
-returns-in-Got c = rw (told said_type c.type_at.ensures c.in-Got.is)
+returns-in-Ok c = rw (told said_type c.type_at.ensures c.in-Ok.is)
 
-pub returns-in-Ended : goal.returns-in-Ended
+pub returns-in-Err : goal.returns-in-Err
 unfolding index_at
-returns-in-Ended c = rw (told said_type c.type_at.ensures c.in-Ended.is)
+returns-in-Err c = rw (told said_type c.type_at.ensures c.in-Err.is)

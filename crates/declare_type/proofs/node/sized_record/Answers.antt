@@ -1,6 +1,5 @@
 -- `declare_type::node::sized_record` meets its contract. Assumes nothing.
 use Rattle.answer.proofs.Told.{told}
-use Rattle.word_attributes.specs.Said.{said_pointer_size}
 use mathlib.Core.Path.{refl}
 use mathlib.Core.List.{[], ◌∷◌}
 use Rattle.answer.specs.Tables.{find, among}
@@ -9,6 +8,7 @@ use Rattle.declare_type.proofs.NodeLaws.{class-size}
 use Rattle.record_data.proofs.Tags.{leaf_tags, not-leaf}
 use borrow.Enum.Refused.{opened}
 use Rattle.declare_type.proofs.node.sized_record.Goals as goal
+use Rattle.answer.specs.Refusals.{itself, said}
 
 pub returns-in-Class : goal.returns-in-Class
 returns-in-Class c = rw c.in-Class.is (class-size c.in-Class.r.kind c.in-Class.r)
@@ -29,13 +29,13 @@ pub returns-in-Enumeration : goal.returns-in-Enumeration
 unfolding sized_in among classes
 returns-in-Enumeration c = rw c.in-Enumeration.is
 
-pub returns-in-Answered : goal.returns-in-Answered
+pub returns-in-Ok : goal.returns-in-Ok
 unfolding sized_in among classes
-returns-in-Answered c = rw (c.in-Pointer.is, told said_pointer_size c.size.ensures c.in-Answered.is)
+returns-in-Ok c = rw (c.in-Pointer.is, told (said itself) c.size.ensures c.in-Ok.is)
 
-pub returns-in-Refused : goal.returns-in-Refused
+pub returns-in-Err : goal.returns-in-Err
 unfolding sized_in among classes
-returns-in-Refused c = rw (c.in-Pointer.is, told said_pointer_size c.size.ensures c.in-Refused.is)
+returns-in-Err c = rw (c.in-Pointer.is, told (said itself) c.size.ensures c.in-Err.is)
 
 pub returns-in_default : goal.returns-in_default
 unfolding find sized_in among classes leaf_tags

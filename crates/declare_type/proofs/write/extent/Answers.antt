@@ -2,5 +2,5 @@
 use Rattle.declare_type.proofs.TokenPutLaws.{puts_none}
 use Rattle.declare_type.proofs.write.extent.Goals as goal
 
-pub returns-in-Unknown : goal.returns-in-Unknown
-returns-in-Unknown c = rw c.in-Unknown.is (puts_none _ _)
+pub returns-in-None : goal.returns-in-None
+returns-in-None c = rw c.in-None.is (puts_none _ _)

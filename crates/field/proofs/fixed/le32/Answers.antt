@@ -1,7 +1,0 @@
--- `field::fixed::le32` meets its contract: the two halves make the whole. Assumes nothing.
-use borrow.Author.Rules.{rules}
-use Rattle.field.proofs.FieldLaws.{halves}
-use Rattle.field.proofs.fixed.le32.Goals as goal
-
-pub returns : goal.returns
-returns c = halves 2 _ _ _ _ (search rules) (search rules)

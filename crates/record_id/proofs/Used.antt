@@ -1,5 +1,0 @@
--- What the proofs of this crate cite, by one name. Assumes nothing.
-use Rattle.answer.proofs.Told.{told}
-use borrow.Author.Tests.{ne_eqb}
-
-pub ruleset laws = (ne_eqb, told)
