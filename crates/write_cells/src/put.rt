@@ -82,9 +82,10 @@ fn put_part(text: &[u8], q: usize, n: usize, out: &mut [u8], p: usize) -> usize
     requires { (q + n ≤ length text.now) × (Room out.old p (part_at text.now q n)) }
     ensures { Puts out.old p (part_at text.now q n) result out.new }
 {
-    let end = p + n;
-    out[p..end].copy_from_slice(&text[q..q + n]);
-    end
+    for i in 0..n {
+        out[p + i] = text[q + i];
+    }
+    p + n
 }
 
 // The same, and a zero byte.
@@ -109,9 +110,10 @@ pub fn put_pads(out: &mut [u8], p: usize, n: u8) -> usize
     requires { (n ≤ 3) × (Room out.old p (pads n)) }
     ensures { Puts out.old p (pads n) result out.new }
 {
-    let end = p + n as usize;
-    out[p..end].copy_from_slice(&[0xf3, 0xf2, 0xf1][3 - n as usize..]);
-    end
+    for i in 0..n {
+        out[p + i as usize] = 240 + (n - i);
+    }
+    p + n as usize
 }
 
 // Whether none of these n bytes is zero.

@@ -1,18 +1,27 @@
--- Laws of runs of bytes: their lengths, and what the code that writes or looks at one has done. Assumes nothing.
-use Prim.Native.Nat.{ℕ, zero, suc, ◌+◌, ◌-◌, ◌≤◌}
+-- Laws of runs of bytes: their lengths, a turn of each loop that writes one, and what the code that fills or looks at one has done. Assumes nothing.
+use Prim.Native.Nat.{ℕ, zero, suc, ◌+◌, ◌-◌, ◌≤◌, ◌<◌}
 use native.Mathlib.Omega.{arith}
+use native.Mathlib.Numerals.{add-one}
 use mathlib.Core.Bool.{false, not}
 use mathlib.Core.Path.{◌≡◌, refl, ap}
 use mathlib.Core.List.{List, [], ◌∷◌, append_assoc}
 use borrow.Rule.Slice.PartMut.{put_mid}
-use lib.ListN.{length, take, drop, replicate, length-drop}
-use lib.Seq.{drop-drop, length-take-le}
+use lib.ListN.{length, get_or, set, take, drop, replicate, length-drop}
+use lib.Seq.{drop-cons, drop-drop, length-take-le}
 use borrow.Author.Tests.{ne_eqb}
 use Rattle.std.specs.List.{list_any}
 use Rattle.std.specs.Prelude.{nat_eq}
 use Rattle.field_put.specs.Bytes.{put}
 use Rattle.field_put.proofs.PutLaws.{put_is}
 use Rattle.write_layout.specs.Runs.{part_at, no_zero, pads, zeros}
+
+pub part_none : (t : List ℕ) (p : ℕ) → part_at t p 0 ≡ []
+unfolding part_at
+part_none t p = refl
+
+pub part-cons : (t : List ℕ) (p n : ℕ) → p < length t → part_at t p (suc n) ≡ get_or t p 0 ∷ part_at t (p + 1) n
+unfolding part_at
+part-cons t p n h = rw (add-one, drop-cons t p 0)
 
 pub part_length : (t : List ℕ) (p n : ℕ) → p + n ≤ length t → length (part_at t p n) ≡ n
 unfolding part_at
@@ -27,6 +36,20 @@ pub length-zeros : (k : ℕ) → length (zeros k) ≡ k
 unfolding zeros
 length-zeros zero = refl
 length-zeros (suc k) = ap suc (length-zeros k)
+
+-- a turn of each loop: n is what is left to do
+module _ (s : List ℕ) (p : ℕ) where
+  pub copy-turn : (t : List ℕ) (q n : ℕ) → 0 < n → q + n ≤ length t → put s p (part_at t q n) ≡ put (set s p (get_or t q 0)) (p + 1) (part_at t (q + 1) (n - 1))
+  unfolding put
+  copy-turn t q zero h k = absurd (omega arith)
+  copy-turn t q (suc n) h k =
+      let e : suc n - 1 ≡ n = omega arith in
+      rw (part-cons t q n (omega arith), e)
+
+  pub pad-turn : (n : ℕ) → 0 < n → put s p (pads n) ≡ put (set s p (240 + n)) (p + 1) (pads (n - 1))
+  unfolding put pads
+  pad-turn zero h = absurd (omega arith)
+  pad-turn (suc n) h = let e : suc n - 1 ≡ n = omega arith in rw e
 
 -- bytes that were copied into a part of a buffer, and a part that was filled
 pub mid-put : (s : List ℕ) (p k : ℕ) (bs : List ℕ) → length bs ≡ k → p + k ≤ length s → put_mid p k s bs ≡ put s p bs
