@@ -231,6 +231,9 @@ fn read_containing_class(
 
 // The fields of each leaf, at the place after it ---------------------------------------------------------------------------
 
+// Each is inlined where leaves are told apart: else their answers meet there, and are packed and taken apart again.
+
+#[inline(always)]
 fn read_modifier(r: &mut Reader<'_>) -> Result<TypeData, Refusal>
     ensures { said type_values result ≡ leaf_of type_leaves 0x1001 r.old.bytes.now r.old.at }
 {
@@ -243,6 +246,7 @@ fn read_modifier(r: &mut Reader<'_>) -> Result<TypeData, Refusal>
 }
 
 // Kind and mode are needed right after the word, before the class is read.
+#[inline(always)]
 fn read_pointer(r: &mut Reader<'_>) -> Result<TypeData, Refusal>
     ensures { said type_values result ≡ leaf_of type_leaves 0x1002 r.old.bytes.now r.old.at }
 {
@@ -258,6 +262,7 @@ fn read_pointer(r: &mut Reader<'_>) -> Result<TypeData, Refusal>
     }))
 }
 
+#[inline(always)]
 fn read_procedure(r: &mut Reader<'_>) -> Result<TypeData, Refusal>
     ensures { said type_values result ≡ leaf_of type_leaves 0x1008 r.old.bytes.now r.old.at }
 {
@@ -273,6 +278,7 @@ fn read_procedure(r: &mut Reader<'_>) -> Result<TypeData, Refusal>
     }))
 }
 
+#[inline(always)]
 fn read_member_function(r: &mut Reader<'_>) -> Result<TypeData, Refusal>
     ensures { said type_values result ≡ leaf_of type_leaves 0x1009 r.old.bytes.now r.old.at }
 {
@@ -294,6 +300,7 @@ fn read_member_function(r: &mut Reader<'_>) -> Result<TypeData, Refusal>
     }))
 }
 
+#[inline(always)]
 fn read_bitfield(r: &mut Reader<'_>) -> Result<TypeData, Refusal>
     ensures { said type_values result ≡ leaf_of type_leaves 0x1205 r.old.bytes.now r.old.at }
 {
@@ -307,6 +314,7 @@ fn read_bitfield(r: &mut Reader<'_>) -> Result<TypeData, Refusal>
     }))
 }
 
+#[inline(always)]
 fn read_array(r: &mut Reader<'_>) -> Result<TypeData, Refusal>
     ensures { said type_values result ≡ leaf_of type_leaves 0x1503 r.old.bytes.now r.old.at }
 {
@@ -335,6 +343,7 @@ fn class_kind(leaf: u16) -> Option<ClassKind>
     }
 }
 
+#[inline(always)]
 fn read_class(r: &mut Reader<'_>, kind: ClassKind) -> Result<TypeData, Refusal>
     requires { Plain kind }
     ensures { said type_values result ≡ class_of (kind_leaf kind) r.old.bytes.now r.old.at }
@@ -361,6 +370,7 @@ fn read_class(r: &mut Reader<'_>, kind: ClassKind) -> Result<TypeData, Refusal>
 }
 
 // The word of 0x1609 is a u32 whose low half is the properties.
+#[inline(always)]
 fn read_structure19(r: &mut Reader<'_>) -> Result<TypeData, Refusal>
     ensures { said type_values result ≡ leaf_of type_leaves 0x1609 r.old.bytes.now r.old.at }
 {
@@ -386,6 +396,7 @@ fn read_structure19(r: &mut Reader<'_>) -> Result<TypeData, Refusal>
     }))
 }
 
+#[inline(always)]
 fn read_union(r: &mut Reader<'_>) -> Result<TypeData, Refusal>
     ensures { said type_values result ≡ leaf_of type_leaves 0x1506 r.old.bytes.now r.old.at }
 {
@@ -405,6 +416,7 @@ fn read_union(r: &mut Reader<'_>) -> Result<TypeData, Refusal>
     }))
 }
 
+#[inline(always)]
 fn read_enumeration(r: &mut Reader<'_>) -> Result<TypeData, Refusal>
     ensures { said type_values result ≡ leaf_of type_leaves 0x1507 r.old.bytes.now r.old.at }
 {
@@ -424,6 +436,7 @@ fn read_enumeration(r: &mut Reader<'_>) -> Result<TypeData, Refusal>
     }))
 }
 
+#[inline(always)]
 fn read_shape(r: &mut Reader<'_>) -> Result<TypeData, Refusal>
     ensures { said type_values result ≡ leaf_of type_leaves 0x000a r.old.bytes.now r.old.at }
 {
@@ -433,6 +446,7 @@ fn read_shape(r: &mut Reader<'_>) -> Result<TypeData, Refusal>
     Ok(TypeData::VirtualTableShape(VirtualTableShapeType { place, count }))
 }
 
+#[inline(always)]
 fn read_arguments(r: &mut Reader<'_>) -> Result<TypeData, Refusal>
     ensures { said type_values result ≡ leaf_of type_leaves 0x1201 r.old.bytes.now r.old.at }
 {

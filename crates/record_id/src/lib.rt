@@ -81,6 +81,7 @@ pub enum IdData {
 }
 
 // The fields of each leaf, at the place after it.
+// Those without a name are inlined where leaves are told apart: else their answers meet there, and are packed and taken apart again.
 
 fn read_function(r: &mut Reader<'_>) -> Result<IdData, Refusal>
     ensures { said id_values result ≡ leaf_of id_leaves 0x1601 r.old.bytes.now r.old.at }
@@ -108,6 +109,7 @@ fn read_member_function(r: &mut Reader<'_>) -> Result<IdData, Refusal>
     }))
 }
 
+#[inline(always)]
 fn read_build_info(r: &mut Reader<'_>) -> Result<IdData, Refusal>
     ensures { said id_values result ≡ leaf_of id_leaves 0x1603 r.old.bytes.now r.old.at }
 {
@@ -117,6 +119,7 @@ fn read_build_info(r: &mut Reader<'_>) -> Result<IdData, Refusal>
     Ok(IdData::BuildInfo(BuildInfoId { place, count }))
 }
 
+#[inline(always)]
 fn read_string_list(r: &mut Reader<'_>) -> Result<IdData, Refusal>
     ensures { said id_values result ≡ leaf_of id_leaves 0x1604 r.old.bytes.now r.old.at }
 {
@@ -134,6 +137,7 @@ fn read_string_id(r: &mut Reader<'_>) -> Result<IdData, Refusal>
     Ok(IdData::String(StringId { substrings, name }))
 }
 
+#[inline(always)]
 fn read_local_source(r: &mut Reader<'_>) -> Result<IdData, Refusal>
     ensures { said id_values result ≡ leaf_of id_leaves 0x1606 r.old.bytes.now r.old.at }
 {
@@ -147,6 +151,7 @@ fn read_local_source(r: &mut Reader<'_>) -> Result<IdData, Refusal>
     }))
 }
 
+#[inline(always)]
 fn read_remote_source(r: &mut Reader<'_>) -> Result<IdData, Refusal>
     ensures { said id_values result ≡ leaf_of id_leaves 0x1607 r.old.bytes.now r.old.at }
 {

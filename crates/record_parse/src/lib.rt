@@ -37,8 +37,9 @@ fn type_marker(i: TypeIndex) -> Result<EntryData, Refusal>
     Err(Refusal::LeafUnknown(0xffff))
 }
 
-// The entry's data, from the stream that it names. Each answer is returned where it is found: an answer is large, and branches that meet
-// would copy it.
+// The entry's data, from the stream that it names. Each answer is returned where it is found, and `parse` is inlined where it is called: an answer is
+// large, and branches that meet would copy it.
+#[inline(always)]
 pub fn parse(tpi: &[u8], ipi: &[u8], entry: Entry) -> Result<EntryData, Refusal>
     ensures { said_parse result ≡ parse_of tpi.now ipi.now entry }
 {
