@@ -2,11 +2,19 @@
 -- earlier one answered; a refused element refuses every later one alike. Assumes nothing.
 use Prim.Native.Nat.{ℕ, zero, suc, ◌+◌, ◌-◌, ◌<◌}
 use native.Mathlib.Omega.{arith}
+use mathlib.Core.Bool.{Bool, true, false}
 use mathlib.Core.Path.{◌≡◌, refl, ap, sym, ◌∙◌}
-use mathlib.Core.List.{List}
+use mathlib.Core.List.{List, [], ◌∷◌}
 use Rattle.answer.specs.Answer.{Answer, answered, refused, then}
+use Rattle.record_layout.specs.Fields.{number}
+use Rattle.record_member.specs.Said.{virtual_leaf}
 use Rattle.record_list.specs.declared.ListCursor.{ListCursor}
-use Rattle.record_list.specs.Lists.{ElementValues, Step, element_by}
+use Rattle.record_list.specs.Lists.{ElementValues, Step, left_after, element_by}
+
+-- a virtual base class does not end a list, direct or not
+pub virtual-goes-on : (direct : Bool) → left_after (number (virtual_leaf direct) ∷ []) ≡ 1
+virtual-goes-on true = refl
+virtual-goes-on false = refl
 
 module _ (step : ListCursor → Answer Step) (c : ListCursor) where
   -- element k + 1 is element k of the step's next cursor

@@ -19,6 +19,28 @@ pub struct ListReader<'a> {
     pub cursor: ListCursor,
 }
 
+// What a step in place leaves as the cursor, and what it answers.
+#[derive(Clone, Copy)]
+pub struct Stepped {
+    pub cursor: ListCursor,
+    pub answer: Result<Element, Refusal>,
+}
+
+fn stepped_at(bytes: &[u8], cursor: ListCursor) -> Stepped
+    ensures { Steps cursor (step_of bytes.now cursor) result.answer result.cursor }
+{
+    match record_list::step(bytes, cursor) {
+        Ok((e, next)) => Stepped {
+            cursor: next,
+            answer: Ok(e),
+        },
+        Err(x) => Stepped {
+            cursor,
+            answer: Err(x),
+        },
+    }
+}
+
 impl<'a> ListReader<'a> {
     // The reader at a cursor; `record_list::start` says where a record's list starts, or why it has none.
     pub fn new(bytes: &'a [u8], cursor: ListCursor) -> ListReader<'a>
@@ -38,9 +60,9 @@ impl<'a> ListReader<'a> {
     pub fn step(&mut self) -> Result<Element, Refusal>
         ensures { Steps self.old.cursor (step_of self.old.bytes.now self.old.cursor) result self.new.cursor × (self.new.bytes ≡ self.old.bytes) }
     {
-        let (e, next) = record_list::step(self.bytes, self.cursor)?;
-        self.cursor = next;
-        Ok(e)
+        let t = stepped_at(self.bytes, self.cursor);
+        self.cursor = t.cursor;
+        t.answer
     }
 }
 
