@@ -1,4 +1,4 @@
--- A contract `said_primitive r ≡ ..` admits one outcome: the answer is read back from what it says. Assumes nothing.
+-- A contract `said itself r ≡ ..` admits one outcome: the answer is read back from what it says. Assumes nothing.
 use Rattle.std.specs.Prelude.{Result}
 use Rattle.answer.specs.declared.Refusal.{Refusal}
 use mathlib.Core.Path.{◌≡◌}

@@ -1,4 +1,4 @@
--- Document 01, "Indices and primitives": what the primitive reader answers for every index, and what its answer enums say.
+-- Document 01, "Indices and primitives": what the primitive reader answers for every index.
 use Rattle.std.specs.Prelude.{Option, None, Some, ℕ, ◌/◌, ◌%◌, ◌^◌, [], ◌∷◌, leb}
 use Rattle.answer.specs.Answer.{Answer, answered, refused, pick}
 use Rattle.answer.specs.Tables.{find}
