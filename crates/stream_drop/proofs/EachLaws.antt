@@ -16,9 +16,10 @@ use Rattle.record_data.specs.Said.{type_values}
 use Rattle.record_data.specs.declared.TypeData.{TypeData}
 use Rattle.record_reference.proofs.OwnLaws.{own-joined}
 use Rattle.record_reference.proofs.ValueLaws.{step-tell}
+use Rattle.record_layout.specs.Fields.{Shown}
 use Rattle.record_layout.specs.Layouts.{type_leaves, record_of}
 use Rattle.record_list.specs.declared.ListCursor.{ListCursor}
-use Rattle.record_list.specs.Lists.{Step, start_of, step_of}
+use Rattle.record_list.specs.Lists.{Step, start_types, start_of, step_of}
 use Rattle.record_reference.specs.References.{Ref, ref, refs_at}
 use Rattle.record_reference.specs.Values.{refs_by, slots_by, slots, joined, element_refs, behind_leaf, or_behind, fields_at}
 use Rattle.record_reference.specs.Said.{said_of_element}
@@ -107,18 +108,22 @@ pub two_fits : (r : ElementReferences) (p size k n m : ℕ) → r ≡ element.Tw
 unfolding Within
 two_fits r p size k n m e h = let w : Within 0 (said_of_element (element.Two k n m) p) size = rw e at h in omega (arith, w.1.1)
 
+-- the references of an element that is read stand inside its payload
+pub element-within : (s : List ℕ) (c : ListCursor) (x : Step) (rs : List Ref) → step_of s c ≡ answered x → rs ≡ refs_at s c → Within 0 rs (length s)
+element-within s c x rs e h =
+    let o : (c.at < x.next.at) × (x.next.at ≤ length s) = rw e at (step-on s c) in
+    let k = step-carried (λ n. n) s c x (omega (arith, o.0, o.1)) e in
+    rw h (within-later (refs_at s c) 0 x.next.at (length s) k.inside (within-sooner (refs_at s c) 0 (c.at + 0) x.next.at (omega arith) k.within))
+
 -- what an element's references say is what the list says of it
 elements-own : (s : List ℕ) (c : ListCursor) (x : Step) (r : ElementReferences) (p : ℕ) → answered x ≡ step_of s c → ((q : ℕ) → said_of_element r q ≡ element_refs x.element q) → p ≡ fields_at s c
     → said_of_element r p ≡ refs_at s c
 elements-own s c x r p e f g = f p ∙ ap (element_refs x.element) g ∙ sym (step-tell s c x (sym e))
 
--- the references of an element that is read stand inside its payload
-pub element-within : (s : List ℕ) (c : ListCursor) (x : Step) (r : ElementReferences) (p : ℕ) → answered x ≡ step_of s c → ((q : ℕ) → said_of_element r q ≡ element_refs x.element q) → p ≡ fields_at s c
+-- so those that the code has of it stand inside the payload
+pub element-inside : (s : List ℕ) (c : ListCursor) (x : Step) (r : ElementReferences) (p : ℕ) → answered x ≡ step_of s c → ((q : ℕ) → said_of_element r q ≡ element_refs x.element q) → p ≡ fields_at s c
     → Within 0 (said_of_element r p) (length s)
-element-within s c x r p e f g =
-    let o : (c.at < x.next.at) × (x.next.at ≤ length s) = rw (← e) at (step-on s c) in
-    let k = step-carried (λ n. n) s c x (omega (arith, o.0, o.1)) (sym e) in
-    rw (elements-own s c x r p e f g) (within-later (refs_at s c) 0 x.next.at (length s) k.inside (within-sooner (refs_at s c) 0 (c.at + 0) x.next.at (omega arith) k.within))
+element-inside s c x r p e f g = element-within s c x (said_of_element r p) (sym e) (elements-own s c x r p e f g)
 
 -- References one after the other --------------------------------------------------------------------------------------------------------
 
@@ -147,10 +152,22 @@ module _ (minimum : ℕ) (j : Job) (n : ℕ) (s : List ℕ) (c : ListCursor) (x 
       go zero = refl
       go (suc k) = rw (← e)
 
-  pub from_more : (k : ℕ) (y : Step) (r : ElementReferences) (p : ℕ) (x' : Held) → k < n → answered y ≡ step_of s c → ((q : ℕ) → said_of_element r q ≡ element_refs y.element q) → p ≡ fields_at s c
-      → x' ≡ done_all minimum j (said_of_element r p) x → done_from minimum j (n - (k + 1)) s y.next x' ≡ done_from minimum j (n - k) s c x
+  pub from_more : (y : Step) (rs : List Ref) (x' : Held) → 0 < n → step_of s c ≡ answered y → rs ≡ refs_at s c → x' ≡ done_all minimum j rs x
+      → done_from minimum j (n - 1) s y.next x' ≡ done_from minimum j n s c x
   unfolding done_from
-  from_more k y r p x' h e f g d = let z : n - k ≡ suc (n - (k + 1)) = omega arith in rw (z, ← e, d, elements-own s c y r p e f g)
+  from_more y rs x' h e r d = go n h
+    where
+      go : (k : ℕ) → 0 < k → done_from minimum j (k - 1) s y.next x' ≡ done_from minimum j k s c x
+      go zero l = absurd (omega arith)
+      go (suc k) l = let z : suc k - 1 ≡ k = omega arith in rw (e, z, d, r)
+
+-- the same by the references that the code has of the element, after k of n steps
+module _ (minimum : ℕ) (j : Job) (n : ℕ) (s : List ℕ) (c : ListCursor) (x : Held) where
+  pub from-element : (k : ℕ) (y : Step) (r : ElementReferences) (p : ℕ) (x' : Held) → k < n → answered y ≡ step_of s c → ((q : ℕ) → said_of_element r q ≡ element_refs y.element q) → p ≡ fields_at s c
+      → x' ≡ done_all minimum j (said_of_element r p) x → done_from minimum j (n - (k + 1)) s y.next x' ≡ done_from minimum j (n - k) s c x
+  from-element k y r p x' h e f g d =
+      let z : n - (k + 1) ≡ n - k - 1 = omega arith in
+      rw z (from_more minimum j (n - k) s c x y (said_of_element r p) x' (omega arith) (sym e) (elements-own s c y r p e f g) d)
 
 -- A payload -----------------------------------------------------------------------------------------------------------------------------
 
@@ -159,15 +176,25 @@ module _ (minimum : ℕ) (j : Job) (s : List ℕ) (x : Held) where
   unfolding done_of
   of-refused n d e = rw (← e)
 
+  module _ (vs : List Shown) (rs : List Ref) (own : Held) (reads : record_of type_leaves s ≡ answered vs) (are : rs ≡ refs_by type_leaves vs 2) (did : own ≡ done_all minimum j rs x) where
+    pub of-own : (n : ℕ) (d : List ℕ) → start_types s ≡ refused n d → own ≡ done_of minimum j s x
+    unfolding done_of
+    of-own n d e = rw (reads, e, ← are) did
+
+    pub of-list : (c : ListCursor) (x' : Held) → start_types s ≡ answered c → x' ≡ done_from minimum j (length s) s c own → x' ≡ done_of minimum j s x
+    unfolding done_of
+    of-list c x' e f = rw (reads, e, ← are, ← did) f
+
+  -- the same of a record as the code has it, and of its own references in their four places
   module _ (t : TypeData) (rs : List (List Ref)) (own : Held) (reads : answered (type_values t) ≡ record_of type_leaves s) (are : rs ≡ slots 4 (slots_by type_leaves (type_values t) 2))
       (did : own ≡ done_all minimum j (joined rs) x) where
-    own-did : own ≡ done_all minimum j (refs_by type_leaves (type_values t) 2) x
-    own-did = did ∙ ap (λ l. done_all minimum j l x) (ap joined are ∙ own-joined t)
+    own-refs : joined rs ≡ refs_by type_leaves (type_values t) 2
+    own-refs = ap joined are ∙ own-joined t
 
-    pub of-own : (n : ℕ) (d : List ℕ) → refused n d ≡ start_of stream.Types s → own ≡ done_of minimum j s x
-    unfolding done_of start_of
-    of-own n d e = rw (← reads, ← e) own-did
+    pub data-own : (n : ℕ) (d : List ℕ) → refused n d ≡ start_of stream.Types s → own ≡ done_of minimum j s x
+    unfolding start_of
+    data-own n d e = of-own (type_values t) (joined rs) own (sym reads) own-refs did n d (sym e)
 
-    pub of-list : (c : ListCursor) (x' : Held) → answered c ≡ start_of stream.Types s → x' ≡ done_from minimum j (length s) s c own → x' ≡ done_of minimum j s x
-    unfolding done_of start_of
-    of-list c x' e f = rw (← reads, ← e, ← own-did) f
+    pub data-list : (c : ListCursor) (x' : Held) → answered c ≡ start_of stream.Types s → x' ≡ done_from minimum j (length s) s c own → x' ≡ done_of minimum j s x
+    unfolding start_of
+    data-list c x' e f = of-list (type_values t) (joined rs) own (sym reads) own-refs did c x' (sym e) f

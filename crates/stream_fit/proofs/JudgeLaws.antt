@@ -4,7 +4,7 @@ use Rattle.stream_fit.specs.declared.Rule.TheVariants as rule
 use Rattle.std.specs.Prelude.{Option, None, Some}
 use Prim.Native.Nat.{ℕ, zero, suc, ◌+◌, ◌-◌, ◌<◌}
 use native.Mathlib.Omega.{arith}
-use mathlib.Core.Path.{◌≡◌, refl}
+use mathlib.Core.Path.{◌≡◌, refl, sym}
 use mathlib.Core.List.{List}
 use borrow.Author.Tests.{eq-eqb, ne_eqb}
 use Rattle.answer.specs.Answer.{answered, refused}
@@ -21,6 +21,9 @@ as-rule rule.Decode = refl
 as-rule rule.Order = refl
 as-rule rule.Primitive = refl
 as-rule rule.Gap = refl
+
+broken : (r : Rule) → rule_number r ≡ 6 → ⊥
+broken r h = let z : ◌≡◌ {A = Option ℕ} None (Some 6) = rw h at (as-rule r) in cc
 
 -- n steps are left
 module _ (s : List ℕ) (minimum maximum : ℕ) (c : ItemIter) where
@@ -39,11 +42,16 @@ module _ (s : List ℕ) (minimum maximum : ℕ) (c : ItemIter) where
   judged-count zero l e h = absurd (omega arith)
   judged-count (suc n) l e h = rw (← e, ne_eqb _ _ h)
 
-  module _ (i : Item) (d : ItemIter) (o : Option Rule) (e : answered (yielded i d) ≡ next_of s c) (w : rule_or_6 o ≡ worst_of minimum c.index (payload_of s i)) where
-    pub judged-broken : (n : ℕ) (r : Rule) → 0 < n → o ≡ Some r → unfit c.index (rule_number r) ≡ judged n s minimum maximum c
+  module _ (i : Item) (d : ItemIter) (e : next_of s c ≡ answered (yielded i d)) (number : ℕ) (w : number ≡ worst_of minimum c.index (payload_of s i)) where
+    pub judged-broken : (n : ℕ) → (number ≡ 6 → ⊥) → judged (suc n) s minimum maximum c ≡ unfit c.index number
     unfolding judged
-    judged-broken zero r l h = absurd (omega arith)
-    judged-broken (suc n) r l h = rw (← e, rule-is minimum c.index (payload_of s i), ← w, h, as-rule r)
+    judged-broken n h = rw (e, rule-is minimum c.index (payload_of s i), ← w, ne_eqb _ _ h)
+
+  -- by the rule that the code has
+  module _ (i : Item) (d : ItemIter) (o : Option Rule) (e : answered (yielded i d) ≡ next_of s c) (w : rule_or_6 o ≡ worst_of minimum c.index (payload_of s i)) where
+    pub judged-rule : (n : ℕ) (r : Rule) → 0 < n → o ≡ Some r → unfit c.index (rule_number r) ≡ judged n s minimum maximum c
+    judged-rule zero r l h = absurd (omega arith)
+    judged-rule (suc n) r l h = sym (judged-broken i d (sym e) (rule_number r) (rw h at w) n (broken r))
 
     pub judged-on : (n k : ℕ) → k < n → o ≡ None → judged (n - (k + 1)) s minimum maximum d ≡ judged (n - k) s minimum maximum c
     unfolding judged

@@ -1,7 +1,7 @@
 -- What the proofs of this crate cite, by one name. Assumes nothing.
 use Rattle.answer.proofs.Told.{told}
 use Rattle.stream_fit.proofs.FaultLaws.{first-only, in-the-gap, lesser-new, lesser-old, no-fault, out_of_order, primitive-high, primitive-low, second-none}
-use Rattle.stream_fit.proofs.JudgeLaws.{judged-broken, judged-count, judged-on, judged-short, judged-stopped, judged-yes}
-use Rattle.stream_fit.proofs.WorstLaws.{from-none, from-refused, from_end, from_more, of-list, of-own, of-refused, worst-four}
+use Rattle.stream_fit.proofs.JudgeLaws.{judged-count, judged-on, judged-rule, judged-short, judged-stopped, judged-yes}
+use Rattle.stream_fit.proofs.WorstLaws.{data-list, data-own, from-element, from-none, from-refused, from_end, of-refused, worst-four}
 
-pub ruleset laws = (first-only, from-none, from-refused, from_end, from_more, in-the-gap, judged-broken, judged-count, judged-on, judged-short, judged-stopped, judged-yes, lesser-new, lesser-old, no-fault, of-list, of-own, of-refused, out_of_order, primitive-high, primitive-low, second-none, told, worst-four)
+pub ruleset laws = (data-list, data-own, first-only, from-element, from-none, from-refused, from_end, in-the-gap, judged-count, judged-on, judged-rule, judged-short, judged-stopped, judged-yes, lesser-new, lesser-old, no-fault, of-refused, out_of_order, primitive-high, primitive-low, second-none, told, worst-four)

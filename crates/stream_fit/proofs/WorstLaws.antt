@@ -14,6 +14,7 @@ use Rattle.record_data.specs.declared.TypeData.{TypeData}
 use Rattle.record_reference.specs.Said.{said_of_element}
 use Rattle.record_reference.specs.declared.ElementReferences.{ElementReferences}
 use Rattle.record_reference.proofs.OwnLaws.{own-joined}
+use Rattle.record_layout.specs.Fields.{Shown}
 use Rattle.record_layout.specs.Layouts.{type_leaves, record_of}
 use Rattle.record_list.specs.declared.ListCursor.{ListCursor}
 use Rattle.record_list.specs.Lists.{Step, start_types, start_of, step_of}
@@ -103,20 +104,25 @@ module _ (minimum index : ℕ) where
     unfolding worst_from refs_from worst
     from-none w n c h = rw h
 
-    pub from_more : (w v n k : ℕ) (c : ListCursor) (x : Step) (r : ElementReferences) → k < n → answered x ≡ step_of s c → ((p : ℕ) → said_of_element r p ≡ element_refs x.element p)
-        → ((p : ℕ) → v ≡ worst minimum index w (said_of_element r p)) → worst_from minimum index v (n - (k + 1)) s x.next ≡ worst_from minimum index w (n - k) s c
+    pub from_more : (w v n : ℕ) (c : ListCursor) (x : Step) → 0 < n → step_of s c ≡ answered x → ((p : ℕ) → v ≡ worst minimum index w (element_refs x.element p))
+        → worst_from minimum index w n s c ≡ worst_from minimum index v (n - 1) s x.next
     unfolding worst_from refs_from
-    from_more w v n k c x r h e f g = let z : n - k ≡ suc (n - (k + 1)) = omega arith in rw (z, ← e) (sym (go (refs_from (n - (k + 1)) s x.next)))
+    from_more w v zero c x h e f = absurd (omega arith)
+    from_more w v (suc n) c x h e f = let g : suc n - 1 ≡ n = omega arith in rw (g, e) (go (refs_from n s x.next))
       where
-        p : ℕ
-        p = fields_at s c
-
         own : v ≡ worst minimum index w (refs_at s c)
-        own = g p ∙ ap (worst minimum index w) (f p ∙ sym (step-tell s c x (sym e)))
+        own = f (fields_at s c) ∙ ap (worst minimum index w) (sym (step-tell s c x e))
 
         go : (a : Answer (List Ref)) → worst_in minimum index w (then a (λ rs. answered (refs_at s c ++ rs))) ≡ worst_in minimum index v a
         go (answered rs) = worst-both w (refs_at s c) rs ∙ ap (λ u. worst minimum index u rs) (sym own)
         go (refused m d) = refl
+
+    -- the same by the references that the code has of the element, after k of n steps
+    pub from-element : (w v n k : ℕ) (c : ListCursor) (x : Step) (r : ElementReferences) → k < n → answered x ≡ step_of s c → ((p : ℕ) → said_of_element r p ≡ element_refs x.element p)
+        → ((p : ℕ) → v ≡ worst minimum index w (said_of_element r p)) → worst_from minimum index v (n - (k + 1)) s x.next ≡ worst_from minimum index w (n - k) s c
+    from-element w v n k c x r h e f g =
+        let z : n - (k + 1) ≡ n - k - 1 = omega arith in
+        rw z (sym (from_more w v (n - k) c x (omega arith) (sym e) (λ p. g p ∙ ap (worst minimum index w) (f p))))
 
     pub from_end : (w n m : ℕ) (d : List ℕ) (c : ListCursor) → 0 < n → refused m d ≡ step_of s c → m ≡ 15 → w ≡ worst_from minimum index w n s c
     unfolding worst_from refs_from worst
@@ -133,21 +139,35 @@ module _ (minimum index : ℕ) where
     unfolding worst_of
     of-refused n d e = rw (payload-tell s, ← e)
 
+    of-read : (vs : List Shown) (w : ℕ) → record_of type_leaves s ≡ answered vs → w ≡ worst minimum index 6 (refs_by type_leaves vs 2)
+        → worst_of minimum index s ≡ worst_in minimum index w (refs_list s (start_types s))
+    unfolding worst_of
+    of-read vs w e f = rw (payload-tell s, e) (go (refs_list s (start_types s)))
+      where
+        go : (a : Answer (List Ref)) → worst_in minimum index 6 (then a (λ rs. answered (refs_by type_leaves vs 2 ++ rs))) ≡ worst_in minimum index w a
+        go (answered rs) = worst-both 6 (refs_by type_leaves vs 2) rs ∙ ap (λ u. worst minimum index u rs) (sym f)
+        go (refused n d) = refl
+
+    pub of-list : (vs : List Shown) (w : ℕ) (c : ListCursor) (r : ℕ) → record_of type_leaves s ≡ answered vs → w ≡ worst minimum index 6 (refs_by type_leaves vs 2)
+        → start_types s ≡ answered c → r ≡ worst_from minimum index w (length s) s c → r ≡ worst_of minimum index s
+    unfolding worst_from
+    of-list vs w c r e f g h = rw (of-read vs w e f, g) h
+
+    pub of-own : (vs : List Shown) (w n : ℕ) (d : List ℕ) → record_of type_leaves s ≡ answered vs → w ≡ worst minimum index 6 (refs_by type_leaves vs 2) → start_types s ≡ refused n d
+        → worst_of minimum index s ≡ w
+    unfolding worst
+    of-own vs w n d e f g = of-read vs w e f ∙ rw g
+
+    -- the same of a record as the code has it, and of its own references in their four places
     module _ (t : TypeData) (rs : List (List Ref)) (w : ℕ) (e : answered (type_values t) ≡ record_of type_leaves s) (f : rs ≡ slots 4 (slots_by type_leaves (type_values t) 2))
         (g : w ≡ worst minimum index 6 (joined rs)) where
-      of-read : worst_of minimum index s ≡ worst_in minimum index w (refs_list s (start_types s))
-      unfolding worst_of
-      of-read = rw (payload-tell s, ← e) (go (refs_list s (start_types s)))
-        where
-          go : (a : Answer (List Ref)) → worst_in minimum index 6 (then a (λ us. answered (refs_by type_leaves (type_values t) 2 ++ us))) ≡ worst_in minimum index w a
-          go (answered us) =
-              worst-both 6 (refs_by type_leaves (type_values t) 2) us ∙ ap (λ u. worst minimum index u us) (sym (g ∙ ap (λ l. worst minimum index 6 (joined l)) f ∙ ap (worst minimum index 6) (own-joined t)))
-          go (refused n d) = refl
+      own-least : w ≡ worst minimum index 6 (refs_by type_leaves (type_values t) 2)
+      own-least = g ∙ ap (λ l. worst minimum index 6 (joined l)) f ∙ ap (worst minimum index 6) (own-joined t)
 
-      pub of-list : (c : ListCursor) (r : ℕ) → answered c ≡ start_of stream.Types s → r ≡ worst_from minimum index w (length s) s c → r ≡ worst_of minimum index s
-      unfolding worst_from start_of
-      of-list c r h k = rw (of-read, ← h) k
+      pub data-list : (c : ListCursor) (r : ℕ) → answered c ≡ start_of stream.Types s → r ≡ worst_from minimum index w (length s) s c → r ≡ worst_of minimum index s
+      unfolding start_of
+      data-list c r h k = of-list (type_values t) w c r (sym e) own-least (sym h) k
 
-      pub of-own : (n : ℕ) (d : List ℕ) → refused n d ≡ start_of stream.Types s → w ≡ worst_of minimum index s
-      unfolding worst start_of
-      of-own n d h = rw (of-read, ← h)
+      pub data-own : (n : ℕ) (d : List ℕ) → refused n d ≡ start_of stream.Types s → w ≡ worst_of minimum index s
+      unfolding start_of
+      data-own n d h = sym (of-own (type_values t) w n d (sym e) own-least (sym h))

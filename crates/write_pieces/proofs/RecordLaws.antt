@@ -119,14 +119,18 @@ module _ (b : Encoded) (s : List ℕ) (p : ℕ) where
     unfolding lay limited
     limited-laid r s' h k w = rw (e, le-ltb _ _ h, le-ltb _ _ k) (record { answer = ap answered w.next; left = w.left })
 
+-- a refusal stays one where pad bytes fill what is not refused
+pub filled-bad : (b : Encoded) (s : List ℕ) (p n : ℕ) (d : List ℕ) → b ≡ refused n d → Writes s (lay (limited (filled_each b)) s p) (refused n d) s
+unfolding filled_each
+filled-bad b s p n d e = limited-bad (filled_each b) s p n d (rw e)
+
 -- pieces that were refused, as they are and filled by pad bytes
 module _ (t : List ℕ) (xs : List Piece) (s : List ℕ) (p n : ℕ) (d : List ℕ) (e : refused n d ≡ then (pieces_of t xs) (λ bs. answered (min (length bs) 65536))) (r : Answer ℕ) (f : r ≡ refused n d) where
   pub plain-bad : Writes s (lay (limited (pieces_of t xs)) s p) r s
   plain-bad = rw f (limited-bad (pieces_of t xs) s p n d (measured-bad t xs n d e))
 
-  pub filled-bad : Writes s (lay (limited (filled_each (pieces_of t xs))) s p) r s
-  unfolding filled_each
-  filled-bad = rw f (limited-bad (filled_each (pieces_of t xs)) s p n d (rw (measured-bad t xs n d e)))
+  pub filled-refused : Writes s (lay (limited (filled_each (pieces_of t xs))) s p) r s
+  filled-refused = rw f (filled-bad (pieces_of t xs) s p n d (measured-bad t xs n d e))
 
 -- pieces as they are, that were measured as n
 module _ (t : List ℕ) (xs : List Piece) (s : List ℕ) (p n : ℕ) (z : Sized t xs n) where

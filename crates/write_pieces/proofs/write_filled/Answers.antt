@@ -1,11 +1,11 @@
 -- `write_pieces::write_filled` meets its contract: 17, 18 and 19 are decided before the first write. Assumes nothing.
 use native.Mathlib.Omega.{arith}
 use Rattle.std.proofs.Common.{rules}
-use Rattle.write_pieces.proofs.RecordLaws.{measured-size, filled-bad, filled-over, filled-small, filled-roomy, filled-done}
+use Rattle.write_pieces.proofs.RecordLaws.{measured-size, filled-refused, filled-over, filled-small, filled-roomy, filled-done}
 use Rattle.write_pieces.proofs.write_filled.Goals as goal
 
 pub returns-in_err-n : goal.returns-in_err-n
-returns-in_err-n c = filled-bad _ _ _ _ _ _ c.in_err-n.ensures _ (search rules)
+returns-in_err-n c = filled-refused _ _ _ _ _ _ c.in_err-n.ensures _ (search rules)
 
 pub returns-then-length-gt65535 : goal.returns-then-length-gt65535
 returns-then-length-gt65535 c = filled-over _ _ _ _ _ _ (measured-size _ _ _ c.in_ok-n.ensures) c.pad_count-pad.ensures.0 c.if-length-gt65535.true

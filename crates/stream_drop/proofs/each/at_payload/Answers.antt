@@ -1,9 +1,9 @@
 -- `stream_drop::each::at_payload` meets its contract: its own references and then its list's. Assumes nothing.
-use Rattle.stream_drop.proofs.EachLaws.{of-own, of-list}
+use Rattle.stream_drop.proofs.EachLaws.{data-list, data-own}
 use Rattle.stream_drop.proofs.each.at_payload.Goals as goal
 
 pub returns-in-Ok-start : goal.returns-in-Ok-start
-returns-in-Ok-start c = of-list _ _ _ _ _ _ _ c.in-Ok.ensures c.record_references-references.ensures c.at_references-own.ensures _ _ c.in-Ok-start.ensures c.at_elements.ensures
+returns-in-Ok-start c = data-list _ _ _ _ _ _ _ c.in-Ok.ensures c.record_references-references.ensures c.at_references-own.ensures _ _ c.in-Ok-start.ensures c.at_elements.ensures
 
 pub returns-in-Err : goal.returns-in-Err
-returns-in-Err c = of-own _ _ _ _ _ _ _ c.in-Ok.ensures c.record_references-references.ensures c.at_references-own.ensures _ _ c.in-Err.ensures
+returns-in-Err c = data-own _ _ _ _ _ _ _ c.in-Ok.ensures c.record_references-references.ensures c.at_references-own.ensures _ _ c.in-Err.ensures
