@@ -1,5 +1,5 @@
 // The house spellings of R-5 of document 02, each a table: indirections, modes of pointers, qualifiers; those of the kinds are in kind.rt.
-// Beside them the qualifiers, which a declaration is spelled from and for which no lookup is needed.
+// Beside them `Quals`, the qualifiers that a declaration is spelled from, for which no lookup is needed.
 // specs/Spellings.antt has all of them as definitions, specs/Spelled.antt how a text stands in its 40 bytes.
 #![tactic(auto, using(crate::proofs::Used::laws), unfolding(crate::specs::Spelled::spaces, crate::specs::Spellings::indirection_text, crate::specs::Spellings::kind_text, crate::specs::Spellings::mode_text, crate::specs::Spellings::words_of))]
 

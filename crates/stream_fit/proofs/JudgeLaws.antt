@@ -63,3 +63,7 @@ module _ (s : List ℕ) (minimum maximum : ℕ) (c : ItemIter) where
   pub judged-short : (n : ℕ) → n ≡ 0 → unfit 0 1 ≡ judged n s minimum maximum c
   unfolding judged
   judged-short n h = rw h
+
+pub one_less : (s : List ℕ) (minimum maximum n : ℕ) (c : ItemIter) → (n ≡ 0 → ⊥) → judged n s minimum maximum c ≡ judged (suc (n - 1)) s minimum maximum c
+one_less s minimum maximum zero c h = absurd (h refl)
+one_less s minimum maximum (suc n) c h = let e : suc n - 1 ≡ n = omega arith in rw e

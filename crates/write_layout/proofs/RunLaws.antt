@@ -46,10 +46,31 @@ module _ (s : List ℕ) (p : ℕ) where
       let e : suc n - 1 ≡ n = omega arith in
       rw (part-cons t q n (omega arith), e)
 
+  pub zero_turn : (n : ℕ) → 0 < n → put s p (zeros n) ≡ put (set s p 0) (p + 1) (zeros (n - 1))
+  unfolding put zeros
+  zero_turn zero h = absurd (omega arith)
+  zero_turn (suc n) h = let e : suc n - 1 ≡ n = omega arith in rw e
+
   pub pad-turn : (n : ℕ) → 0 < n → put s p (pads n) ≡ put (set s p (240 + n)) (p + 1) (pads (n - 1))
   unfolding put pads
   pad-turn zero h = absurd (omega arith)
   pad-turn (suc n) h = let e : suc n - 1 ≡ n = omega arith in rw e
+
+passed : (b : ℕ) (bs : List ℕ) → (b ≡ 0 → ⊥) → no_zero (b ∷ bs) ≡ no_zero bs
+unfolding no_zero
+passed zero bs h = absurd (h refl)
+passed (suc b) bs h = refl
+
+pub look-turn : (t : List ℕ) (q n : ℕ) → 0 < n → q + n ≤ length t → (get_or t q 0 ≡ 0 → ⊥) → no_zero (part_at t q n) ≡ no_zero (part_at t (q + 1) (n - 1))
+look-turn t q zero h k z = absurd (omega arith)
+look-turn t q (suc n) h k z =
+    let e : suc n - 1 ≡ n = omega arith in
+    rw (part-cons t q n (omega arith), e) (passed (get_or t q 0) (part_at t (q + 1) n) z)
+
+pub look-found : (t : List ℕ) (q n : ℕ) → 0 < n → q + n ≤ length t → get_or t q 0 ≡ 0 → false ≡ no_zero (part_at t q n)
+unfolding no_zero
+look-found t q zero h k z = absurd (omega arith)
+look-found t q (suc n) h k z = rw (part-cons t q n (omega arith), z)
 
 -- bytes that were copied into a part of a buffer, and a part that was filled
 pub mid-put : (s : List ℕ) (p k : ℕ) (bs : List ℕ) → length bs ≡ k → p + k ≤ length s → put_mid p k s bs ≡ put s p bs
