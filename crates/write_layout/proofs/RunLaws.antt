@@ -1,4 +1,4 @@
--- Laws of runs of bytes: their lengths, a turn of each loop that writes one, and what the code that fills or looks at one has done. Assumes nothing.
+-- Laws of runs of bytes: their lengths, a turn of a loop that writes or looks at one, and what the code that fills or looks at one has done. Assumes nothing.
 use Prim.Native.Nat.{ℕ, zero, suc, ◌+◌, ◌-◌, ◌≤◌, ◌<◌}
 use native.Mathlib.Omega.{arith}
 use native.Mathlib.Numerals.{add-one}
